@@ -1,0 +1,14 @@
+-- The numbers under which faults are told to users.
+use Rattle.std.specs.Prelude.{ℕ}
+use Rattle.gb_action.specs.declared.reply.ActionFault.{ActionFault}
+use Rattle.gb_action.specs.declared.reply.ActionFault.TheVariants as actions
+use Rattle.gb_action.specs.declared.table.TableFault.{TableFault}
+use Rattle.gb_action.specs.declared.table.TableFault.TheVariants as tables
+
+abbrev pub action_fault_number : ActionFault → ℕ
+action_fault_number actions.OutOfMemory = 3
+action_fault_number (actions.ActionFailed text) = 42
+
+abbrev pub table_fault_number : TableFault → ℕ
+table_fault_number tables.DuplicateAction = 41
+table_fault_number tables.OutOfMemory = 3

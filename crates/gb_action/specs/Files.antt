@@ -1,0 +1,25 @@
+-- Files by path, and trees by the name of a property: lists of entries, in which the first of a key counts.
+use Rattle.std.specs.Prelude.{ℕ, List, [], Option, unwrap_or}
+use Rattle.std.specs.declared.cmp.Ordering.{Ordering}
+use Rattle.std.specs.Ordering.{nat_cmp}
+use Rattle.std.specs.Cmp.Lexicographic.{slice_cmp}
+use Rattle.std.specs.FinMap.Entries.{find}
+
+abbrev pub byte_order : List ℕ → List ℕ → Ordering
+byte_order = slice_cmp nat_cmp
+
+-- files by relative path, strictly in the order of the paths
+abbrev pub Tree : Type 0
+Tree = List (List ℕ × List ℕ)
+
+-- trees by the names of their properties
+abbrev pub Trees : Type 0
+Trees = List (List ℕ × Tree)
+
+-- the bytes of the file at a path
+abbrev pub file_at : Tree → List ℕ → Option (List ℕ)
+file_at tree path = find byte_order path tree
+
+-- the tree of a property, which is empty where there is no such property
+abbrev pub tree_at : Trees → List ℕ → Tree
+tree_at trees name = unwrap_or (find byte_order name trees) []

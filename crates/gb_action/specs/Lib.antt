@@ -1,0 +1,9 @@
+pub mod Files
+pub mod Changes
+pub mod Outputs
+pub mod Shapes
+pub mod Meanings
+pub mod Replies
+pub mod Props
+pub mod Faults
+pub mod Laws

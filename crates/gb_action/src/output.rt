@@ -1,0 +1,102 @@
+//! The outputs of a task as an action sees them.
+ghost use Rattle.std.specs.Prelude.{◌≡◌, [], ◌∷◌, ◌++◌, OnOk, OnErr};
+ghost use Rattle.std.specs.Option.{option_copied};
+ghost use Rattle.gb_action.specs.Shapes.{is_form};
+
+use crate::files::Files;
+use gb_core::bytes::Bytes;
+use gb_core::name::Name;
+use gb_core::place::RelPath;
+use std::alloc::{AllocError, Global};
+use std::marker::Model;
+
+/// Whether an output is one file or all files beneath a place.
+#[derive(Clone, Copy, Debug, PartialEq, Eq)]
+pub enum Form {
+    File,
+    Dir,
+}
+
+impl Form {
+    /// Whether the two are the same.
+    pub fn is(self, other: Form) -> bool
+        ensures { result ≡ is_form self other }
+    {
+        matches!(
+            (self, other),
+            (Form::File, Form::File) | (Form::Dir, Form::Dir)
+        )
+    }
+}
+
+/// An output with the files that stand there, by their paths from its place. The files are
+/// contents in an incremental request only; in a full one there are none.
+#[derive(Debug, Drop)]
+pub struct OutputFiles {
+    pub name: Name,
+    pub form: Form,
+    pub files: Files,
+}
+
+/// The outputs of a task, in the order of their names.
+#[derive(Debug, Drop)]
+pub struct OutputSnapshots {
+    outputs: Vec<OutputFiles>,
+}
+
+impl Model for OutputSnapshots {
+    ghost use Rattle.std.specs.Prelude.{List};
+    ghost use Rattle.gb_action.specs.declared.output.OutputFiles.{OutputFiles};
+
+    ghost Value = { List OutputFiles };
+
+    ghost view = { λ o. o.outputs.items };
+}
+
+impl OutputSnapshots {
+    ghost use Rattle.gb_action.specs.Outputs.{files_of, stands_at};
+
+    /// No output yet.
+    pub fn new(alloc: Global) -> OutputSnapshots
+        ensures { result ≡ [] }
+    {
+        OutputSnapshots {
+            outputs: Vec::new(alloc),
+        }
+    }
+
+    /// Puts an output behind the others.
+    pub fn push(&mut self, output: OutputFiles) -> Result<(), AllocError>
+        ensures ok { OnOk result (self.new ≡ self.old ++ output ∷ []) }
+        ensures err { OnErr result (self.new ≡ self.old) }
+    {
+        self.outputs.push(output)?;
+        Ok(())
+    }
+
+    /// The files of the first output of the name.
+    pub fn get(&self, name: &Name) -> Option<&Files>
+        ensures { option_copied result ≡ files_of self.now name.now }
+    {
+        for output in self.outputs.iter() {
+            if output.name == *name {
+                return Some(&output.files);
+            }
+        }
+        None
+    }
+
+    /// The bytes at a path of an output.
+    pub fn file_at(&self, output: &Name, path: &RelPath) -> Option<&Bytes>
+        ensures { option_copied result ≡ stands_at self.now output.now path.now }
+    {
+        let files = self.get(output)?;
+        files.get(path)
+    }
+
+    pub fn as_slice(&self) -> &[OutputFiles]
+        ensures { result.now ≡ self.now }
+    {
+        self.outputs.as_slice()
+    }
+}

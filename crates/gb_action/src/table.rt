@@ -1,0 +1,120 @@
+//! The actions of a build by name.
+ghost use Rattle.std.specs.Prelude.{◌≡◌, [], ◌∷◌, ◌++◌, ◌↔◌, None, Some, MatchResult, OnOk, OnErr, IsErrOf, IsSome};
+ghost use Rattle.std.specs.FinMap.Entries.{find};
+ghost use Rattle.gb_action.specs.Files.{byte_order};
+
+use gb_core::name::Name;
+use indexmap::IndexMap;
+use std::alloc::{AllocError, AllocFailed, Global};
+use std::marker::Model;
+use thiserror::Error;
+
+/// Why an action was not added.
+#[derive(Clone, Copy, Debug, PartialEq, Eq, Error)]
+pub enum TableFault {
+    /// The name is taken.
+    #[error("duplicate action")]
+    DuplicateAction,
+    #[error("out of memory")]
+    OutOfMemory,
+}
+
+impl TableFault {
+    ghost use Rattle.gb_action.specs.Faults.{table_fault_number};
+
+    /// The number under which the fault is told to users.
+    pub fn number(self) -> u16
+        ensures { result ≡ table_fault_number self }
+    {
+        match self {
+            TableFault::DuplicateAction => 41,
+            TableFault::OutOfMemory => 3,
+        }
+    }
+}
+
+impl From<AllocError> for TableFault {
+    ghost use Rattle.gb_action.specs.declared.table.TableFault.TheVariants.{OutOfMemory};
+
+    ghost from_gives = { λ _ fault. fault ≡ OutOfMemory };
+
+    fn from(_error: AllocError) -> TableFault {
+        TableFault::OutOfMemory
+    }
+}
+
+impl<T: Drop> From<AllocFailed<T>> for TableFault {
+    ghost use Rattle.gb_action.specs.declared.table.TableFault.TheVariants.{OutOfMemory};
+
+    ghost from_gives = { λ _ fault. fault ≡ OutOfMemory };
+
+    fn from(_failed: AllocFailed<T>) -> TableFault {
+        TableFault::OutOfMemory
+    }
+}
+
+/// No action has the name.
+#[derive(Clone, Copy, Debug, PartialEq, Eq, Error)]
+#[error("unknown action")]
+pub struct UnknownAction;
+
+impl UnknownAction {
+    /// The number under which the fault is told to users.
+    pub fn number(self) -> u16
+        ensures { result ≡ 40 }
+    {
+        40
+    }
+}
+
+/// Stored actions by name, as they were added.
+#[derive(Drop)]
+pub struct ActionTable<S> {
+    alloc: Global,
+    entries: IndexMap<String, S>,
+}
+
+impl<S> Model for ActionTable<S> {
+    ghost use Rattle.std.specs.Prelude.{List, ℕ, map, string_bytes};
+
+    ghost Value = { List (List ℕ × S) };
+
+    ghost view = { λ t. map (λ e. (string_bytes e.0, e.1)) t.entries.entries };
+}
+
+impl<S: Drop> ActionTable<S> {
+    /// No action yet.
+    pub fn new(alloc: Global) -> ActionTable<S>
+        ensures { result ≡ [] }
+    {
+        ActionTable {
+            alloc,
+            entries: IndexMap::new(alloc),
+        }
+    }
+
+    /// Adds an action under a name that no other has.
+    pub fn add(&mut self, name: &Name, stored: S) -> Result<(), TableFault>
+        ensures ok { OnOk result (self.new ≡ self.old ++ (name.now, stored) ∷ []) }
+        ensures absent { OnOk result (find byte_order name.now self.old ≡ None) }
+        ensures duplicate { IsErrOf result TableFault.DuplicateAction ↔ IsSome (find byte_order name.now self.old) }
+        ensures err { OnErr result (self.new ≡ self.old) }
+    {
+        if self.entries.contains_key(name.as_str()) {
+            return Err(TableFault::DuplicateAction);
+        }
+        let key = name.as_str().to_string(self.alloc)?;
+        self.entries.insert(key, stored)?;
+        Ok(())
+    }
+
+    /// The action of the name. Takes no memory.
+    pub fn find(&self, name: &str) -> Result<&S, UnknownAction>
+        ensures { MatchResult result (λ stored. find byte_order name.now self.now ≡ Some stored.now) (λ _. find byte_order name.now self.now ≡ None) }
+    {
+        match self.entries.get(name) {
+            Some(stored) => Ok(stored),
+            None => Err(UnknownAction),
+        }
+    }
+}

@@ -1,0 +1,4 @@
+pub mod Beneath
+pub mod BySegments
+pub mod LastColon
+pub mod TaskPaths

@@ -1,0 +1,5 @@
+pub mod Faults
+pub mod Name
+pub mod Place
+pub mod Path
+pub mod Laws

@@ -1,0 +1,32 @@
+//! Values of the notation.
+ghost use Rattle.std.specs.Prelude.{◌≡◌, IfOk};
+
+use crate::path::TaskPath;
+use crate::place::Place;
+use crate::text::{Text, Texts};
+use std::alloc::{AllocError, Global};
+
+/// What an input, an output or an argument holds.
+#[derive(Debug, Drop)]
+pub enum Value {
+    Text(Text),
+    Flag(bool),
+    List(Texts),
+    Place(Place),
+    Task(TaskPath),
+}
+
+impl Value {
+    /// An equal value.
+    pub fn copy(&self, alloc: Global) -> Result<Value, AllocError>
+        ensures { IfOk result (λ copied. copied ≡ self.now) }
+    {
+        match self {
+            Value::Text(text) => Ok(Value::Text(text.copy()?)),
+            Value::Flag(flag) => Ok(Value::Flag(*flag)),
+            Value::List(texts) => Ok(Value::List(texts.copy(alloc)?)),
+            Value::Place(place) => Ok(Value::Place(place.copy()?)),
+            Value::Task(task) => Ok(Value::Task(task.copy()?)),
+        }
+    }
+}

@@ -1,0 +1,7 @@
+pub mod Beneath
+pub mod Held
+pub mod Above
+pub mod Listed
+pub mod Sound
+pub mod Changes
+pub mod Rows

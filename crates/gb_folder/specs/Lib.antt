@@ -1,0 +1,4 @@
+pub mod Files
+pub mod FileTree
+pub mod Faults
+pub mod Memory

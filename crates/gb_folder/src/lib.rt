@@ -1,0 +1,15 @@
+//! The only way in which the build reaches files.
+//!
+//! [`Folder`](folder::Folder) is five calls over places. Code over a folder is proved once, for
+//! every type of folder: where folders of the type tell what they hold, each answer is exact, and
+//! elsewhere, as on a disk, only what holds whatever a device does is promised.
+//! [`MemoryFolder`](memory::MemoryFolder) tells; `proofs/Changes.antt` has lemmas for callers.
+//!
+//! Set aside: handles, streams, folders as things of their own, permissions and times. A folder
+//! exists where a file stands beneath it, and a large file is read in parts.
+#![tactic(auto)]
+
+pub mod folder;
+pub mod memory;
+#[cfg(test)]
+mod tests;

@@ -1,0 +1,14 @@
+//! The kinds of actions that every build has, and the closures that stand for them.
+//!
+//! `Builtin` says what each number of a kind means. For each kind there is one plain function,
+//! whose contract is that meaning, and its shape. A program boxes the functions and hands them to
+//! `builtin_table`: no function here can make the boxes, since what is known of a boxed closure
+//! would then hang on that function's body.
+#![tactic(auto)]
+
+pub mod builtin;
+pub mod shapes;
+pub mod table;
+#[cfg(test)]
+mod tests;
+pub mod texts;

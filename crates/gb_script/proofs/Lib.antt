@@ -1,0 +1,16 @@
+pub mod Runs
+pub mod Contents
+pub mod Scans
+pub mod Loop
+pub mod Readers
+pub mod Singles
+pub mod Opens
+pub mod Maybe
+pub mod Many
+pub mod Lists
+pub mod Whole
+pub mod Verdicts
+pub mod Parts
+pub mod Cuts
+pub mod Pieces
+pub mod Sources

@@ -1,0 +1,33 @@
+use Rattle.std.proofs.Common.{◌≡◌, ◌+◌, ◌-◌, ◌<◌, suc, true, length, arith, sym, ◌∙◌}
+use Rattle.std.proofs.lemmas.Result.{err_from_is_err_and}
+use Rattle.gb_script.specs.Lexing.{begins}
+use Rattle.gb_script.specs.Reading.{in_block, with_output, clause_at}
+use Rattle.gb_script.proofs.Loop.{goes_on, ends, is_done, begins_some, one_longer}
+use Rattle.gb_script.proofs.reading.clauses.Goals as goal
+
+pub returns-in_err-clause-clause-exact : goal.returns-in_err-clause-clause-exact
+returns-in_err-clause-clause-exact c =
+    let p = err_from_is_err_and c.from_residual.result c.from_residual.ensures.1 in
+    let begun : begins in_block c.clauses.rest.now ≡ true = sym c.is_in_block.ensures ∙ c.clauses-test.true in
+    let some : 0 < length c.clauses.rest.now = begins_some in_block _ begun in
+    let count = length c.clauses.clauses.items in
+    let all = length c.args.tokens.now in
+    let fuel : all - count ≡ suc (all - count - 1) = omega (arith, c.clauses.invariant.enough) in
+    rw (p.1, p.2) (ends in_block with_output (clause_at c.args.room) _ c.clauses.clauses.items (all - count) (all - count - 1) c.clauses.has_output c.clauses.rest.now _ begun fuel c.in_err-clause.ensures.exact c.clauses.invariant.so_far)
+
+pub clauses-preserved : goal.clauses-preserved
+clauses-preserved c =
+    let begun : begins in_block c.clauses.rest.now ≡ true = sym c.is_in_block.ensures ∙ c.clauses-test.true in
+    let some : 0 < length c.clauses.rest.now = begins_some in_block _ begun in
+    let old = c.clauses.clauses.items in
+    let new = c.push.new.self.items in
+    let more : length new ≡ length old + 1 = one_longer old new c.in_ok-clause.clause c.in_ok-push.ensures.items in
+    let all = length c.args.tokens.now in
+    let fuel : all - length old ≡ suc (all - length new) = omega (arith, c.clauses.invariant.enough) in
+    record {
+      so_far = goes_on in_block with_output (clause_at c.args.room) old new (all - length old) (all - length new) c.clauses.has_output _ c.clauses.rest.now c.in_ok-clause.after.now c.in_ok-clause.clause _ begun fuel c.with_output-has_output.ensures c.in_ok-push.ensures.items c.in_ok-clause.ensures.exact c.clauses.invariant.so_far;
+      enough = omega (arith, c.in_ok-clause.ensures.shorter, c.clauses.invariant.enough);
+    }
+
+pub returns-clause-exact : goal.returns-clause-exact
+returns-clause-exact c = is_done in_block with_output (clause_at c.args.room) _ _ c.clauses.has_output _ _ (sym c.is_in_block.ensures ∙ c.clauses-test.false) c.clauses.invariant.so_far

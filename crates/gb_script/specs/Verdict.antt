@@ -1,0 +1,49 @@
+-- What the answer about a whole row of tokens says.
+use Rattle.std.specs.Prelude.{◌≡◌, ◌≢◌, Bool, true, false, List, [], ◌∷◌, ◌++◌, nat_lt}
+use Rattle.std.specs.List.{AllByRecursion}
+use Rattle.gb_script.specs.declared.token.Token.{Token}
+use Rattle.gb_script.specs.Grammar.{Leveled, tokens_of}
+
+-- at most 64 brackets are open at once
+abbrev pub is_over : Leveled → Bool
+is_over m = nat_lt 64 m.1
+
+abbrev pub IsWithin : Leveled → Type 0
+IsWithin m = is_over m ≡ false
+
+abbrev pub AllWithin : List Leveled → Type 0
+AllWithin ms = AllByRecursion IsWithin ms
+
+-- The tokens begin something, and pass no limit.
+pub record Begins {A : Type 0} (Is : A → Type 0) (spelled : A → List Leveled) (before : List Token) : Type 0 where
+  pub value : A
+  pub is : Is value
+  pub front : List Leveled
+  pub more : List Leveled
+  pub whole : spelled value ≡ front ++ more
+  pub tokens : before ≡ tokens_of front
+  pub within : AllWithin front
+
+-- After the tokens before, the bad ones begin with the first that nothing has there, limits aside; where
+-- there are none, the end comes too early.
+pub record IsFirstStray {A : Type 0} (Is : A → Type 0) (spelled : A → List Leveled) (before bad : List Token) : Type 0 where
+  -- the tokens before it begin something
+  pub begun : Begins Is spelled before
+  -- nothing begins with them and it
+  pub none : (b : Token) (rest : List Token) → bad ≡ b ∷ rest → (a : A) (other : List Token) → Is a → tokens_of (spelled a) ≢ before ++ b ∷ other
+  -- nothing is spelled by all the tokens
+  pub short : bad ≡ [] → (a : A) → Is a → tokens_of (spelled a) ≢ before
+
+-- After the tokens before, which pass no limit, the bad ones begin with one past a limit; something has it there, limits aside.
+pub record IsFirstDeep {A : Type 0} (Is : A → Type 0) (spelled : A → List Leveled) (before bad : List Token) : Type 0 where
+  pub value : A
+  pub is : Is value
+  pub front : List Leveled
+  pub over : Leveled
+  pub more : List Leveled
+  pub rest : List Token
+  pub whole : spelled value ≡ front ++ over ∷ more
+  pub tokens : before ≡ tokens_of front
+  pub within : AllWithin front
+  pub past : is_over over ≡ true
+  pub bad_is : bad ≡ over.0 ∷ rest

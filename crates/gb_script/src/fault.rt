@@ -1,0 +1,51 @@
+//! Why a script could not be read.
+use std::alloc::AllocError;
+use thiserror::Error;
+
+/// Why a script could not be read.
+#[derive(Clone, Copy, Debug, PartialEq, Eq, Error)]
+pub enum ScriptFault {
+    #[error("out of memory")]
+    OutOfMemory,
+    /// The line of the first token that no script has after those before it, or the last line where
+    /// the text ends too early. Lines count from 1.
+    #[error("syntax error in line {0}")]
+    Syntax(u64),
+    /// More than 1 MiB.
+    #[error("too long")]
+    TooLong,
+    /// The line of a bracket inside of 64 others.
+    #[error("too deep in line {0}")]
+    TooDeep(u64),
+    #[error("not UTF-8")]
+    NotUtf8,
+}
+
+impl ScriptFault {
+    ghost use Rattle.std.specs.Prelude.{◌≡◌};
+    ghost use Rattle.gb_script.specs.Fault.{script_fault_number};
+
+    /// The number under which the fault is told to users.
+    pub fn number(self) -> u16
+        ensures { result ≡ script_fault_number self }
+    {
+        match self {
+            ScriptFault::OutOfMemory => 3,
+            ScriptFault::Syntax(_) => 20,
+            ScriptFault::TooLong => 21,
+            ScriptFault::TooDeep(_) => 22,
+            ScriptFault::NotUtf8 => 23,
+        }
+    }
+}
+
+impl From<AllocError> for ScriptFault {
+    ghost use Rattle.std.specs.Prelude.{◌≡◌};
+    ghost use Rattle.gb_script.specs.declared.fault.ScriptFault.TheVariants.{OutOfMemory};
+
+    ghost from_gives = { λ _ fault. fault ≡ OutOfMemory };
+
+    fn from(_error: AllocError) -> ScriptFault {
+        ScriptFault::OutOfMemory
+    }
+}

@@ -1,0 +1,47 @@
+//! Bytes to a script.
+ghost use Rattle.std.specs.Prelude.{◌≡◌, ℕ, ◌<◌, ◌≤◌, ◌↔◌, ◌⊎◌, List, length, Result, Err, IfOk, IsErrOf, IsUtf8};
+ghost use Rattle.gb_script.specs.Script.{Spells, IsSyntaxFault, IsDepthFault, Says};
+ghost use Rattle.gb_script.specs.declared.fault.ScriptFault.{ScriptFault};
+ghost use Rattle.gb_script.specs.declared.script.Statement.{Statement};
+
+use crate::fault::ScriptFault;
+use crate::lexing::lex;
+use crate::reading::whole_script;
+use crate::script::Script;
+use crate::stop::{Fault, Stop};
+use std::alloc::Global;
+
+/// The most bytes that a text may have: 1 MiB.
+const MAX_BYTES: usize = 1_048_576;
+
+/// The script that the bytes are.
+///
+/// The faults, in the order in which they are told: more than 1 MiB (21), no UTF-8 (23), and then the
+/// first in the text of a token that no script has there (20) and a bracket inside of 64 others (22),
+/// each with its line. Memory may run out on the way (3).
+pub fn read_script(alloc: Global, bytes: &[u8]) -> Result<Script, ScriptFault>
+    // What is read is what the bytes spell.
+    ensures found { IfOk result (λ script. Spells bytes.now script) }
+    // What the bytes say is the answer, unless memory runs out.
+    ensures back { (said : Result (List Statement) ScriptFault) → Says bytes.now said
+        → (result ≡ said) ⊎ (result ≡ Err ScriptFault.OutOfMemory) }
+
+    ensures too_long { IsErrOf result ScriptFault.TooLong ↔ (1048576 < length bytes.now) }
+    ensures not_utf8 { IsErrOf result ScriptFault.NotUtf8 ↔ ((length bytes.now ≤ 1048576) × ¬ (IsUtf8 bytes.now)) }
+    ensures syntax { (line : ℕ) → result ≡ Err (ScriptFault.Syntax line) → IsSyntaxFault bytes.now line }
+    ensures too_deep { (line : ℕ) → result ≡ Err (ScriptFault.TooDeep line) → IsDepthFault bytes.now line }
+{
+    if bytes.len() > MAX_BYTES {
+        return Err(ScriptFault::TooLong);
+    }
+    let Ok(text) = std::str::from_utf8(bytes) else {
+        return Err(ScriptFault::NotUtf8);
+    };
+    let lexed = lex(alloc, text)?;
+    match whole_script(alloc, &lexed.tokens) {
+        Ok(script) => Ok(script),
+        Err(Stop::Memory) => Err(ScriptFault::OutOfMemory),
+        Err(Stop::Fault(Fault::Stray(left))) => Err(ScriptFault::Syntax(lexed.line_of(text, left))),
+        Err(Stop::Fault(Fault::Deep(left))) => Err(ScriptFault::TooDeep(lexed.line_of(text, left))),
+    }
+}

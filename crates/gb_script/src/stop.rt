@@ -1,0 +1,40 @@
+//! Where reading tokens stops.
+use std::alloc::{AllocError, AllocFailed};
+
+/// What is wrong with a row of tokens, and how many are left from there on.
+#[derive(Clone, Copy, Debug, PartialEq, Eq)]
+pub enum Fault {
+    /// A token that no script has there.
+    Stray(usize),
+    /// A bracket inside of as many others as may be open.
+    Deep(usize),
+}
+
+/// Why reading tokens stopped.
+#[derive(Debug, Drop)]
+pub enum Stop {
+    Memory,
+    Fault(Fault),
+}
+
+impl From<AllocError> for Stop {
+    ghost use Rattle.std.specs.Prelude.{◌≡◌};
+    ghost use Rattle.gb_script.specs.declared.stop.Stop.TheVariants.{Memory};
+
+    ghost from_gives = { λ _ stop. stop ≡ Memory };
+
+    fn from(_error: AllocError) -> Stop {
+        Stop::Memory
+    }
+}
+
+impl<T: Drop> From<AllocFailed<T>> for Stop {
+    ghost use Rattle.std.specs.Prelude.{◌≡◌};
+    ghost use Rattle.gb_script.specs.declared.stop.Stop.TheVariants.{Memory};
+
+    ghost from_gives = { λ _ stop. stop ≡ Memory };
+
+    fn from(_error: AllocFailed<T>) -> Stop {
+        Stop::Memory
+    }
+}
