@@ -60,7 +60,7 @@ fn fit(alloc: Global, arg: Arg, text: &str) -> Result<Fit, Fail> {
     };
     let mut values = Arguments::new(alloc);
     values.push(Value::Text(Text::from_str(alloc, text)?))?;
-    Ok(shape.accepts(&values, &[], &[]))
+    Ok(shape.accepts(&values.copy(alloc)?, &[], &[]))
 }
 
 #[test]

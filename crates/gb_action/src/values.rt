@@ -1,5 +1,5 @@
 //! The values that an action is handed.
-ghost use Rattle.std.specs.Prelude.{◌≡◌, [], ◌∷◌, ◌++◌, OnOk, OnErr};
+ghost use Rattle.std.specs.Prelude.{◌≡◌, [], ◌∷◌, ◌++◌, IfOk, OnOk, OnErr};
 ghost use Rattle.std.specs.Option.{option_copied};
 ghost use Rattle.std.specs.FinMap.Entries.{find};
 ghost use Rattle.gb_action.specs.Files.{byte_order};
@@ -48,6 +48,17 @@ impl Arguments {
         ensures { result.now ≡ self.now }
     {
         self.values.as_slice()
+    }
+
+    /// Equal arguments.
+    pub fn copy(&self, alloc: Global) -> Result<Arguments, AllocError>
+        ensures { IfOk result (λ copied. copied ≡ self.now) }
+    {
+        let mut copied = Arguments::new(alloc);
+        for value in self.values.iter() {
+            copied.push(value.copy(alloc)?)?;
+        }
+        Ok(copied)
     }
 }
 

@@ -1,0 +1,30 @@
+use Rattle.std.proofs.Common.{◌<◌, ℕ, List, length, subst, Err, ap, sym, ◌∙◌, inl, inr}
+use Rattle.gb_exec.specs.Faults.{told_at}
+use Rattle.gb_exec.specs.Making.{max_file}
+use Rattle.gb_exec.proofs.Machine.{changes_with, changes_left, changes_none, is_device}
+use Rattle.gb_build.specs.Events.{is_at}
+use Rattle.gb_build.proofs.Editing.{at_itself, put_failed}
+use Rattle.gb_build.proofs.edits.put.Goals as goal
+
+pub returns-in-Ok-clause-elsewhere : goal.returns-in-Ok-clause-elsewhere
+returns-in-Ok-clause-elsewhere g c = λ tells. changes_with (is_at c.args.place.now) _ _ c.args.place.now _ (c.in-Ok.ensures.written tells) (at_itself c.args.place.now)
+
+pub returns-in-Err-clause-elsewhere : goal.returns-in-Err-clause-elsewhere
+returns-in-Err-clause-elsewhere g c = λ tells.
+    elim (is_device c.in-Err.fault) [
+      | inl device ↦ let torn = c.write.ensures.torn tells (c.in-Err.is ∙ ap Err device) in changes_left (is_at c.args.place.now) _ _ c.args.place.now torn.0 torn.2 (at_itself c.args.place.now)
+      | inr not_device ↦ changes_none (is_at c.args.place.now) _ _ (c.in-Err.ensures.same tells not_device)
+    ]
+
+pub returns-in-Err-clause-step : goal.returns-in-Err-clause-step
+returns-in-Err-clause-step g c = λ tells.
+    let fault = c.in-Err.fault in
+    let place = c.args.place.now in
+    let w = c.write.ensures in
+    put_failed place c.args.bytes.now _ _ _ _ fault c.fault_of.result (sym c.is_own.ensures ∙ c.if-is_own.false) (c.fault_of.ensures ∙ ap (λ p. told_at p fault) c.in_ok-at.ensures)
+    (λ e. w.device (c.in-Err.is ∙ ap Err e)) (λ other. c.in-Err.ensures.same tells other) (λ e. w.blocked tells (c.in-Err.is ∙ ap Err e))
+    (λ e. subst (λ (bytes : List ℕ). max_file < length bytes) c.as_slice.ensures (w.large (c.in-Err.is ∙ ap Err e))) (λ e. w.not_missing (c.in-Err.is ∙ ap Err e)) (λ e. w.not_named (c.in-Err.is ∙ ap Err e))
+    (elim (is_device fault) [
+      | inl device ↦ let torn = w.torn tells (c.in-Err.is ∙ ap Err device) in changes_left (is_at place) _ _ place torn.0 torn.2 (at_itself place)
+      | inr not_device ↦ changes_none (is_at place) _ _ (c.in-Err.ensures.same tells not_device)
+    ])

@@ -1,0 +1,18 @@
+use Rattle.std.proofs.Common.{◌≡◌, ◌≤◌, IsTrue, length, take, vec_len}
+use Rattle.std.specs.Vec.{vec_capacity}
+use Rattle.gb_build.specs.Blame.{HasFailed}
+use Rattle.gb_build.specs.Events.{EventsHold, times_blamed_in_all}
+use Rattle.gb_build.proofs.events.run_events.Given as goal
+
+abbrev pub invariant-loop-event : goal.invariant-loop-event
+invariant-loop-event g l =
+    let failures = g.F.Folder.failures in
+    let contents = g.F.Folder.contents in
+    record {
+      room : length l.events ≤ vec_capacity l.answers;
+      long : vec_len l.answers ≡ l.event-index;
+      each : length l.answers.items ≡ l.event-index;
+      count : failures l.fn.folder ≤ failures l.folder;
+      device : HasFailed (times_blamed_in_all l.answers.items) (failures l.fn.folder) (failures l.folder);
+      hold : IsTrue g.F.Folder.tells → EventsHold g.A.Actions.meanings l.tables.actions (failures l.fn.folder) (contents l.fn.folder) (take l.event-index l.events) l.answers.items (failures l.folder) (contents l.folder);
+    }

@@ -1,0 +1,5 @@
+pub mod Words
+pub mod Scripts
+pub mod Build
+pub mod Events
+pub mod Blame

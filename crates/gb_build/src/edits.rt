@@ -1,0 +1,69 @@
+//! Edits from outside.
+ghost use Rattle.std.specs.Prelude.{◌≡◌, ◌≤◌, ℕ, List, Err, IsTrue, MatchResult};
+ghost use Rattle.gb_folder.specs.Files.{HasRisen, is_own};
+ghost use Rattle.gb_exec.specs.Turn.{ChangesOnly};
+ghost use Rattle.gb_build.specs.Events.{LostStep, PutStep, RemoveStep, is_at};
+
+use crate::script::good_place;
+use gb_core::bytes::Bytes;
+use gb_core::place::{Place, lies_beneath};
+use gb_exec::faults::fault_of;
+use gb_exec::listing::listed_at;
+use gb_exec::removal::remove_all;
+use gb_exec::writing::MAX_FILE;
+use gb_folder::folder::Folder;
+use gb_report::fault::Fault;
+use std::alloc::{AllocError, Global};
+
+/// Puts a file, over one that stands there (94 at or beneath `.gb`; 12, 13).
+pub fn put<F: Folder>(folder: &mut F, place: &Place, bytes: &Bytes) -> Result<(), Fault>
+    ensures count { F.failures folder.old ≤ F.failures folder.new }
+    ensures blame { (place : List ℕ) → result ≡ Err (Fault.Device place) → HasRisen (F.failures folder.old) (F.failures folder.new) }
+    ensures step { IsTrue F.tells → PutStep place.now bytes.now (F.failures folder.old) (F.contents folder.old) result (F.failures folder.new) (F.contents folder.new) }
+    ensures elsewhere { IsTrue F.tells → ChangesOnly (is_at place.now) (F.contents folder.old) (F.contents folder.new) }
+{
+    let at = place.copy()?;
+    if is_own(place) {
+        return Err(Fault::OwnState(at));
+    }
+    match folder.write(place, bytes.as_slice(), MAX_FILE) {
+        Ok(()) => Ok(()),
+        Err(fault) => Err(fault_of(fault, at)),
+    }
+}
+
+/// Takes a file away (94 at or beneath `.gb`; 11, 12).
+pub fn remove<F: Folder>(folder: &mut F, place: &Place) -> Result<(), Fault>
+    ensures count { F.failures folder.old ≤ F.failures folder.new }
+    ensures blame { (place : List ℕ) → result ≡ Err (Fault.Device place) → HasRisen (F.failures folder.old) (F.failures folder.new) }
+    ensures step { IsTrue F.tells → RemoveStep place.now (F.failures folder.old) (F.contents folder.old) result (F.failures folder.new) (F.contents folder.new) }
+    ensures elsewhere { IsTrue F.tells → ChangesOnly (is_at place.now) (F.contents folder.old) (F.contents folder.new) }
+{
+    let at = place.copy()?;
+    if is_own(place) {
+        return Err(Fault::OwnState(at));
+    }
+    match folder.remove(place) {
+        Ok(()) => Ok(()),
+        Err(fault) => Err(fault_of(fault, at)),
+    }
+}
+
+/// Takes away all that stands at or beneath `.gb`.
+pub fn lose<F: Folder>(alloc: Global, folder: &mut F) -> Result<(), Fault>
+    ensures count { F.failures folder.old ≤ F.failures folder.new }
+    ensures blame { (place : List ℕ) → result ≡ Err (Fault.Device place) → HasRisen (F.failures folder.old) (F.failures folder.new) }
+    ensures step { IsTrue F.tells → LostStep (F.failures folder.old) (F.contents folder.old) result (F.failures folder.new) (F.contents folder.new) }
+    ensures elsewhere { IsTrue F.tells → ChangesOnly is_own (F.contents folder.old) (F.contents folder.new) }
+{
+    let own = good_place(alloc, ".gb")?;
+    let places = listed_at(alloc, folder, &own)?;
+    remove_all(folder, places.as_slice())
+}
+
+/// Whether the place is the tool's own: `.gb` or beneath it.
+fn is_own(place: &Place) -> bool
+    ensures { result ≡ is_own place.now }
+{
+    place.as_str() == ".gb" || lies_beneath(place.as_str().as_bytes(), b".gb")
+}

@@ -1,0 +1,65 @@
+//! The script of a folder.
+ghost use Rattle.std.specs.Prelude.{◌≡◌, ◌≢◌, ◌≤◌, ◌<◌, ◌⊎◌, ℕ, List, [], Some, Ok, Err, IsTrue, IfOk, IfErr, MatchResult, length};
+ghost use Rattle.gb_core.specs.Place.{is_place};
+ghost use Rattle.gb_folder.specs.Files.{HasRisen};
+ghost use Rattle.gb_script.specs.Script.{Says, Spells};
+ghost use Rattle.gb_script.specs.declared.fault.ScriptFault.{ScriptFault};
+ghost use Rattle.gb_exec.specs.Turn.{IsOfMachine};
+ghost use Rattle.gb_build.specs.Scripts.{ScriptSays, FileSays, in_script, script_place};
+
+use gb_core::place::Place;
+use gb_folder::folder::{Folder, FolderFault};
+use gb_report::fault::Fault;
+use gb_script::fault::ScriptFault;
+use gb_script::read_script;
+use gb_script::script::Script;
+use std::alloc::Global;
+
+/// The most bytes of a script: 1 MiB.
+const MAX_SCRIPT: u64 = 1_048_576;
+
+/// Reads the script of the folder. Where there is none it is empty.
+pub fn read_build_script<F: Folder>(alloc: Global, folder: &mut F) -> Result<Script, Fault>
+    ensures count { F.failures folder.old ≤ F.failures folder.new }
+    ensures blame { (place : List ℕ) → result ≡ Err (Fault.Device place) → HasRisen (F.failures folder.old) (F.failures folder.new) }
+    ensures same { IsTrue F.tells → F.contents folder.new ≡ F.contents folder.old }
+    ensures said { IsTrue F.tells → MatchResult result
+        (λ script. ScriptSays (F.contents folder.old).files (Ok script))
+        (λ fault. IsOfMachine (F.failures folder.old) (F.failures folder.new) fault ⊎ ScriptSays (F.contents folder.old).files (Err fault)) }
+{
+    let place = good_place(alloc, "build.gb")?;
+    match folder.read(alloc, &place, MAX_SCRIPT) {
+        Ok(bytes) => spelled(alloc, bytes.as_slice(), place),
+        Err(FolderFault::Missing) => Ok(Script::new(Vec::new(alloc))),
+        Err(FolderFault::TooLarge) => Err(Fault::TooLong(place)),
+        Err(FolderFault::OutOfMemory) => Err(Fault::OutOfMemory),
+        Err(FolderFault::Device) => Err(Fault::Device(place)),
+        Err(FolderFault::Blocked) => Err(Fault::Blocked(place)),
+        Err(FolderFault::BadFileName) => Err(Fault::BadFileName(place)),
+    }
+}
+
+/// The place of this text.
+pub fn good_place(alloc: Global, text: &str) -> Result<Place, Fault>
+    requires { IsTrue (is_place text.now) }
+    ensures { MatchResult result (λ place. place ≡ text.now) (λ fault. fault ≡ Fault.OutOfMemory) }
+{
+    Place::read(alloc, text).map_err(|_fault| Fault::OutOfMemory)
+}
+
+/// The script that the bytes of the file at this place spell.
+fn spelled(alloc: Global, bytes: &[u8], place: Place) -> Result<Script, Fault>
+    requires { place ≡ script_place }
+    ensures { MatchResult result
+        (λ script. Spells bytes.now script)
+        (λ fault. (fault ≡ Fault.OutOfMemory) ⊎ ((told : ScriptFault) × Says bytes.now (Err told) × (fault ≡ in_script told))) }
+{
+    match read_script(alloc, bytes) {
+        Ok(script) => Ok(script),
+        Err(ScriptFault::OutOfMemory) => Err(Fault::OutOfMemory),
+        Err(ScriptFault::Syntax(line)) => Err(Fault::Syntax(place, line)),
+        Err(ScriptFault::TooLong) => Err(Fault::TooLong(place)),
+        Err(ScriptFault::TooDeep(line)) => Err(Fault::TooDeep(place, line)),
+        Err(ScriptFault::NotUtf8) => Err(Fault::NotUtf8(place)),
+    }
+}

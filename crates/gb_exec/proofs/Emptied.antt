@@ -1,0 +1,146 @@
+-- Files are taken away, place by place.
+use Rattle.std.proofs.Common.{◌≡◌, ℕ, Bool, true, false, cond, not, ◌&&◌, ◌||◌, List, [], ◌∷◌, ◌++◌, Option, Some, None, is_some, map, fold, refl, sym, ◌∙◌, ap, subst, T, IsTrue}
+use Rattle.std.proofs.lemmas.Bool.{and_parts, not-true, false≢true}
+use Rattle.std.proofs.lemmas.Option.{none-some}
+use Rattle.std.proofs.lemmas.List.Folds.{list_any-append}
+use Rattle.std.specs.Cmp.{unsigned_ties}
+use Rattle.std.specs.Cmp.Lexicographic.{slice_cmp, lists_ties, bytes_decides}
+use Rattle.std.specs.FinMap.Entries.{find}
+use Rattle.std.specs.List.{list_any, list_all, flat_map}
+use Rattle.std.specs.Ordering.{nat_cmp, is_eq}
+use Rattle.std.specs.Prelude.{bytes_eq}
+use Rattle.gb_core.specs.Place.{is_under}
+use Rattle.gb_folder.specs.Files.{Place, Files, IsFolder, byte_order, file_at, files_where, is_blocked, places_under, without}
+use Rattle.gb_folder.proofs.Changes.{file_at-files_where, file_at-without, same_files}
+use Rattle.gb_folder.proofs.Held.{equal_from}
+use Rattle.gb_folder.proofs.Sound.{sound_where, same_from}
+use Rattle.gb_action.specs.declared.output.Form.TheVariants.{File}
+use Rattle.gb_project.specs.declared.task.Output.{Output}
+
+-- where no file stands none is taken away
+pub without_none : (files : Files) (place : Place) → IsFolder files → file_at files place ≡ None → without files place ≡ files
+without_none files place sound none =
+    same_files _ _ (sound_where files (λ other. not (bytes_eq other place)) sound) sound (λ q. file_at-without files place q ∙ left q)
+  where
+    left : (q : Place) → cond (not (bytes_eq q place)) (file_at files q) None ≡ file_at files q
+    left q = elim (bytes_eq q place) as (λ b. bytes_eq q place ≡ b → cond (not b) (file_at files q) None ≡ file_at files q) [
+      | true ↦ λ is. sym (ap (λ p. file_at files p) ((bytes_decides q place).0 is) ∙ none)
+      | false ↦ λ is. refl
+    ] refl
+
+pub sound_removed : (places : List Place) (files : Files) → IsFolder files → IsFolder (fold without files places)
+sound_removed [] files sound = sound
+sound_removed (place ∷ places) files sound = sound_removed places (without files place) (sound_where files (λ other. not (bytes_eq other place)) sound)
+
+taken_twice : (a b : Bool) (o : Option (List ℕ)) → cond b None (cond (not a) o None) ≡ cond (a || b) None o
+taken_twice true true o = refl
+taken_twice true false o = refl
+taken_twice false b o = refl
+
+-- what is left once the places are emptied
+at_removed : (places : List Place) (files : Files) (q : Place) → file_at (fold without files places) q ≡ cond (list_any (bytes_eq q) places) None (file_at files q)
+at_removed [] files q = refl
+at_removed (place ∷ places) files q =
+    at_removed places (without files place) q ∙ ap (λ o. cond (list_any (bytes_eq q) places) None o) (file_at-without files place q)
+    ∙ taken_twice (bytes_eq q place) (list_any (bytes_eq q) places) (file_at files q)
+
+found_at : (b : Bool) (bytes : List ℕ) (o : Option (List ℕ)) → is_some (cond b (Some bytes) o) ≡ (b || is_some o)
+found_at true bytes o = refl
+found_at false bytes o = refl
+
+-- a place is among those of some files where a file of theirs stands there
+stands_where : (test : Place → Bool) (files : Files) (q : Place) → list_any (bytes_eq q) (map (λ file. file.0) (files_where test files)) ≡ (test q && is_some (file_at files q))
+stands_where test [] q = elim (test q) as (λ b. false ≡ (b && false)) [ true ↦ refl | false ↦ refl ]
+stands_where test (file ∷ files) q =
+    let rest = stands_where test files q in
+    let more : list_any (bytes_eq q) (map (λ f. f.0) (files_where test (file ∷ files))) ≡ (test file.0 && bytes_eq q file.0 || list_any (bytes_eq q) (map (λ f. f.0) (files_where test files))) =
+    elim (test file.0) as (λ b. list_any (bytes_eq q) (map (λ f. f.0) (cond b (file ∷ files_where test files) (files_where test files))) ≡ (b && bytes_eq q file.0 || list_any (bytes_eq q) (map (λ f. f.0) (files_where test files)))) [ true ↦ refl | false ↦ refl ] in
+    let same : (test file.0 && bytes_eq q file.0) ≡ (test q && bytes_eq q file.0) =
+    elim (bytes_eq q file.0) as (λ b. bytes_eq q file.0 ≡ b → (test file.0 && b) ≡ (test q && b)) [
+      | true ↦ λ is. ap (λ p. test p && true) (sym ((bytes_decides q file.0).0 is))
+      | false ↦ λ is. elim (test file.0) as (λ a. (a && false) ≡ (test q && false)) [ true ↦ none (test q) | false ↦ none (test q) ]
+    ] refl in
+    let stands : is_some (file_at (file ∷ files) q) ≡ (bytes_eq q file.0 || is_some (file_at files q)) =
+    found_at (is_eq (slice_cmp nat_cmp q file.0)) file.1 (file_at files q) ∙ ap (λ b. b || is_some (file_at files q)) (sym (lists_ties nat_cmp unsigned_ties q file.0)) in
+    more ∙ ap (λ a. a || list_any (bytes_eq q) (map (λ f. f.0) (files_where test files))) same ∙ ap (λ a. test q && bytes_eq q file.0 || a) rest
+    ∙ joined (test q) (bytes_eq q file.0) (is_some (file_at files q)) ∙ ap (λ a. test q && a) (sym stands)
+  where
+    none : (b : Bool) → false ≡ (b && false)
+    none true = refl
+    none false = refl
+
+    joined : (a b c : Bool) → (a && b || a && c) ≡ (a && (b || c))
+    joined true b c = refl
+    joined false b c = refl
+
+-- the places of the files at the outputs
+stands_at_outputs : (outputs : List Output) (files : Files) (q : Place) → list_any (bytes_eq q) (flat_map (λ (output : Output). places_under files output.place) outputs)
+    ≡ (list_any (λ (output : Output). is_under q output.place) outputs && is_some (file_at files q))
+stands_at_outputs [] files q = refl
+stands_at_outputs (output ∷ outputs) files q =
+    list_any-append (bytes_eq q) (places_under files output.place) (flat_map (λ (o : Output). places_under files o.place) outputs)
+    ∙ ap (λ a. a || list_any (bytes_eq q) (flat_map (λ (o : Output). places_under files o.place) outputs)) (stands_where (λ p. is_under p output.place) files q)
+    ∙ ap (λ a. is_under q output.place && is_some (file_at files q) || a) (stands_at_outputs outputs files q)
+    ∙ joined (is_under q output.place) (list_any (λ (o : Output). is_under q o.place) outputs) (is_some (file_at files q))
+  where
+    joined : (a b c : Bool) → (a && c || b && c) ≡ ((a || b) && c)
+    joined true true true = refl
+    joined true true false = refl
+    joined true false true = refl
+    joined true false false = refl
+    joined false b c = refl
+
+left_over : (b : Bool) (o : Option (List ℕ)) → cond (b && is_some o) None o ≡ cond (not b) o None
+left_over true None = refl
+left_over true (Some bytes) = refl
+left_over false o = refl
+
+-- Once each file at the outputs is taken away, those elsewhere are left.
+pub emptied : (outputs : List Output) (files : Files) → IsFolder files
+    → fold without files (flat_map (λ (output : Output). places_under files output.place) outputs) ≡ files_where (λ q. not (list_any (λ (output : Output). is_under q output.place) outputs)) files
+emptied outputs files sound =
+    let places = flat_map (λ (output : Output). places_under files output.place) outputs in
+    let is_output : Place → Bool = λ q. list_any (λ (output : Output). is_under q output.place) outputs in
+    same_files _ _ (sound_removed places files sound) (sound_where files (λ q. not (is_output q)) sound) (λ q.
+    at_removed places files q ∙ ap (λ b. cond b None (file_at files q)) (stands_at_outputs outputs files q) ∙ left_over (is_output q) (file_at files q)
+    ∙ sym (file_at-files_where files (λ p. not (is_output p)) q))
+
+free_among : (all files : Files) (place bytes : List ℕ) → list_all (λ (file : List ℕ × List ℕ). not (is_blocked all file.0)) files ≡ true → file_at files place ≡ Some bytes → is_blocked all place ≡ false
+free_among all [] place bytes sound stands = absurd (none-some bytes stands)
+free_among all (file ∷ files) place bytes sound stands =
+    let parts = and_parts (not (is_blocked all file.0)) _ sound in
+    elim (is_eq (slice_cmp nat_cmp place file.0)) as (λ b. is_eq (slice_cmp nat_cmp place file.0) ≡ b → cond b (Some file.1) (file_at files place) ≡ Some bytes → is_blocked all place ≡ false) [
+      | true ↦ λ is _. ap (is_blocked all) (same_from place file.0 (equal_from _ is)) ∙ not-true _ parts.0
+      | false ↦ λ _ later. free_among all files place bytes parts.1 later
+    ] refl stands
+
+-- no file stands where another is in the way
+pub blocked_none : (files : Files) (place : Place) → IsFolder files → is_blocked files place ≡ true → file_at files place ≡ None
+blocked_none files place sound blocked =
+    elim (file_at files place) as (λ o. file_at files place ≡ o → o ≡ None) [
+      | None ↦ λ _. refl
+      | Some bytes ↦ λ stands. absurd (false≢true (sym (free_among files files place bytes sound.none_blocked stands) ∙ blocked))
+    ] refl
+
+-- where a file stands no other is in the way
+pub free_at : (files : Files) (place bytes : List ℕ) → IsFolder files → file_at files place ≡ Some bytes → is_blocked files place ≡ false
+free_at files place bytes sound stands = free_among files files place bytes sound.none_blocked stands
+
+unsplit : (b : Bool) → not (b || false) ≡ not b
+unsplit true = refl
+unsplit false = refl
+
+same_tests : (a b : Place → Bool) → ((place : Place) → a place ≡ b place) → (files : Files) → files_where a files ≡ files_where b files
+same_tests a b same [] = refl
+same_tests a b same (file ∷ files) =
+    ap (λ t. cond t (file ∷ files_where a files) (files_where a files)) (same file.0) ∙ ap (λ fs. cond (b file.0) (file ∷ fs) fs) (same_tests a b same files)
+
+no_more : {X : Type 0} (xs : List X) → xs ++ [] ≡ xs
+no_more [] = refl
+no_more (x ∷ xs) = ap (λ ys. x ∷ ys) (no_more xs)
+
+-- once each file at or beneath a place is taken away, those elsewhere are left
+pub emptied_place : (place : Place) (files : Files) → IsFolder files → fold without files (places_under files place) ≡ files_where (λ q. not (is_under q place)) files
+emptied_place place files sound =
+    ap (fold without files) (sym (no_more (places_under files place))) ∙ emptied (record { name = []; form = File; place = place } ∷ []) files sound
+    ∙ same_tests (λ q. not (is_under q place || false)) (λ q. not (is_under q place)) (λ q. unsplit (is_under q place)) files

@@ -1,0 +1,7 @@
+pub mod Machine
+pub mod Emptied
+pub mod Loops
+pub mod Placing
+pub mod Endings
+pub mod Scratched
+pub mod Rows

@@ -1,0 +1,86 @@
+-- Faults of the machine, and where they count.
+use Rattle.std.proofs.Common.{◌≡◌, ◌≢◌, ◌≤◌, ◌⊎◌, ℕ, Bool, true, List, Option, not, refl, sym, ◌∙◌, ap, subst, inl, inr, arith, Result, Ok, Err, IsTrue}
+use Rattle.gb_folder.specs.Files.{Place, Contents, DiffersOnlyAt, HasRisen, files_where, without, with_file, with_left}
+use Rattle.gb_folder.proofs.Changes.{HasRisen-after, HasRisen-before, DiffersOnlyAt-chain, DiffersOnlyAt-without, DiffersOnlyAt-with_file, DiffersOnlyAt-with_left}
+use Rattle.gb_folder.specs.declared.folder.FolderFault.{FolderFault}
+use Rattle.gb_folder.specs.declared.folder.FolderFault.TheVariants as folders
+use Rattle.gb_report.specs.declared.fault.Fault.{Fault}
+use Rattle.gb_report.specs.declared.fault.Fault.TheVariants as faults
+use Rattle.gb_exec.specs.Faults.{told_at}
+use Rattle.gb_exec.specs.Turn.{ChangesOnly, IsOfMachine}
+
+-- the count goes on rising after a call
+pub machine_after : (first second third : ℕ) (fault : Fault) → second ≤ third → IsOfMachine first second fault → IsOfMachine first third fault
+machine_after first second third fault le (inl is) = inl is
+machine_after first second third fault le (inr device) = inr (device.0, device.1, HasRisen-after first second third device.2 le)
+
+-- it began to rise before the call
+pub machine_before : (first second third : ℕ) (fault : Fault) → first ≤ second → second ≤ third → IsOfMachine second third fault → IsOfMachine first third fault
+machine_before first second third fault le more (inl is) = inl is
+machine_before first second third fault le more (inr device) = inr (device.0, device.1, HasRisen-before first second third le more device.2)
+
+-- a device's fault is told only where the folder's was one
+pub blames_device : (place : Place) (fault : FolderFault) (told : Fault) → (told ≡ faults.OutOfMemory) ⊎ (told ≡ told_at place fault) → (at : Place) → told ≡ faults.Device at → fault ≡ folders.Device
+blames_device place fault told (inl is) at device = absurd (no_device (sym is ∙ device))
+  where
+    no_device : faults.OutOfMemory ≡ faults.Device at → ⊥
+    no_device e = cc
+blames_device place folders.OutOfMemory told (inr is) at device = absurd (let e = sym is ∙ device in (cc))
+blames_device place folders.Device told (inr is) at device = refl
+blames_device place folders.Missing told (inr is) at device = absurd (let e = sym is ∙ device in (cc))
+blames_device place folders.Blocked told (inr is) at device = absurd (let e = sym is ∙ device in (cc))
+blames_device place folders.TooLarge told (inr is) at device = absurd (let e = sym is ∙ device in (cc))
+blames_device place folders.BadFileName told (inr is) at device = absurd (let e = sym is ∙ device in (cc))
+
+-- want of memory and a device's fault are the machine's
+pub of_machine : (before after : ℕ) (place : Place) (fault : FolderFault) (told : Fault) → (told ≡ faults.OutOfMemory) ⊎ (told ≡ told_at place fault)
+    → (fault ≡ folders.Device → HasRisen before after) → (fault ≢ folders.OutOfMemory → fault ≢ folders.Device → ⊥) → IsOfMachine before after told
+of_machine before after place fault told (inl is) rose other = inl is
+of_machine before after place folders.OutOfMemory told (inr is) rose other = inl is
+of_machine before after place folders.Device told (inr is) rose other = inr (place, is, rose refl)
+of_machine before after place folders.Missing told (inr is) rose other = absurd (other (λ e. cc) (λ e. cc))
+of_machine before after place folders.Blocked told (inr is) rose other = absurd (other (λ e. cc) (λ e. cc))
+of_machine before after place folders.TooLarge told (inr is) rose other = absurd (other (λ e. cc) (λ e. cc))
+of_machine before after place folders.BadFileName told (inr is) rose other = absurd (other (λ e. cc) (λ e. cc))
+
+-- one change after another
+pub changes_chain : (test : Place → Bool) (first second third : Contents) → ChangesOnly test first second → ChangesOnly test second third → ChangesOnly test first third
+changes_chain test first second third a b = record {
+  elsewhere = DiffersOnlyAt-chain test first.files second.files third.files a.elsewhere b.elsewhere;
+  odd = b.odd ∙ a.odd;
+}
+
+-- nothing has changed
+pub changes_none : (test : Place → Bool) (old new : Contents) → new ≡ old → ChangesOnly test old new
+changes_none test old new same = record { elsewhere = ap (λ (c : Contents). files_where (λ place. not (test place)) c.files) same; odd = ap (λ (c : Contents). c.odd) same }
+
+changes_to : (test : Place → Bool) (old new : Contents) (files : List (Place × List ℕ)) → new ≡ record old { files = files } → DiffersOnlyAt test old.files files → ChangesOnly test old new
+changes_to test old new files is differs = record {
+  elsewhere = ap (λ (c : Contents). files_where (λ place. not (test place)) c.files) is ∙ differs;
+  odd = ap (λ (c : Contents). c.odd) is;
+}
+
+-- a file was taken away
+pub changes_without : (test : Place → Bool) (old new : Contents) (place : Place) → new ≡ record old { files = without old.files place } → test place ≡ true → ChangesOnly test old new
+changes_without test old new place is holds = changes_to test old new _ is (DiffersOnlyAt-without test old.files place holds)
+
+-- a file was written
+pub changes_with : (test : Place → Bool) (old new : Contents) (place : Place) (bytes : List ℕ) → new ≡ record old { files = with_file old.files place bytes } → test place ≡ true → ChangesOnly test old new
+changes_with test old new place bytes is holds = changes_to test old new _ is (DiffersOnlyAt-with_file test old.files place bytes holds)
+
+-- a call was stopped
+pub changes_left : (test : Place → Bool) (old new : Contents) (place : Place) (left : Option (List ℕ)) → new ≡ record old { files = with_left old.files place left } → test place ≡ true → ChangesOnly test old new
+changes_left test old new place left is holds = changes_to test old new _ is (DiffersOnlyAt-with_left test old.files place left holds)
+
+-- what holds of an error holds of the result that is it
+pub at_err : {T E : Type 0} (P : Result T E → Type 0) (r : Result T E) (y z : E) → r ≡ Err y → y ≡ z → P (Err z) → P r
+at_err P r y z is same holds = subst P (sym (is ∙ ap Err same)) holds
+
+-- whether a fault is the device's
+pub is_device : (fault : FolderFault) → (fault ≡ folders.Device) ⊎ (fault ≢ folders.Device)
+is_device folders.OutOfMemory = inr (λ e. cc)
+is_device folders.Device = inl refl
+is_device folders.Missing = inr (λ e. cc)
+is_device folders.Blocked = inr (λ e. cc)
+is_device folders.TooLarge = inr (λ e. cc)
+is_device folders.BadFileName = inr (λ e. cc)

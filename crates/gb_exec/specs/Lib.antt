@@ -1,0 +1,5 @@
+pub mod Kinds
+pub mod Making
+pub mod Turn
+pub mod Scratch
+pub mod Faults

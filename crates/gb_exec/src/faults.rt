@@ -1,0 +1,31 @@
+//! A folder's fault, as a build tells it.
+ghost use Rattle.std.specs.Prelude.{◌≡◌, ◌⊎◌};
+ghost use Rattle.gb_exec.specs.Faults.{told_at};
+
+use gb_core::place::Place;
+use gb_folder::folder::FolderFault;
+use gb_report::fault::Fault;
+
+/// The fault at a place; want of memory takes its stead where there is none to name the place.
+pub fn fault_at(fault: FolderFault, place: &Place) -> Fault
+    ensures { (result ≡ Fault.OutOfMemory) ⊎ (result ≡ told_at place.now fault) }
+{
+    match place.copy() {
+        Ok(place) => fault_of(fault, place),
+        Err(_) => Fault::OutOfMemory,
+    }
+}
+
+/// The fault at this place.
+pub fn fault_of(fault: FolderFault, place: Place) -> Fault
+    ensures { result ≡ told_at place fault }
+{
+    match fault {
+        FolderFault::OutOfMemory => Fault::OutOfMemory,
+        FolderFault::Device => Fault::Device(place),
+        FolderFault::Missing => Fault::Missing(place),
+        FolderFault::Blocked => Fault::Blocked(place),
+        FolderFault::TooLarge => Fault::TooLarge(place),
+        FolderFault::BadFileName => Fault::BadFileName(place),
+    }
+}

@@ -1,0 +1,4 @@
+pub mod Firsts
+pub mod Ordered
+pub mod Ready
+pub mod Rows

@@ -1,0 +1,4 @@
+pub mod Task
+pub mod Faults
+pub mod Words
+pub mod Declaration

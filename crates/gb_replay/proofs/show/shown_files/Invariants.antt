@@ -1,0 +1,14 @@
+use Rattle.std.proofs.Common.{◌≡◌, ◌++◌, ℕ, List, IsTrue, drop}
+use Rattle.std.specs.List.{flat_map}
+use Rattle.gb_folder.specs.Files.{file_at}
+use Rattle.gb_replay.specs.Texts.{shown_at}
+use Rattle.gb_replay.proofs.show.shown_files.Given as goal
+
+abbrev pub invariant-loop-place : goal.invariant-loop-place
+invariant-loop-place g l =
+    let files = (g.F.Folder.contents l.fn.folder).files in
+    record {
+      same : IsTrue g.F.Folder.tells → g.F.Folder.contents l.folder ≡ g.F.Folder.contents l.fn.folder;
+      shown : IsTrue g.F.Folder.tells → l.text.items ++ flat_map (λ p. shown_at p (file_at files p)) (drop l.place-index l.place-items)
+          ≡ flat_map (λ p. shown_at p (file_at files p)) l.place-items;
+    }

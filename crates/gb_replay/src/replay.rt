@@ -1,0 +1,169 @@
+//! The lines of an input in their order.
+ghost use Rattle.std.specs.Prelude.{◌≡◌, ◌⊎◌, ◌+◌, ◌-◌, ◌^◌, IfErr, min};
+ghost use Rattle.gb_replay.specs.declared.stop.Stop.TheVariants as stops;
+
+use crate::line::{Line, LineFault, read_line};
+use crate::show::shown_files;
+use crate::stop::Stop;
+use crate::texts::{answer_text, not_built_text, refusal_text};
+use gb_action::actions::Actions;
+use gb_build::events::{Event, run_events};
+use gb_build::invocation::Invocation;
+use gb_core::place::Place;
+use gb_folder::folder::Folder;
+use gb_folder::memory::MemoryFolder;
+use gb_project::tables::Tables;
+use gb_report::fault::Fault;
+use std::alloc::Global;
+use std::io::{ErrorKind, Read, Write};
+
+/// The most bytes of an input: 64 MiB.
+const MAX_INPUT: u64 = 67_108_864;
+
+/// The bytes that are read at once.
+const CHUNK: usize = 65_536;
+
+/// Takes the lines of an input over an empty folder, and answers the exit status: 0 after the last
+/// line, 2 after a bad line, and 1 where reading, writing or memory failed.
+pub fn replay<A: Actions, R: Read, W: Write>(
+    alloc: Global,
+    reader: &mut R,
+    writer: &mut W,
+    tables: &Tables<A::Stored>,
+) -> u8 {
+    match try_replay::<A, R, W>(alloc, reader, writer, tables) {
+        Ok(()) => 0,
+        Err(Stop::BadLine(_)) => 2,
+        Err(_) => 1,
+    }
+}
+
+fn try_replay<A: Actions, R: Read, W: Write>(
+    alloc: Global,
+    reader: &mut R,
+    writer: &mut W,
+    tables: &Tables<A::Stored>,
+) -> Result<(), Stop> {
+    let input = read_input(alloc, reader)?;
+    let taken = take_input::<A, W>(alloc, writer, tables, input.as_slice());
+    if let Err(Stop::BadLine(number)) = taken {
+        let text = refusal_text(alloc, &Fault::BadLine(number))?;
+        writer.write_all(text.as_slice())?;
+    }
+    writer.flush()?;
+    taken
+}
+
+/// Reads all bytes, or one more than an input may have.
+fn read_input<R: Read>(alloc: Global, reader: &mut R) -> Result<Vec<u8>, Stop> {
+    let mut input = Vec::new(alloc);
+    let mut chunk = vec![in alloc; 0u8; CHUNK]?;
+    for _ in 0..=MAX_INPUT {
+        match reader.read(chunk.as_mut_slice()) {
+            Ok(0) => return Ok(input),
+            Ok(read) => input.extend_from_slice(&chunk.as_slice()[..read])?,
+            Err(error) if error.kind() == ErrorKind::Interrupted => {}
+            Err(error) => return Err(Stop::from(error)),
+        }
+        if is_too_large(input.as_slice()) {
+            return Ok(input);
+        }
+    }
+    Err(Stop::Device)
+}
+
+fn is_too_large(input: &[u8]) -> bool {
+    input.len() as u64 > MAX_INPUT
+}
+
+fn take_input<A: Actions, W: Write>(
+    alloc: Global,
+    writer: &mut W,
+    tables: &Tables<A::Stored>,
+    input: &[u8],
+) -> Result<(), Stop> {
+    if is_too_large(input) {
+        return Err(Stop::BadLine(0));
+    }
+    let mut folder = MemoryFolder::new(alloc);
+    let mut lines_before = 0u64;
+    for line in input.split(|byte| *byte == b'\n') {
+        take_line::<A, MemoryFolder, W>(alloc, &mut folder, writer, tables, line, lines_before)?;
+        lines_before = lines_before.saturating_add(1);
+    }
+    Ok(())
+}
+
+/// Takes a line, with as many lines before it.
+fn take_line<A: Actions, F: Folder, W: Write>(
+    alloc: Global,
+    folder: &mut F,
+    writer: &mut W,
+    tables: &Tables<A::Stored>,
+    line: &[u8],
+    lines_before: u64,
+) -> Result<(), Stop> {
+    let line = read_numbered(alloc, line, lines_before)?;
+    let text = line_text::<A, F>(alloc, folder, tables, line)?;
+    writer.write_all(text.as_slice())?;
+    Ok(())
+}
+
+/// Reads a line, and counts it from 1 where it is none.
+fn read_numbered(alloc: Global, line: &[u8], lines_before: u64) -> Result<Line, Stop>
+    ensures { IfErr result (λ stop. (stop ≡ stops.OutOfMemory) ⊎ (stop ≡ stops.BadLine (min (lines_before + 1) (2 ^ 64 - 1)))) }
+{
+    match read_line(alloc, line) {
+        Ok(line) => Ok(line),
+        Err(LineFault::BadLine) => Err(Stop::BadLine(lines_before.saturating_add(1))),
+        Err(LineFault::OutOfMemory) => Err(Stop::OutOfMemory),
+    }
+}
+
+/// Does what a line says, and answers what is printed of it.
+fn line_text<A: Actions, F: Folder>(
+    alloc: Global,
+    folder: &mut F,
+    tables: &Tables<A::Stored>,
+    line: Line,
+) -> Result<Vec<u8>, Stop> {
+    match line {
+        Line::Empty => Ok(Vec::new(alloc)),
+        Line::Put(place, bytes) => event_text::<A, F>(
+            alloc,
+            folder,
+            tables,
+            Event::Put(place, bytes),
+        ),
+        Line::Remove(place) => event_text::<A, F>(alloc, folder, tables, Event::Remove(place)),
+        Line::Lost => event_text::<A, F>(alloc, folder, tables, Event::Lost),
+        Line::Run(words) => build_text::<A, F>(alloc, folder, tables, words),
+        Line::Show(place) => shown_files(alloc, folder, &place),
+    }
+}
+
+/// Builds what the words ask for.
+fn build_text<A: Actions, F: Folder>(
+    alloc: Global,
+    folder: &mut F,
+    tables: &Tables<A::Stored>,
+    words: Vec<String>,
+) -> Result<Vec<u8>, Stop> {
+    match Invocation::read(alloc, words) {
+        Ok(invocation) => event_text::<A, F>(alloc, folder, tables, Event::Invoke(invocation)),
+        Err(fault) => Ok(not_built_text(alloc, &fault)?),
+    }
+}
+
+fn event_text<A: Actions, F: Folder>(
+    alloc: Global,
+    folder: &mut F,
+    tables: &Tables<A::Stored>,
+    event: Event,
+) -> Result<Vec<u8>, Stop> {
+    let answers = run_events::<A, F>(alloc, folder, tables, &[event])?;
+    match answers.as_slice().first() {
+        Some(answer) => Ok(answer_text(alloc, answer)?),
+        None => Ok(Vec::new(alloc)),
+    }
+}

@@ -1,0 +1,52 @@
+//! What is shown of the files at and beneath a place.
+ghost use Rattle.std.specs.Prelude.{◌≡◌, ◌++◌, IsTrue, IfOk, OnOk, string_bytes};
+ghost use Rattle.gb_replay.specs.Texts.{closing, shown_file, shown_files};
+
+use crate::stop::Stop;
+use gb_core::place::Place;
+use gb_folder::folder::Folder;
+use std::alloc::{AllocError, Global};
+
+/// What is shown of the files at and beneath the place.
+pub fn shown_files<F: Folder>(alloc: Global, folder: &mut F, place: &Place) -> Result<Vec<u8>, Stop>
+    ensures same { IsTrue F.tells → F.contents folder.new ≡ F.contents folder.old }
+    ensures shown { IsTrue F.tells → IfOk result (λ text. text.items ≡ shown_files (F.contents folder.old).files place.now) }
+{
+    let places = folder.list(alloc, place)?;
+    if places.is_empty() {
+        return Ok(b"== none\n".to_vec(alloc)?);
+    }
+    let mut text = Vec::new(alloc);
+    for place in places.iter() {
+        let bytes = folder.read(alloc, place, u64::MAX)?;
+        push_file(alloc, &mut text, place, bytes.as_slice())?;
+    }
+    Ok(text)
+}
+
+fn push_file(
+    alloc: Global,
+    text: &mut Vec<u8>,
+    place: &Place,
+    bytes: &[u8],
+) -> Result<(), AllocError>
+    ensures { OnOk result (text.new.items ≡ text.old.items ++ shown_file place.now bytes.now) }
+{
+    let length = bytes.len();
+    let head = format!(in alloc; "== {place} {length}\n")?;
+    text.extend_from_slice(head.as_bytes())?;
+    text.extend_from_slice(bytes)?;
+    text.extend_from_slice(closing(bytes))?;
+    Ok(())
+}
+
+/// The line feed that the last line lacks, if there is one.
+fn closing(bytes: &[u8]) -> &'static [u8]
+    ensures { result.now ≡ closing bytes.now }
+{
+    if bytes.is_empty() || bytes.ends_with(b"\n") {
+        b""
+    } else {
+        b"\n"
+    }
+}

@@ -1,0 +1,35 @@
+-- The text of each fault begins with its number.
+use Rattle.std.proofs.Common.{◌≡◌, ℕ, List, ◌∷◌, ◌++◌, refl}
+use Rattle.std.specs.Prelude.{decimal}
+use Rattle.std.specs.Fmt.{digits}
+use Rattle.gb_report.specs.declared.fault.Fault.{Fault}
+use Rattle.gb_report.specs.declared.fault.Fault.TheVariants as faults
+use Rattle.gb_report.specs.Fault.{fault_number, fault_text}
+use Rattle.gb_report.specs.Laws.{TextsBeginWithNumbers}
+
+pub begins_with_number : TextsBeginWithNumbers
+unfolding digits
+begins_with_number (faults.BadName text) = (_, refl)
+begins_with_number (faults.BadPlace text) = (_, refl)
+begins_with_number faults.OutOfMemory = (_, refl)
+begins_with_number (faults.Device place) = (_, refl)
+begins_with_number (faults.Missing place) = (_, refl)
+begins_with_number (faults.Blocked place) = (_, refl)
+begins_with_number (faults.TooLarge place) = (_, refl)
+begins_with_number (faults.BadFileName place) = (_, refl)
+begins_with_number (faults.Syntax script line) = (_, refl)
+begins_with_number (faults.TooLong script) = (_, refl)
+begins_with_number (faults.TooDeep script line) = (_, refl)
+begins_with_number (faults.NotUtf8 script) = (_, refl)
+begins_with_number (faults.UnknownAction name) = (_, refl)
+begins_with_number (faults.ActionFailed text) = (_, refl)
+begins_with_number (faults.BadArgument task name) = (_, refl)
+begins_with_number (faults.UnknownProject text) = (_, refl)
+begins_with_number (faults.TaskNotFound text) = (_, refl)
+begins_with_number (faults.BadShape task) = (_, refl)
+begins_with_number (faults.OutputOutsideBuild task place) = (_, refl)
+begins_with_number faults.NoTasks = (_, refl)
+begins_with_number (faults.TooManyFiles name) = (_, refl)
+begins_with_number (faults.OwnState place) = (_, refl)
+begins_with_number (faults.BadLine line) = (_, refl)
+begins_with_number faults.Usage = (_, refl)

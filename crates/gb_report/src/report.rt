@@ -1,0 +1,156 @@
+//! What became of each task of a build.
+ghost use Rattle.std.specs.Prelude.{◌≡◌, []};
+ghost use Rattle.std.specs.List.{list_any};
+ghost use Rattle.gb_report.specs.Outcome.{is_failed};
+
+use crate::fault::Fault;
+use gb_core::path::TaskPath;
+use gb_core::text::Texts;
+use std::alloc::Global;
+use std::marker::Model;
+
+/// What became of a task.
+#[derive(Debug, Drop)]
+pub enum Outcome {
+    /// Its actions ran to their end.
+    Executed,
+    /// Nothing was to be done.
+    UpToDate,
+    /// A test of its own said no, or the build is a dry run.
+    Skipped,
+    /// The files that it works on are none.
+    NoSource,
+    Failed(Fault),
+    /// Its turn did not come.
+    NotRun,
+}
+
+impl Outcome {
+    ghost use Rattle.gb_report.specs.Outcome.{is_executed, is_failed, is_started, is_up_to_date};
+
+    pub fn is_executed(&self) -> bool
+        ensures { result ≡ is_executed self.now }
+    {
+        matches!(self, Outcome::Executed)
+    }
+
+    pub fn is_up_to_date(&self) -> bool
+        ensures { result ≡ is_up_to_date self.now }
+    {
+        matches!(self, Outcome::UpToDate)
+    }
+
+    pub fn is_failed(&self) -> bool
+        ensures { result ≡ is_failed self.now }
+    {
+        matches!(self, Outcome::Failed(_))
+    }
+
+    /// Whether the task's turn came.
+    pub fn is_started(&self) -> bool
+        ensures { result ≡ is_started self.now }
+    {
+        !matches!(self, Outcome::NotRun)
+    }
+}
+
+/// What became of one task, and the lines that it printed.
+#[derive(Debug, Drop)]
+pub struct TaskReport {
+    pub path: TaskPath,
+    pub outcome: Outcome,
+    /// A task without actions is not counted in the last line.
+    pub has_actions: bool,
+    /// Without their line feeds.
+    pub lines: Texts,
+}
+
+impl TaskReport {
+    ghost use Rattle.gb_report.specs.Outcome.{counts_as_executed, counts_as_up_to_date, is_actionable};
+
+    /// Whether an action of it ran, to its end or not.
+    pub fn counts_as_executed(&self) -> bool
+        ensures { result ≡ counts_as_executed self.now }
+    {
+        self.has_actions && (self.outcome.is_executed() || self.outcome.is_failed())
+    }
+
+    /// Whether it has actions and needed no run.
+    pub fn counts_as_up_to_date(&self) -> bool
+        ensures { result ≡ counts_as_up_to_date self.now }
+    {
+        self.has_actions && self.outcome.is_up_to_date()
+    }
+
+    /// Whether the last line counts it.
+    pub fn is_actionable(&self) -> bool
+        ensures { result ≡ is_actionable self.now }
+    {
+        self.counts_as_executed() || self.counts_as_up_to_date()
+    }
+}
+
+/// The tasks of a build, in the order of their turns.
+#[derive(Debug, Drop)]
+pub struct TaskReports {
+    tasks: Vec<TaskReport>,
+}
+
+impl Model for TaskReports {
+    ghost use Rattle.std.specs.Prelude.{List};
+    ghost use Rattle.gb_report.specs.declared.report.TaskReport.{TaskReport};
+
+    ghost Value = { List TaskReport };
+
+    ghost view = { λ r. r.tasks.items };
+}
+
+impl TaskReports {
+    /// No task yet.
+    pub fn new(alloc: Global) -> TaskReports
+        ensures { result ≡ [] }
+    {
+        TaskReports {
+            tasks: Vec::new(alloc),
+        }
+    }
+
+    pub fn from_vec(tasks: Vec<TaskReport>) -> TaskReports
+        ensures { result ≡ tasks.items }
+    {
+        TaskReports { tasks }
+    }
+
+    pub fn as_slice(&self) -> &[TaskReport]
+        ensures { result.now ≡ self.now }
+    {
+        self.tasks.as_slice()
+    }
+}
+
+/// What a build answers.
+#[derive(Debug, Drop)]
+pub struct Report {
+    pub tasks: TaskReports,
+    /// Nothing ran: the tasks are those that would.
+    pub dry_run: bool,
+    /// One who hears of the tasks' turns gave up.
+    pub listener_refused: bool,
+}
+
+impl Report {
+    ghost use Rattle.gb_report.specs.Outcome.{is_successful};
+
+    /// Whether no task failed and no listener refused.
+    pub fn is_successful(&self) -> bool
+        ensures { result ≡ is_successful self.now }
+    {
+        !self.listener_refused && !has_failed(self.tasks.as_slice())
+    }
+}
+
+fn has_failed(tasks: &[TaskReport]) -> bool
+    ensures { result ≡ list_any (λ task. is_failed task.outcome) tasks.now }
+{
+    tasks.iter().any(|task| task.outcome.is_failed())
+}
