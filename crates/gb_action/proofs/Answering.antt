@@ -10,10 +10,10 @@ use Rattle.gb_action.specs.declared.reply.ActionFault.TheVariants.{ActionFailed}
 use Rattle.gb_action.specs.declared.request.Request.{Request}
 use Rattle.gb_action.specs.declared.shape.Shape.{Shape}
 
-never_both : (b : Bool) → b ≡ false → b ≡ true → ⊥
+pub never_both : (b : Bool) → b ≡ false → b ≡ true → ⊥
 never_both b f t = true≢false (sym t ∙ f)
 
-not_true : (b : Bool) → (b ≡ true → ⊥) → b ≡ false
+pub not_true : (b : Bool) → (b ≡ true → ⊥) → b ≡ false
 not_true true h = absurd (h refl)
 not_true false h = refl
 

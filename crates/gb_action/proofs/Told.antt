@@ -58,12 +58,12 @@ found_in (file ∷ files) path h = by (eq_by_cmp byte_order path file.0) refl (f
         let rest = later (ap (λ b. is_some (cond b (Some file.1) (file_at files path))) (sym e) ∙ h) in
         (rest.0, contains_later file files rest.0 rest.1, rest.2)
 
-in_order-find : (files : Tree) (path : List ℕ) → file_at (in_order files) path ≡ file_at files path
+pub in_order-find : (files : Tree) (path : List ℕ) → file_at (in_order files) path ≡ file_at files path
 in_order-find [] path = refl
 in_order-find (file ∷ files) path =
     find-put byte_order nat_list_cmp_total path file.0 file.1 (in_order files) ∙ ap (cond (eq_by_cmp byte_order path file.0) (Some file.1)) (in_order-find files path)
 
-either-find : (old new : Tree) (path : List ℕ) → file_at (old ++ new) path ≡ option_or (file_at old path) (file_at new path)
+pub either-find : (old new : Tree) (path : List ℕ) → file_at (old ++ new) path ≡ option_or (file_at old path) (file_at new path)
 either-find [] new path = refl
 either-find (file ∷ old) new path =
     elim (eq_by_cmp byte_order path file.0) as (λ b. cond b (Some file.1) (file_at (old ++ new) path) ≡ option_or (cond b (Some file.1) (file_at old path)) (file_at new path)) [

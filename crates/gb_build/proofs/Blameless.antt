@@ -9,11 +9,11 @@ use Rattle.gb_action.specs.Files.{byte_order}
 use Rattle.gb_action.specs.Meanings.{Meanings}
 use Rattle.gb_report.specs.declared.fault.Fault.{Fault}
 use Rattle.gb_report.specs.declared.fault.Fault.TheVariants as faults
-use Rattle.gb_script.specs.declared.script.Call.{Call}
-use Rattle.gb_script.specs.declared.script.Clause.{Clause}
-use Rattle.gb_script.specs.declared.script.Clause.TheVariants.{DoFirst, DoLast, OutputFile}
-use Rattle.gb_script.specs.declared.script.Registration.{Registration}
-use Rattle.gb_script.specs.declared.script.Statement.{Statement}
+use Rattle.gb_project.specs.declared.plain.Call.{Call}
+use Rattle.gb_project.specs.declared.plain.Clause.{Clause}
+use Rattle.gb_project.specs.declared.plain.Clause.TheVariants.{DoFirst, DoLast, OutputFile}
+use Rattle.gb_project.specs.declared.plain.Registration.{Registration}
+use Rattle.gb_project.specs.declared.plain.Statement.{Statement}
 use Rattle.gb_project.specs.Declaration.{call_faults, main_faults, clause_faults, statement_faults, is_misshapen, shape_faults, is_built, outside_faults, is_bad_argument, fit_of, argument_faults, task_faults, task_of, declaration_faults}
 use Rattle.gb_project.specs.Faults.{first_of}
 use Rattle.gb_project.specs.Task.{Rows, seen_outputs}

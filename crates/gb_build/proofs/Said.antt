@@ -1,10 +1,10 @@
 -- What the file of the script says.
-use Rattle.std.proofs.Common.{◌≡◌, ◌<◌, List, Option, None, Some, Result, Err, IsSomeAnd, length, refl, sym, ap, subst, ◌∙◌, inr}
+use Rattle.std.proofs.Common.{◌≡◌, ◌<◌, List, Option, None, Some, Result, Err, IsSomeAnd, length, refl, sym, ap, subst, ◌∙◌, inl, inr}
 use Rattle.gb_folder.specs.Files.{Place, Bytes, Files, IsFolder, file_at}
 use Rattle.gb_report.specs.declared.fault.Fault.{Fault}
 use Rattle.gb_report.specs.declared.fault.Fault.TheVariants as faults
 use Rattle.gb_script.specs.declared.fault.ScriptFault.TheVariants as scripts
-use Rattle.gb_script.specs.declared.script.Statement.{Statement}
+use Rattle.gb_project.specs.declared.plain.Statement.{Statement}
 use Rattle.gb_exec.proofs.Emptied.{free_at}
 use Rattle.gb_build.specs.Scripts.{FileSays, ScriptSays, script_place}
 
@@ -21,4 +21,4 @@ said_too_long files place sound at large = go (file_at files place) refl large
   where
     go : (o : Option Bytes) → file_at files place ≡ o → IsSomeAnd o (λ bytes. 1048576 < length bytes) → ScriptSays files (Err (faults.TooLong place))
     go None is h = absurd h
-    go (Some bytes) is h = said_by files place bytes (Err (faults.TooLong place)) sound at is (scripts.TooLong, h, ap faults.TooLong at)
+    go (Some bytes) is h = said_by files place bytes (Err (faults.TooLong place)) sound at is (inl (scripts.TooLong, h, ap faults.TooLong at))

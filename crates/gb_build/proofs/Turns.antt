@@ -10,7 +10,7 @@ use Rattle.gb_report.specs.declared.fault.Fault.TheVariants as faults
 use Rattle.gb_report.specs.declared.report.Outcome.{Outcome}
 use Rattle.gb_report.specs.declared.report.Outcome.TheVariants as outcomes
 use Rattle.gb_report.specs.declared.report.TaskReport.{TaskReport}
-use Rattle.gb_script.specs.declared.script.Registration.{Registration}
+use Rattle.gb_project.specs.declared.plain.Registration.{Registration}
 use Rattle.gb_project.specs.Declaration.{argument_faults, declaration_faults, lacks_actions, outside_faults, is_misshapen, shape_faults, statement_faults, task_faults, task_of}
 use Rattle.gb_project.specs.Task.{Rows, seen_outputs}
 use Rattle.gb_project.specs.declared.task.Action.{Action}

@@ -7,8 +7,8 @@ use Rattle.gb_report.specs.Outcome.{is_failed}
 use Rattle.gb_report.specs.declared.fault.Fault.{Fault}
 use Rattle.gb_report.specs.declared.report.Report.{Report}
 use Rattle.gb_report.specs.declared.report.TaskReport.{TaskReport}
-use Rattle.gb_script.specs.declared.script.Registration.{Registration}
-use Rattle.gb_script.specs.declared.script.Statement.{Statement}
+use Rattle.gb_project.specs.declared.plain.Registration.{Registration}
+use Rattle.gb_project.specs.declared.plain.Statement.{Statement}
 use Rattle.gb_action.specs.Meanings.{Meanings}
 use Rattle.gb_project.specs.Task.{Rows}
 use Rattle.gb_project.specs.Declaration.{declaration_faults, task_of}

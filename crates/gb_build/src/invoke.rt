@@ -18,10 +18,10 @@ use std::alloc::Global;
 
 /// Builds what is asked for.
 ///
-/// Refused, in this order, for the script (20 to 23; 10 and 12 of its place), for the words (64; then
-/// 1, 50 or 52 of the first that selects nothing) and for the declaration of the task (40, 2, 55, 56,
-/// 43); or for want of memory (3). A refused build leaves the folder as it was. What goes wrong later is
-/// told as the task's failure.
+/// Refused, in this order, for the script (20 to 23; 10 and 12 of its place; 20 at its last line where it
+/// says more than builds know so far), for the words (64; then 1, 50 or 52 of the first that selects
+/// nothing) and for the declaration of the task (40, 2, 55, 56, 43); or for want of memory (3). A refused
+/// build leaves the folder as it was. What goes wrong later is told as the task's failure.
 pub fn invoke<A: Actions, F: Folder>(
     alloc: Global,
     folder: &mut F,

@@ -2,23 +2,24 @@
 ghost use Rattle.std.specs.Prelude.{◌≡◌, ◌≢◌, ◌≤◌, ◌<◌, ◌⊎◌, ℕ, List, [], Some, Ok, Err, IsTrue, IfOk, IfErr, MatchResult, length};
 ghost use Rattle.gb_core.specs.Place.{is_place};
 ghost use Rattle.gb_folder.specs.Files.{HasRisen};
-ghost use Rattle.gb_script.specs.Script.{Says, Spells};
-ghost use Rattle.gb_script.specs.declared.fault.ScriptFault.{ScriptFault};
+ghost use Rattle.gb_script.specs.Lexing.{newlines};
+ghost use Rattle.gb_script.specs.Script.{Spells};
 ghost use Rattle.gb_exec.specs.Turn.{IsOfMachine};
-ghost use Rattle.gb_build.specs.Scripts.{ScriptSays, FileSays, in_script, script_place};
+ghost use Rattle.gb_build.specs.Scripts.{IsFaultOf, ScriptSays, SpellsPlain, last_line, script_place};
 
 use gb_core::place::Place;
 use gb_folder::folder::{Folder, FolderFault};
+use gb_project::plain::{Script, read_plain};
 use gb_report::fault::Fault;
 use gb_script::fault::ScriptFault;
-use gb_script::read_script;
-use gb_script::script::Script;
+use gb_script::{read_script, script};
 use std::alloc::Global;
 
 /// The most bytes of a script: 1 MiB.
 const MAX_SCRIPT: u64 = 1_048_576;
 
-/// Reads the script of the folder. Where there is none it is empty.
+/// Reads the script of the folder. Where there is none it is empty; where it says more than builds know so
+/// far it is refused at its last line (20).
 pub fn read_build_script<F: Folder>(alloc: Global, folder: &mut F) -> Result<Script, Fault>
     ensures count { F.failures folder.old ≤ F.failures folder.new }
     ensures blame { (place : List ℕ) → result ≡ Err (Fault.Device place) → HasRisen (F.failures folder.old) (F.failures folder.new) }
@@ -47,19 +48,51 @@ pub fn good_place(alloc: Global, text: &str) -> Result<Place, Fault>
     Place::read(alloc, text).map_err(|_fault| Fault::OutOfMemory)
 }
 
-/// The script that the bytes of the file at this place spell.
+/// The plain script that the bytes of the file at this place spell.
 fn spelled(alloc: Global, bytes: &[u8], place: Place) -> Result<Script, Fault>
     requires { place ≡ script_place }
     ensures { MatchResult result
-        (λ script. Spells bytes.now script)
-        (λ fault. (fault ≡ Fault.OutOfMemory) ⊎ ((told : ScriptFault) × Says bytes.now (Err told) × (fault ≡ in_script told))) }
+        (λ plain. SpellsPlain bytes.now plain)
+        (λ fault. (fault ≡ Fault.OutOfMemory) ⊎ IsFaultOf bytes.now fault) }
 {
     match read_script(alloc, bytes) {
-        Ok(script) => Ok(script),
+        Ok(script) => plain(alloc, &script, bytes, place),
         Err(ScriptFault::OutOfMemory) => Err(Fault::OutOfMemory),
         Err(ScriptFault::Syntax(line)) => Err(Fault::Syntax(place, line)),
         Err(ScriptFault::TooLong) => Err(Fault::TooLong(place)),
         Err(ScriptFault::TooDeep(line)) => Err(Fault::TooDeep(place, line)),
         Err(ScriptFault::NotUtf8) => Err(Fault::NotUtf8(place)),
     }
+}
+
+/// The script that the bytes spell, where builds know all of it.
+fn plain(
+    alloc: Global,
+    script: &script::Script,
+    bytes: &[u8],
+    place: Place,
+) -> Result<Script, Fault>
+    requires at { place ≡ script_place }
+    requires spelled { Spells bytes.now script.now }
+    ensures { MatchResult result
+        (λ plain. SpellsPlain bytes.now plain)
+        (λ fault. (fault ≡ Fault.OutOfMemory) ⊎ IsFaultOf bytes.now fault) }
+{
+    match read_plain(alloc, script)? {
+        Some(plain) => Ok(plain),
+        None => Err(Fault::Syntax(place, last_line(bytes))),
+    }
+}
+
+fn last_line(bytes: &[u8]) -> u64
+    requires { length bytes.now ≤ 1048576 }
+    ensures { result ≡ last_line bytes.now }
+{
+    1 + newlines(bytes) as u64
+}
+
+fn newlines(bytes: &[u8]) -> usize
+    ensures { result ≡ newlines bytes.now }
+{
+    bytes.iter().filter(|byte| **byte == b'\n').count()
 }

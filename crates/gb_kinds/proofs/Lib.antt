@@ -1,1 +1,6 @@
-pub mod TextKinds
+pub mod ByFileAnswers
+pub mod FileLaw
+pub mod OneFile
+pub mod Paths
+pub mod Taken
+pub mod Writing

@@ -6,8 +6,15 @@
 //! would then hang on that function's body.
 #![tactic(auto)]
 
+mod arguments;
 pub mod builtin;
+mod by_file;
+mod edit;
+pub mod files;
+mod names;
+mod one_file;
 pub mod shapes;
+mod source;
 pub mod table;
 #[cfg(test)]
 mod tests;

@@ -1,42 +1,118 @@
 //! All built-in actions by name.
-ghost use Rattle.std.specs.Prelude.{◌≡◌, ℕ, List, IfOk, IfErr, map};
+//!
+//! A program fills its table in three steps, so that few boxes are held at a time: each way out of
+//! a function lets go all boxes that it holds.
+ghost use Rattle.std.specs.Prelude.{◌≡◌, ◌++◌, ◌∷◌, [], ℕ, List, false, bytes_eq, IfErr, OnOk, map};
+ghost use Rattle.std.specs.List.{list_any};
 ghost use Rattle.gb_action.specs.declared.table.TableFault.TheVariants.{OutOfMemory};
-ghost use Rattle.gb_kinds.specs.Builtin.{StandsFor, builtin_names};
+ghost use Rattle.gb_kinds.specs.Builtin.{StandsFor, builtin_shape, builtin_names, text_names, file_names};
 
 use crate::builtin::{Run, StoredAction};
-use crate::shapes::{FAIL, PRINT_LINE, WRITE_TEXT, fail_shape, print_line_shape, write_text_shape};
+use crate::shapes::{
+    ADD_FILE, CONCAT, COPY_FILES, FAIL, KEEP_LINES, PRINT_LINE, REPLACE_TOKENS, SUMS, WRITE_TEXT,
+    add_file_shape, concat_shape, copy_files_shape, fail_shape, keep_lines_shape, print_line_shape,
+    replace_tokens_shape, sums_shape, write_text_shape,
+};
+use gb_action::shape::Shape;
 use gb_action::table::{ActionTable, TableFault};
 use gb_core::name::Name;
 use std::alloc::Global;
 
-/// The table of the built-in actions, from the closures that the program made of the kinds'
-/// functions. All kinds have version 1.
-pub fn builtin_table(
+/// Adds the kinds that read no files to an empty table. All kinds have version 1.
+pub fn add_text_kinds(
     alloc: Global,
+    table: &mut ActionTable<StoredAction>,
     print_line: Run,
     write_text: Run,
     fail: Run,
-) -> Result<ActionTable<StoredAction>, TableFault>
+) -> Result<(), TableFault>
     requires print_line { StandsFor PRINT_LINE (Run.pre print_line) (Run.post print_line) }
     requires write_text { StandsFor WRITE_TEXT (Run.pre write_text) (Run.post write_text) }
     requires fail { StandsFor FAIL (Run.pre fail) (Run.post fail) }
-    ensures kinds { IfOk result (λ table. map {B = List ℕ × ℕ × ℕ} (λ e. (e.0, e.1.kind, e.1.version)) table ≡ builtin_names) }
+    requires before { map {B = List ℕ × ℕ × ℕ} (λ e. (e.0, e.1.kind, e.1.version)) table.old ≡ [] }
+    ensures ok { OnOk result (map {B = List ℕ × ℕ × ℕ} (λ e. (e.0, e.1.kind, e.1.version)) table.new ≡ text_names) }
     ensures err { IfErr result (λ fault. fault ≡ OutOfMemory) }
 {
-    let print_line = StoredAction::new(PRINT_LINE, 1, print_line_shape(alloc)?, print_line);
-    let write_text = StoredAction::new(WRITE_TEXT, 1, write_text_shape(alloc)?, write_text);
-    let fail = StoredAction::new(FAIL, 1, fail_shape(alloc)?, fail);
-    let mut table = ActionTable::new(alloc);
-    table.add(&kind_name(alloc, "printLine")?, print_line)?;
-    table.add(&kind_name(alloc, "writeText")?, write_text)?;
-    table.add(&kind_name(alloc, "fail")?, fail)?;
-    Ok(table)
+    let shape = print_line_shape(alloc)?;
+    add(alloc, table, "printLine", PRINT_LINE, shape, print_line)?;
+    let shape = write_text_shape(alloc)?;
+    add(alloc, table, "writeText", WRITE_TEXT, shape, write_text)?;
+    let shape = fail_shape(alloc)?;
+    add(alloc, table, "fail", FAIL, shape, fail)?;
+    Ok(())
 }
 
-/// The name of a kind.
-fn kind_name(alloc: Global, name: &str) -> Result<Name, TableFault>
-    ensures ok { IfOk result (λ made. made ≡ name.now) }
+/// Adds the kinds that work file by file, behind those that read no files.
+pub fn add_file_kinds(
+    alloc: Global,
+    table: &mut ActionTable<StoredAction>,
+    copy_files: Run,
+    replace_tokens: Run,
+    keep_lines: Run,
+    sums: Run,
+) -> Result<(), TableFault>
+    requires copy_files { StandsFor COPY_FILES (Run.pre copy_files) (Run.post copy_files) }
+    requires replace_tokens { StandsFor REPLACE_TOKENS (Run.pre replace_tokens) (Run.post replace_tokens) }
+    requires keep_lines { StandsFor KEEP_LINES (Run.pre keep_lines) (Run.post keep_lines) }
+    requires sums { StandsFor SUMS (Run.pre sums) (Run.post sums) }
+    requires before { map {B = List ℕ × ℕ × ℕ} (λ e. (e.0, e.1.kind, e.1.version)) table.old ≡ text_names }
+    ensures ok { OnOk result (map {B = List ℕ × ℕ × ℕ} (λ e. (e.0, e.1.kind, e.1.version)) table.new ≡ text_names ++ file_names) }
     ensures err { IfErr result (λ fault. fault ≡ OutOfMemory) }
 {
-    Name::read(alloc, name).map_err(|_| TableFault::OutOfMemory)
+    let shape = copy_files_shape(alloc)?;
+    add(alloc, table, "copyFiles", COPY_FILES, shape, copy_files)?;
+    let shape = replace_tokens_shape(alloc)?;
+    add(
+        alloc,
+        table,
+        "replaceTokens",
+        REPLACE_TOKENS,
+        shape,
+        replace_tokens,
+    )?;
+    let shape = keep_lines_shape(alloc)?;
+    add(alloc, table, "keepLines", KEEP_LINES, shape, keep_lines)?;
+    let shape = sums_shape(alloc)?;
+    add(alloc, table, "sums", SUMS, shape, sums)?;
+    Ok(())
+}
+
+/// Adds the other kinds that write one file, behind all others.
+pub fn add_one_file_kinds(
+    alloc: Global,
+    table: &mut ActionTable<StoredAction>,
+    concat: Run,
+    add_file: Run,
+) -> Result<(), TableFault>
+    requires concat { StandsFor CONCAT (Run.pre concat) (Run.post concat) }
+    requires add_file { StandsFor ADD_FILE (Run.pre add_file) (Run.post add_file) }
+    requires before { map {B = List ℕ × ℕ × ℕ} (λ e. (e.0, e.1.kind, e.1.version)) table.old ≡ text_names ++ file_names }
+    ensures ok { OnOk result (map {B = List ℕ × ℕ × ℕ} (λ e. (e.0, e.1.kind, e.1.version)) table.new ≡ builtin_names) }
+    ensures err { IfErr result (λ fault. fault ≡ OutOfMemory) }
+{
+    let shape = concat_shape(alloc)?;
+    add(alloc, table, "concat", CONCAT, shape, concat)?;
+    let shape = add_file_shape(alloc)?;
+    add(alloc, table, "addFile", ADD_FILE, shape, add_file)?;
+    Ok(())
+}
+
+/// Adds a kind under a name that no other has.
+fn add(
+    alloc: Global,
+    table: &mut ActionTable<StoredAction>,
+    name: &str,
+    kind: u16,
+    shape: Shape,
+    run: Run,
+) -> Result<(), TableFault>
+    requires shaped { shape ≡ builtin_shape kind }
+    requires stands { StandsFor kind (Run.pre run) (Run.post run) }
+    requires other { list_any (λ e. bytes_eq e.0 name.now) (map {B = List ℕ × ℕ × ℕ} (λ e. (e.0, e.1.kind, e.1.version)) table.old) ≡ false }
+    ensures ok { OnOk result (map {B = List ℕ × ℕ × ℕ} (λ e. (e.0, e.1.kind, e.1.version)) table.new ≡ map {B = List ℕ × ℕ × ℕ} (λ e. (e.0, e.1.kind, e.1.version)) table.old ++ (name.now, kind, 1) ∷ []) }
+    ensures err { IfErr result (λ fault. fault ≡ OutOfMemory) }
+{
+    let stored = StoredAction::new(kind, 1, shape, run);
+    let name = Name::read(alloc, name).map_err(|_| TableFault::OutOfMemory)?;
+    table.add(&name, stored)
 }

@@ -4,8 +4,8 @@ use Rattle.std.proofs.Math.Seq.{drop-cons}
 use Rattle.std.specs.List.{flat_map}
 use Rattle.gb_report.specs.declared.fault.Fault.{Fault}
 use Rattle.gb_report.specs.declared.fault.Fault.TheVariants.{OutOfMemory}
-use Rattle.gb_script.specs.declared.script.Registration.{Registration}
-use Rattle.gb_script.specs.declared.script.Statement.{Statement}
+use Rattle.gb_project.specs.declared.plain.Registration.{Registration}
+use Rattle.gb_project.specs.declared.plain.Statement.{Statement}
 use Rattle.gb_project.specs.Faults.{first_of, IsFirstFault}
 use Rattle.gb_project.specs.Words.{word_faults, words_faults, found_unless, selected}
 

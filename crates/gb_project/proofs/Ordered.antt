@@ -3,8 +3,8 @@ use Rattle.std.proofs.Common.{◌≡◌, ℕ, suc, ◌+◌, ◌<◌, List, [], �
 use Rattle.std.proofs.Math.Seq.{drop-cons}
 use Rattle.std.proofs.lemmas.List.{reverse-append}
 use Rattle.std.specs.List.{flat_map}
-use Rattle.gb_script.specs.declared.script.Clause.{Clause}
-use Rattle.gb_script.specs.declared.script.Clause.TheVariants.{DoFirst, DoLast, OutputFile}
+use Rattle.gb_project.specs.declared.plain.Clause.{Clause}
+use Rattle.gb_project.specs.declared.plain.Clause.TheVariants.{DoFirst, DoLast, OutputFile}
 use Rattle.gb_project.specs.Declaration.{action_of, first_action, last_action, with_action}
 use Rattle.gb_project.specs.declared.task.Action.{Action}
 

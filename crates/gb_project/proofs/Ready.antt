@@ -10,10 +10,10 @@ use Rattle.gb_action.specs.declared.shape.Fit.{Fit}
 use Rattle.gb_action.specs.declared.shape.Fit.TheVariants as fits
 use Rattle.gb_report.specs.declared.fault.Fault.{Fault}
 use Rattle.gb_report.specs.declared.fault.Fault.TheVariants as faults
-use Rattle.gb_script.specs.declared.script.Call.{Call}
-use Rattle.gb_script.specs.declared.script.Clause.{Clause}
-use Rattle.gb_script.specs.declared.script.Clause.TheVariants.{DoFirst, DoLast, OutputFile}
-use Rattle.gb_script.specs.declared.script.Registration.{Registration}
+use Rattle.gb_project.specs.declared.plain.Call.{Call}
+use Rattle.gb_project.specs.declared.plain.Clause.{Clause}
+use Rattle.gb_project.specs.declared.plain.Clause.TheVariants.{DoFirst, DoLast, OutputFile}
+use Rattle.gb_project.specs.declared.plain.Registration.{Registration}
 use Rattle.gb_project.specs.Faults.{first_of}
 use Rattle.gb_project.specs.Task.{Rows, seen_outputs, IsReadyAction, IsReady}
 use Rattle.gb_project.specs.Declaration.{first_action, last_action, main_action, actions_of, is_built, outside_faults, call_faults, main_faults, clause_faults, statement_faults, fit_of, is_bad_shape, is_bad_argument, is_misshapen, lacks_actions, shape_faults, argument_faults, task_faults}

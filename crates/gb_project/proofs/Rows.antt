@@ -1,12 +1,12 @@
 -- Worked words and registrations, by computation.
-use Rattle.std.proofs.Common.{◌≡◌, ℕ, List, [], ◌∷◌, None, Some, Result, Ok, Err, refl, map}
+use Rattle.std.proofs.Common.{◌≡◌, ℕ, List, [], ◌∷◌, None, Ok, Err, refl}
 use Rattle.std.specs.Prelude.{codes}
 use Rattle.gb_report.specs.declared.fault.Fault.TheVariants as faults
-use Rattle.gb_script.specs.declared.script.Call.{Call}
-use Rattle.gb_script.specs.declared.script.Clause.TheVariants.{DoFirst, DoLast, OutputFile}
-use Rattle.gb_script.specs.declared.script.Registration.{Registration}
-use Rattle.gb_script.specs.declared.script.Statement.{Statement}
-use Rattle.gb_script.specs.declared.script.Statement.TheVariants.{Register}
+use Rattle.gb_project.specs.declared.plain.Call.{Call}
+use Rattle.gb_project.specs.declared.plain.Clause.TheVariants.{DoFirst, DoLast}
+use Rattle.gb_project.specs.declared.plain.Registration.{Registration}
+use Rattle.gb_project.specs.declared.plain.Statement.{Statement}
+use Rattle.gb_project.specs.declared.plain.Statement.TheVariants.{Register}
 use Rattle.gb_project.specs.Declaration.{actions_of, outside_faults}
 use Rattle.gb_project.specs.Words.{selected}
 use Rattle.gb_project.specs.declared.task.Action.{Action}

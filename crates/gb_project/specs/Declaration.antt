@@ -13,10 +13,10 @@ use Rattle.gb_action.specs.declared.shape.Fit.{Fit}
 use Rattle.gb_action.specs.declared.shape.Fit.TheVariants as fits
 use Rattle.gb_report.specs.declared.fault.Fault.{Fault}
 use Rattle.gb_report.specs.declared.fault.Fault.TheVariants as faults
-use Rattle.gb_script.specs.declared.script.Call.{Call}
-use Rattle.gb_script.specs.declared.script.Clause.{Clause}
-use Rattle.gb_script.specs.declared.script.Clause.TheVariants.{DoFirst, DoLast, OutputFile}
-use Rattle.gb_script.specs.declared.script.Registration.{Registration}
+use Rattle.gb_project.specs.declared.plain.Call.{Call}
+use Rattle.gb_project.specs.declared.plain.Clause.{Clause}
+use Rattle.gb_project.specs.declared.plain.Clause.TheVariants.{DoFirst, DoLast, OutputFile}
+use Rattle.gb_project.specs.declared.plain.Registration.{Registration}
 use Rattle.gb_project.specs.Task.{Rows, seen_outputs}
 use Rattle.gb_project.specs.declared.task.Action.{Action}
 use Rattle.gb_project.specs.declared.task.Output.{Output}

@@ -4,9 +4,9 @@ use Rattle.std.specs.List.{flat_map}
 use Rattle.gb_core.specs.Path.{is_task_path, project_of, task_name}
 use Rattle.gb_report.specs.declared.fault.Fault.{Fault}
 use Rattle.gb_report.specs.declared.fault.Fault.TheVariants.{BadName, UnknownProject, TaskNotFound, NoTasks}
-use Rattle.gb_script.specs.declared.script.Registration.{Registration}
-use Rattle.gb_script.specs.declared.script.Statement.{Statement}
-use Rattle.gb_script.specs.declared.script.Statement.TheVariants.{Register}
+use Rattle.gb_project.specs.declared.plain.Registration.{Registration}
+use Rattle.gb_project.specs.declared.plain.Statement.{Statement}
+use Rattle.gb_project.specs.declared.plain.Statement.TheVariants.{Register}
 use Rattle.gb_project.specs.Faults.{first_of}
 
 -- the word as a path: a word that does not begin with a colon is seen from the root project

@@ -4,9 +4,10 @@ ghost use Rattle.std.specs.List.{list_any, list_all};
 ghost use Rattle.gb_core.specs.declared.value.Value.TheVariants as values;
 ghost use Rattle.gb_project.specs.Task.{seen_outputs, IsReady};
 ghost use Rattle.gb_project.specs.Faults.{TellsFirst};
-ghost use Rattle.gb_script.specs.declared.script.Clause.TheVariants as clauses;
+ghost use Rattle.gb_project.specs.declared.plain.Clause.TheVariants as clauses;
 ghost use Rattle.gb_project.specs.Declaration.{action_of, actions_of, argument_faults, call_faults, clause_output, declaration_faults, fit_of, is_bad_shape, is_built, lacks_actions, outputs_of, outside_faults, place_faults, statement_faults, task_faults, task_of, with_action};
 
+use crate::plain::{Call, Clause, OutputFile, Registration};
 use crate::tables::Tables;
 use crate::task::{Action, Output, Outputs, TaskDeclaration};
 use gb_action::actions::Actions;
@@ -22,7 +23,6 @@ use gb_core::place::{Place, PlaceFault, lies_beneath};
 use gb_core::text::{Text, Texts};
 use gb_core::value::Value;
 use gb_report::fault::Fault;
-use gb_script::script::{Call, Clause, OutputFile, Registration};
 use std::alloc::{AllocError, Global};
 
 /// The task of a registration. Its own faults come first, in the order of the script: an action

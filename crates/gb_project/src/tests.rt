@@ -4,6 +4,7 @@ ghost use Rattle.gb_action.specs.declared.output.Form.TheVariants.{File};
 ghost use Rattle.gb_action.specs.declared.shape.Arg.TheVariants.{Line};
 
 use crate::declaring::declare;
+use crate::plain::{Script, read_plain};
 use crate::tables::Tables;
 use crate::task::TaskDeclaration;
 use crate::words::select;
@@ -70,9 +71,16 @@ fn variant(alloc: Global, fault: &Fault) -> Result<String, Fail> {
     }
 }
 
+/// The plain script that a text is, if it is one.
+fn plain(alloc: Global, text: &str) -> Result<Option<Script>, Fail> {
+    Ok(read_plain(alloc, &read_script(alloc, text.as_bytes())?)?)
+}
+
 /// The task that the words select of a script with the task `gen`, or the fault.
 fn selected(alloc: Global, words: &[&str]) -> Result<String, Fail> {
-    let script = read_script(alloc, b"register gen { }")?;
+    let Some(script) = plain(alloc, "register gen { }")? else {
+        return Ok(String::from_str(alloc, "not plain")?);
+    };
     let mut texts = Vec::new(alloc);
     for word in words {
         texts.push(Text::from_str(alloc, word)?)?;
@@ -140,7 +148,9 @@ fn declared(alloc: Global, text: &str) -> Result<String, Fail> {
         actions.add(&Name::read(alloc, name)?, make_writer(alloc)?)?;
     }
     let tables = Tables { actions };
-    let script = read_script(alloc, text.as_bytes())?;
+    let Some(script) = plain(alloc, text)? else {
+        return Ok(String::from_str(alloc, "not plain")?);
+    };
     let registration = select(alloc, &script, &[Text::from_str(alloc, "gen")?]).map_err(
         |_fault| NameFault::BadName,
     )?;
@@ -223,6 +233,27 @@ fn the_first_fault_is_told(rt: HostRuntime) -> Result<(), Fail> {
     ];
     for (text, want) in cases {
         assert_eq!(rt; declared(rt.alloc(), text)?.as_str(), want, "at {text}");
+    }
+    Ok(())
+}
+
+#[test]
+fn what_says_more_is_not_plain(rt: HostRuntime) -> Result<(), Fail> {
+    let alloc = rt.alloc();
+    assert_eq!(rt; plain(alloc, "")?.is_some(), true);
+    for text in [
+        "property p register gen { }",
+        "register gen { } register other { }",
+        "register gen { outputFile a = file(\"a\") outputFile b = file(\"b\") }",
+        "register gen { outputFile a = file(\"a\").orElse(file(\"b\")) }",
+        "register gen { outputFile a = \"a\" }",
+        "register gen { outputDir a = dir(\"a\") }",
+        "register gen { dependsOn \"other\" }",
+        "register gen : a(true) { }",
+        "register gen { doLast a(\"1\", p) }",
+        "register gen { doFirst a(\"1\".map(f)) }",
+    ] {
+        assert_eq!(rt; declared(alloc, text)?.as_str(), "not plain", "at {text}");
     }
     Ok(())
 }

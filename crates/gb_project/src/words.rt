@@ -6,11 +6,11 @@ ghost use Rattle.gb_report.specs.declared.fault.Fault.TheVariants.{BadName, OutO
 ghost use Rattle.gb_project.specs.Faults.{TellsFirst};
 ghost use Rattle.gb_project.specs.Words.{absolute, registered, task_named, word_faults, selected};
 
+use crate::plain::{Registration, Script, Statement};
 use gb_core::name::NameFault;
 use gb_core::path::TaskPath;
 use gb_core::text::Text;
 use gb_report::fault::Fault;
-use gb_script::script::{Registration, Script, Statement};
 use std::alloc::{AllocError, Global};
 
 /// The task that a build runs for these words. The first word at fault decides: it is no path

@@ -8,8 +8,9 @@
 
 use crate::replay::replay;
 use crate::stop::Stop;
+use gb_action::table::ActionTable;
 use gb_kinds::builtin::{Builtin, Run};
-use gb_kinds::table::builtin_table;
+use gb_kinds::table::add_text_kinds;
 use gb_kinds::texts::{fail, print_line, write_text};
 use gb_project::tables::Tables;
 use std::io::{self, BufWriter};
@@ -25,12 +26,12 @@ mod texts;
 
 fn main(rt: HostRuntime) -> Result<ExitCode, Stop> {
     let alloc = rt.alloc();
+    let mut actions = ActionTable::new(alloc);
     let print_line: Run = Box::new(alloc, print_line)?;
     let write_text: Run = Box::new(alloc, write_text)?;
     let fail: Run = Box::new(alloc, fail)?;
-    let tables = Tables {
-        actions: builtin_table(alloc, print_line, write_text, fail)?,
-    };
+    add_text_kinds(alloc, &mut actions, print_line, write_text, fail)?;
+    let tables = Tables { actions };
     let mut writer = BufWriter::new(alloc, io::writer(&rt))?;
     let status = replay::<Builtin, _, _>(alloc, &mut rt.reader(), &mut writer, &tables);
     Ok(ExitCode::from(status))

@@ -1,7 +1,8 @@
 //! Whole replays, and what fails outside.
 use crate::replay::replay;
+use gb_action::table::ActionTable;
 use gb_kinds::builtin::{Builtin, Run};
-use gb_kinds::table::builtin_table;
+use gb_kinds::table::add_text_kinds;
 use gb_kinds::texts::{fail, print_line, write_text};
 use gb_project::tables::Tables;
 use std::alloc::Global;
@@ -10,12 +11,12 @@ use std::test::Fail;
 
 /// Replays the input, and answers the output and the status.
 fn replayed(alloc: Global, input: &str) -> Result<(String, u8), Fail> {
+    let mut actions = ActionTable::new(alloc);
     let print_line: Run = Box::new(alloc, print_line)?;
     let write_text: Run = Box::new(alloc, write_text)?;
     let fail: Run = Box::new(alloc, fail)?;
-    let tables = Tables {
-        actions: builtin_table(alloc, print_line, write_text, fail)?,
-    };
+    add_text_kinds(alloc, &mut actions, print_line, write_text, fail)?;
+    let tables = Tables { actions };
     let mut writer = Vec::new(alloc);
     let mut reader = input.as_bytes();
     let status = replay::<Builtin, _, _>(alloc, &mut reader, &mut writer, &tables);
@@ -110,6 +111,18 @@ fn bad_syntax_and_the_own_folder_are_refused(rt: HostRuntime) -> Result<(), Fail
     Ok(())
 }
 
+#[test]
+fn a_script_that_says_more_is_refused_at_its_last_line(rt: HostRuntime) -> Result<(), Fail> {
+    let input =
+        "put build.gb register a { doLast printLine(\"a\") }\\nregister b { }\nrun a\nshow build\nput build.gb property p\\n\\n\nrun p\n";
+    let want =
+        "REFUSED 20 syntax build.gb:2\nBUILD FAILED\n== none\nREFUSED 20 syntax build.gb:3\nBUILD FAILED\n";
+    let (output, status) = replayed(rt.alloc(), input)?;
+    assert_eq!(rt; output.as_str(), want);
+    assert_eq!(rt; status, 0);
+    Ok(())
+}
+
 /// Gives a part of a line and then fails.
 #[derive(Drop)]
 struct FailingReader {
@@ -144,12 +157,12 @@ impl Write for FailingWriter {
 #[test]
 fn a_failing_device_ends_the_replay(rt: HostRuntime) -> Result<(), Fail> {
     let alloc = rt.alloc();
+    let mut actions = ActionTable::new(alloc);
     let print_line: Run = Box::new(alloc, print_line)?;
     let write_text: Run = Box::new(alloc, write_text)?;
     let fail: Run = Box::new(alloc, fail)?;
-    let tables = Tables {
-        actions: builtin_table(alloc, print_line, write_text, fail)?,
-    };
+    add_text_kinds(alloc, &mut actions, print_line, write_text, fail)?;
+    let tables = Tables { actions };
     let mut output = Vec::new(alloc);
     let mut reader = FailingReader { is_begun: false };
     let status = replay::<Builtin, _, _>(alloc, &mut reader, &mut output, &tables);

@@ -1,7 +1,11 @@
 pub mod Runs
 pub mod Contents
 pub mod Scans
+pub mod Cuts
+pub mod Pieces
 pub mod Loop
+pub mod Steps
+pub mod Files
 pub mod Readers
 pub mod Singles
 pub mod Opens
@@ -10,7 +14,11 @@ pub mod Many
 pub mod Lists
 pub mod Whole
 pub mod Verdicts
-pub mod Parts
-pub mod Cuts
-pub mod Pieces
+pub mod Combined
+pub mod TextLaws
+pub mod Limited
+pub mod ValueLaws
+pub mod ClauseLaws
+pub mod StatementLaws
 pub mod Sources
+pub mod Rows

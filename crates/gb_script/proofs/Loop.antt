@@ -1,13 +1,13 @@
 -- A loop that reads one after another gives what many_at gives.
-use Rattle.std.proofs.Common.{◌≡◌, ℕ, zero, suc, ◌+◌, ◌<◌, Bool, true, false, List, [], ◌∷◌, ◌++◌, length, Result, Ok, Err, refl, sym, ap, ◌∙◌, append_assoc, arith, length-append}
-use Rattle.std.proofs.lemmas.List.{append-nil}
+use Rattle.std.proofs.Common.{◌≡◌, ℕ, zero, suc, ◌+◌, ◌<◌, Bool, true, false, List, [], ◌∷◌, ◌++◌, length, map, Result, Ok, Err, refl, sym, ap, ◌∙◌, append_assoc, arith, length-append}
+use Rattle.std.proofs.lemmas.List.{append-nil, map-append}
 use Rattle.gb_script.specs.declared.stop.Fault.{Fault}
 use Rattle.gb_script.specs.declared.stop.Stop.{Stop}
 use Rattle.gb_script.specs.declared.stop.Stop.TheVariants as stops
 use Rattle.gb_script.specs.declared.token.Sign.TheVariants.{Comma}
 use Rattle.gb_script.specs.declared.token.Token.{Token}
 use Rattle.gb_script.specs.Lexing.{begins}
-use Rattle.gb_script.specs.Reading.{Reader, ◌>>=◌, Fails, is_sign, past_at, many_at, list_at, no_matter}
+use Rattle.gb_script.specs.Reading.{Reader, ◌>>=◌, Fails, deep, is_sign, past_at, many_at, list_at, no_matter}
 
 abbrev pub with_front : {A : Type 0} → List A → Result (List A × List Token) Fault → Result (List A × List Token) Fault
 with_front front read = read >>= λ x. Ok (front ++ x.0, x.1)
@@ -42,6 +42,12 @@ module _ {S A : Type 0} (test : Token → Bool) (next : S → A → S) (r : S �
   none_left zero s ts over = rw over refl
   none_left (suc n) s ts over = rw over refl
 
+  pub too_many : (front : List A) (n : ℕ) (s : S) (ts : List Token) (total : Result (List A × List Token) Fault) → begins test ts ≡ true → n ≡ 0 → with_front front (many_at test next r n s ts) ≡ total → total ≡ deep ts
+  unfolding many_at
+  too_many front n s ts total begun none so_far =
+      let here : with_front front (many_at test next r n s ts) ≡ deep ts = rw (none, begun) refl in
+      sym so_far ∙ here
+
   pub is_done : (front : List A) (n : ℕ) (s : S) (ts : List Token) (total : Result (List A × List Token) Fault) → begins test ts ≡ false → with_front front (many_at test next r n s ts) ≡ total → total ≡ Ok (front, ts)
   is_done front n s ts total over so_far =
       sym so_far ∙ (ap (with_front front) (none_left n s ts over) ∙ ap (λ (xs : List A). Ok (xs, ts)) (append-nil front))
@@ -66,3 +72,6 @@ begins_some test (t ∷ ts) h = omega arith
 
 pub one_longer : {A : Type 0} (old new : List A) (x : A) → new ≡ old ++ x ∷ [] → length new ≡ length old + 1
 one_longer old new x e = ap length e ∙ length-append old (x ∷ [])
+
+pub pushed : {X A : Type 0} (f : X → A) (old new : List X) (x : X) → new ≡ old ++ x ∷ [] → map f new ≡ map f old ++ f x ∷ []
+pushed f old new x e = ap (map f) e ∙ map-append f old (x ∷ [])

@@ -1,6 +1,8 @@
 -- Readers of one token, by their laws.
 use Rattle.std.proofs.Common.{◌≡◌, ℕ, Bool, true, false, List, [], ◌∷◌, ◌++◌, length, Option, Some, None, Ok, Err, refl, sym, ap, ◌∙◌, inl, inr}
-use Rattle.std.specs.Prelude.{drop, IsTrue}
+use Rattle.std.specs.Prelude.{drop, IsTrue, not, ◌&&◌}
+use Rattle.std.specs.List.{AllByRecursion}
+use Rattle.std.specs.Str.{bytes_eq}
 use Rattle.std.proofs.lemmas.Bool.{eqb-true}
 use Rattle.std.proofs.lemmas.Slice.Eq.{bytes_eq-Decides}
 use Rattle.gb_core.specs.Name.{is_name}
@@ -13,9 +15,12 @@ use Rattle.gb_script.specs.declared.stop.Fault.TheVariants.{Stray, Deep}
 use Rattle.gb_script.specs.Lexing.{begins, sign_byte}
 use Rattle.gb_script.specs.Scanning.{sign_of}
 use Rattle.gb_script.specs.Grammar.{Leveled, tokens_of}
-use Rattle.gb_script.specs.Reading.{Reader, ◌>>=◌, stray, is_sign, is_word, skip_at, name_at, text_at, found_at, meaning_at}
+use Rattle.gb_script.specs.Fits.{IsName, IsProperty}
+use Rattle.gb_script.specs.Words.{Meanings, meaning_in, is_reserved}
+use Rattle.gb_script.specs.Reading.{Reader, ◌>>=◌, stray, is_sign, is_word, skip_at, name_at, property_at, text_at, found_at, meaning_at}
 use Rattle.gb_script.proofs.Runs.{cases_bool}
-use Rattle.gb_script.proofs.Readers.{Reads, StrayIn, DeepIn, always, done, ok_is, bind_ok, bind_err}
+use Rattle.gb_script.specs.Verdict.{IsWithin}
+use Rattle.gb_script.proofs.Readers.{Reads, StrayIn, DeepIn, always, done, ok_is, bind_ok, bind_err, checked}
 
 -- ---- tests of a token
 
@@ -111,9 +116,9 @@ pub skip_fails : (test : Token → Bool) (ts : List Token) → begins test ts �
 unfolding skip_at
 skip_fails test ts h = rw h refl
 
-module _ {B : Type 0} {P : B → Type 0} {marks : B → List Leveled} {e : B → Option Token → Bool} {r : Reader B} {test : Token → Bool} {m : Token} (T : IsTestOf test m) (R : Reads P marks e r) (some : (b : B) × P b) where
+module _ {B : Type 0} {P : B → Type 0} {marks : B → List Leveled} {e : B → Option Token → Bool} {r : Reader B} {test : Token → Bool} {m : Token} (T : IsTestOf test m) (R : Reads P marks e r) (some : (b : B) × P b) (v : ℕ) (low : IsWithin (m, v)) where
   abbrev behind : B → List Leveled
-  behind b = (m, 0) ∷ marks b
+  behind b = (m, v) ∷ marks b
 
   abbrev skipped : Reader B
   skipped ts = skip_at test ts >>= r
@@ -141,13 +146,13 @@ module _ {B : Type 0} {P : B → Type 0} {marks : B → List Leveled} {e : B →
             record {
               value = t.value;
               fits = t.fits;
-              front = (m, 0) ∷ t.front;
+              front = (m, v) ∷ t.front;
               more = t.more;
               bad = t.bad;
-              whole = ap (λ (l : List Leveled). (m, 0) ∷ l) t.whole;
+              whole = ap (λ (l : List Leveled). (m, v) ∷ l) t.whole;
               spelled = ts-is ∙ ap (λ (l : List Token). m ∷ l) t.spelled;
               size = t.size;
-              within = (refl, t.within);
+              within = (low, t.within);
               only = λ b rest other at. ap (λ read. read >>= r) (skip_again T (tokens_of t.front ++ b ∷ other)) ∙ t.only b rest other at;
             }
       ]
@@ -162,29 +167,35 @@ module _ {B : Type 0} {P : B → Type 0} {marks : B → List Leveled} {e : B →
             record {
               value = t.value;
               fits = t.fits;
-              front = (m, 0) ∷ t.front;
+              front = (m, v) ∷ t.front;
               over = t.over;
               more = t.more;
               rest = t.rest;
-              whole = ap (λ (l : List Leveled). (m, 0) ∷ l) t.whole;
+              whole = ap (λ (l : List Leveled). (m, v) ∷ l) t.whole;
               spelled = ts-is ∙ ap (λ (l : List Token). m ∷ l) t.spelled;
               size = t.size;
-              within = (refl, t.within);
+              within = (low, t.within);
               past = t.past;
               only = λ other. ap (λ read. read >>= r) (skip_again T (tokens_of t.front ++ t.over.0 ∷ other)) ∙ t.only other;
             }
       ]
 
-  pub Reads-skip : Reads P behind e skipped
-  Reads-skip = record {
+  pub Reads-skip-at : Reads P behind e skipped
+  Reads-skip-at = record {
     takes = λ ts rest b h.
         let x = bind_ok (skip_at test ts) r (b, rest) h in
         let t = R.takes x.0 rest b x.2 in
-        record { fits = t.fits; spelled = skip_ok T ts x.0 x.1 ∙ ap (λ (l : List Token). m ∷ l) t.spelled; within = (refl, t.within); ends_there = t.ends_there };
-    again = λ b k p h. ap (λ read. read >>= r) (skip_again T (tokens_of (marks b) ++ k)) ∙ R.again b k p h;
+        record { fits = t.fits; spelled = skip_ok T ts x.0 x.1 ∙ ap (λ (l : List Token). m ∷ l) t.spelled; within = (low, t.within); ends_there = t.ends_there };
+    again = λ b k p h.
+        let passed : checked (behind b) k (Ok (b, k)) ≡ checked (marks b) k (Ok (b, k)) = rw low refl in
+        ap (λ read. read >>= r) (skip_again T (tokens_of (marks b) ++ k)) ∙ R.again b k p h ∙ sym passed;
     strays = skip_strays;
     deeps = skip_deeps;
   }
+
+-- a token that is no level
+pub Reads-skip : {B : Type 0} {P : B → Type 0} {marks : B → List Leveled} {e : B → Option Token → Bool} {r : Reader B} {test : Token → Bool} {m : Token} → IsTestOf test m → Reads P marks e r → (b : B) × P b → Reads P (λ b. (m, 0) ∷ marks b) e (λ ts. skip_at test ts >>= r)
+Reads-skip T R some = Reads-skip-at T R some 0 refl
 
 -- ---- one token with its contents
 
@@ -214,9 +225,6 @@ name_bad (Word v ∷ ts) d h =
 name_bad (Text t ∷ ts) d h = (cc, λ b rest other at. let same : Text t ≡ b = cc in rw (← same) refl)
 name_bad (Mark s ∷ ts) d h = (cc, λ b rest other at. let same : Mark s ≡ b = cc in rw (← same) refl)
 name_bad (Wrong ∷ ts) d h = (cc, λ b rest other at. let same : Wrong ≡ b = cc in rw (← same) refl)
-
-abbrev pub IsName : List ℕ → Type 0
-IsName w = IsTrue (is_name w)
 
 -- a name
 abbrev pub a_name : List ℕ
@@ -264,49 +272,111 @@ Reads-text = record {
 
 -- ---- a word that means something
 
-module _ {K : Type 0} (of : List ℕ → Option K) (Is : K → Type 0) (spelling : K → List ℕ)
-    (meant : (w : List ℕ) (k : K) → of w ≡ Some k → Is k × (w ≡ spelling k))
-    (means : (k : K) → Is k → of (spelling k) ≡ Some k)
-    (some : (k : K) × Is k) where
-  found_ok : (whole ts rest : List Token) (o : Option K) (k : K) → found_at whole ts o ≡ Ok (k, rest) → (o ≡ Some k) × (ts ≡ rest)
-  found_ok whole ts rest None k h = absurd cc
-  found_ok whole ts rest (Some j) k h =
-      let same = ok_is (j, ts) (k, rest) h in
-      (ap (λ (x : K × List Token). Some (x.0)) same, ap (λ (x : K × List Token). x.1) same)
+abbrev means_this : {K : Type 0} → K → Option K
+means_this k = Some k
 
-  found_bad : (whole ts : List Token) (o : Option K) (d : Fault) → found_at whole ts o ≡ Err d → (d ≡ Stray (length whole)) × (o ≡ None)
-  found_bad whole ts None d h = (cc, refl)
-  found_bad whole ts (Some j) d h = absurd cc
+same_meaning : {K : Type 0} (j k : K) → means_this j ≡ means_this k → j ≡ k
+same_meaning j k e = cc
 
-  meaning_ok : (ts rest : List Token) (k : K) → meaning_at of ts ≡ Ok (k, rest) → (ts ≡ Word (spelling k) ∷ rest) × Is k
+-- each word is the spelling of its meaning
+abbrev pub AreSpelled : {K : Type 0} → (K → List ℕ) → Meanings K → Type 0
+AreSpelled spelling words = AllByRecursion (λ x. x.0 ≡ spelling x.1) words
+
+meant : {K : Type 0} (spelling : K → List ℕ) (words : Meanings K) → AreSpelled spelling words → (w : List ℕ) (k : K) → meaning_in words w ≡ Some k → w ≡ spelling k
+meant spelling [] all w k h = absurd cc
+meant spelling (x ∷ words) all w k h =
+    elim (cases_bool (bytes_eq w x.0)) [
+      | inl y ↦ (let same : x.1 ≡ k = same_meaning x.1 k (rw y at h) in (bytes_eq-Decides w x.0).0 y ∙ all.0 ∙ ap spelling same)
+      | inr y ↦ meant spelling words all.1 w k (rw y at h)
+    ]
+
+found_ok : {K : Type 0} (whole ts rest : List Token) (o : Option K) (k : K) → found_at whole ts o ≡ Ok (k, rest) → (o ≡ Some k) × (ts ≡ rest)
+found_ok whole ts rest None k h = absurd cc
+found_ok {K} whole ts rest (Some j) k h =
+    let same = ok_is (j, ts) (k, rest) h in
+    (ap (λ (x : K × List Token). Some (x.0)) same, ap (λ (x : K × List Token). x.1) same)
+
+found_bad : {K : Type 0} (whole ts : List Token) (o : Option K) (d : Fault) → found_at whole ts o ≡ Err d → (d ≡ Stray (length whole)) × (o ≡ None)
+found_bad whole ts None d h = (cc, refl)
+found_bad whole ts (Some j) d h = absurd cc
+
+module _ {K : Type 0} (words : Meanings K) (spelling : K → List ℕ) (all : AreSpelled spelling words) (means : (k : K) → meaning_in words (spelling k) ≡ Some k) (some : K) where
+  meaning_ok : (ts rest : List Token) (k : K) → meaning_at words ts ≡ Ok (k, rest) → ts ≡ Word (spelling k) ∷ rest
   unfolding meaning_at
   meaning_ok [] rest k h = absurd cc
   meaning_ok (Word v ∷ ts) rest k h =
-      let f = found_ok (Word v ∷ ts) ts rest (of v) k h in
-      let g = meant v k f.0 in
-      (ap (λ (x : List ℕ). Word x ∷ ts) g.1 ∙ ap (λ (l : List Token). Word (spelling k) ∷ l) f.1, g.0)
+      let f = found_ok (Word v ∷ ts) ts rest (meaning_in words v) k h in
+      ap (λ (x : List ℕ). Word x ∷ ts) (meant spelling words all v k f.0) ∙ ap (λ (l : List Token). Word (spelling k) ∷ l) f.1
   meaning_ok (Text t ∷ ts) rest k h = absurd cc
   meaning_ok (Mark s ∷ ts) rest k h = absurd cc
   meaning_ok (Wrong ∷ ts) rest k h = absurd cc
 
-  meaning_bad : (ts : List Token) (d : Fault) → meaning_at of ts ≡ Err d → (d ≡ Stray (length ts)) × ((b : Token) (rest other : List Token) → ts ≡ b ∷ rest → meaning_at of (b ∷ other) ≡ stray (b ∷ other))
+  meaning_bad : (ts : List Token) (d : Fault) → meaning_at words ts ≡ Err d → (d ≡ Stray (length ts)) × ((b : Token) (rest other : List Token) → ts ≡ b ∷ rest → meaning_at words (b ∷ other) ≡ stray (b ∷ other))
   unfolding meaning_at
   meaning_bad [] d h = (cc, λ b rest other at. absurd cc)
   meaning_bad (Word v ∷ ts) d h =
-      let f = found_bad (Word v ∷ ts) ts (of v) d h in
+      let f = found_bad (Word v ∷ ts) ts (meaning_in words v) d h in
       (f.0, λ b rest other at. let same : Word v ≡ b = cc in rw (← same, f.1) refl)
   meaning_bad (Text t ∷ ts) d h = (cc, λ b rest other at. let same : Text t ≡ b = cc in rw (← same) refl)
   meaning_bad (Mark s ∷ ts) d h = (cc, λ b rest other at. let same : Mark s ≡ b = cc in rw (← same) refl)
   meaning_bad (Wrong ∷ ts) d h = (cc, λ b rest other at. let same : Wrong ≡ b = cc in rw (← same) refl)
 
-  meaning_again : (k : K) (rest : List Token) → Is k → meaning_at of (Word (spelling k) ∷ rest) ≡ Ok (k, rest)
+  meaning_again : (k : K) (rest : List Token) → meaning_at words (Word (spelling k) ∷ rest) ≡ Ok (k, rest)
   unfolding meaning_at
-  meaning_again k rest p = rw (means k p) refl
+  meaning_again k rest = rw (means k) refl
 
-  pub Reads-meaning : Reads Is (λ k. (Word (spelling k), 0) ∷ []) always (meaning_at of)
+  pub Reads-meaning : Reads IsAny (λ k. (Word (spelling k), 0) ∷ []) always (meaning_at words)
   Reads-meaning = record {
-    takes = λ ts rest k h. let t = meaning_ok ts rest k h in record { fits = t.1; spelled = t.0; within = (refl, tt); ends_there = refl };
-    again = λ k rest p h. meaning_again k rest p;
-    strays = λ ts n h. let d = meaning_bad ts (Stray n) h in let size : n ≡ length ts = (let e = d.0 in cc) in record { value = some.0; fits = some.1; front = []; more = (Word (spelling some.0), 0) ∷ []; bad = ts; whole = refl; spelled = refl; size = size; within = tt; only = d.1 };
+    takes = λ ts rest k h. record { fits = tt; spelled = meaning_ok ts rest k h; within = (refl, tt); ends_there = refl };
+    again = λ k rest p h. meaning_again k rest;
+    strays = λ ts n h. let d = meaning_bad ts (Stray n) h in let size : n ≡ length ts = (let e = d.0 in cc) in record { value = some; fits = tt; front = []; more = (Word (spelling some), 0) ∷ []; bad = ts; whole = refl; spelled = refl; size = size; within = tt; only = d.1 };
     deeps = λ ts n h. absurd (let d = meaning_bad ts (Deep n) h in let no : Deep n ≡ Stray (length ts) = d.0 in cc);
   }
+
+-- ---- the name of a property
+
+property_ok : (ts rest : List Token) (w : List ℕ) → property_at ts ≡ Ok (w, rest) → (ts ≡ Word w ∷ rest) × IsProperty w
+unfolding property_at
+property_ok [] rest w h = absurd cc
+property_ok (Word v ∷ ts) rest w h =
+    elim (cases_bool (is_name v)) [
+      | inl y ↦
+          elim (cases_bool (is_reserved v)) [
+            | inl z ↦ absurd (let no : stray {A = List ℕ × List Token} (Word v ∷ ts) ≡ Ok (w, rest) = rw (y, z) at h in cc)
+            | inr z ↦
+                let same = ok_is (v, ts) (w, rest) (rw (y, z) at h) in
+                let name : v ≡ w = ap (λ (x : List ℕ × List Token). x.0) same in
+                (ap (λ (x : List ℕ × List Token). Word x.0 ∷ x.1) same, (sym (ap is_name name) ∙ y, sym (ap is_reserved name) ∙ z))
+          ]
+      | inr y ↦ absurd (let no : stray {A = List ℕ × List Token} (Word v ∷ ts) ≡ Ok (w, rest) = rw y at h in cc)
+    ]
+property_ok (Text t ∷ ts) rest w h = absurd cc
+property_ok (Mark s ∷ ts) rest w h = absurd cc
+property_ok (Wrong ∷ ts) rest w h = absurd cc
+
+property_bad : (ts : List Token) (d : Fault) → property_at ts ≡ Err d → (d ≡ Stray (length ts)) × ((b : Token) (rest other : List Token) → ts ≡ b ∷ rest → property_at (b ∷ other) ≡ stray (b ∷ other))
+unfolding property_at
+property_bad [] d h = (cc, λ b rest other at. absurd cc)
+property_bad (Word v ∷ ts) d h =
+    elim (cases_bool (is_name v && not (is_reserved v))) [
+      | inl y ↦ absurd (let no : done (v, ts) ≡ Err d = rw y at h in cc)
+      | inr y ↦ (
+        let e : stray {A = List ℕ × List Token} (Word v ∷ ts) ≡ Err d = rw y at h in cc,
+        λ b rest other at. let same : Word v ≡ b = cc in rw (← same, y) refl,
+      )
+    ]
+property_bad (Text t ∷ ts) d h = (cc, λ b rest other at. let same : Text t ≡ b = cc in rw (← same) refl)
+property_bad (Mark s ∷ ts) d h = (cc, λ b rest other at. let same : Mark s ≡ b = cc in rw (← same) refl)
+property_bad (Wrong ∷ ts) d h = (cc, λ b rest other at. let same : Wrong ≡ b = cc in rw (← same) refl)
+
+property_again : (w : List ℕ) (k : List Token) → IsProperty w → property_at (Word w ∷ k) ≡ Ok (w, k)
+unfolding property_at
+property_again w k p = rw (p.0, p.1) refl
+
+pub Reads-property : Reads IsProperty (λ w. (Word w, 0) ∷ []) always property_at
+Reads-property = record {
+  takes = λ ts rest w h. let t = property_ok ts rest w h in record { fits = t.1; spelled = t.0; within = (refl, tt); ends_there = refl };
+  again = λ w k p h. property_again w k p;
+  strays = λ ts n h. let d = property_bad ts (Stray n) h in let size : n ≡ length ts = (let e = d.0 in cc) in record { value = a_name; fits = (refl, refl); front = []; more = (Word a_name, 0) ∷ []; bad = ts; whole = refl; spelled = refl; size = size; within = tt; only = d.1 };
+  deeps = λ ts n h. absurd (let d = property_bad ts (Deep n) h in let no : Deep n ≡ Stray (length ts) = d.0 in cc);
+}

@@ -1,5 +1,5 @@
 -- From what a row of tokens is read to, to what the bytes of a text say.
-use Rattle.std.proofs.Common.{◌≡◌, ℕ, ◌+◌, ◌-◌, ◌≤◌, Bool, true, false, cond, inl, inr, List, [], ◌∷◌, ◌++◌, length, map, get_or, Result, Ok, Err, refl, sym, ap, subst, ◌∙◌, arith, length-append}
+use Rattle.std.proofs.Common.{◌≡◌, ℕ, ◌+◌, ◌-◌, ◌≤◌, Bool, true, false, cond, inl, inr, List, [], ◌∷◌, ◌++◌, length, map, get_or, Option, None, Result, Ok, Err, refl, sym, ap, subst, ◌∙◌, arith, length-append}
 use Rattle.std.proofs.lemmas.List.{map-append, length-map}
 use Rattle.std.proofs.lemmas.Bool.{le-ltb, lt-ltb}
 use Rattle.std.proofs.lemmas.Str.{is_utf8-from_IsUtf8, IsUtf8-from_is_utf8}
@@ -10,17 +10,16 @@ use Rattle.gb_script.specs.declared.stop.Fault.{Fault}
 use Rattle.gb_script.specs.declared.stop.Fault.TheVariants.{Stray, Deep}
 use Rattle.gb_script.specs.declared.fault.ScriptFault.{ScriptFault}
 use Rattle.gb_script.specs.declared.fault.ScriptFault.TheVariants.{OutOfMemory, Syntax, TooLong, TooDeep, NotUtf8}
-use Rattle.gb_script.specs.declared.script.Statement.{Statement}
 use Rattle.gb_script.specs.Lexing.{Placed, HasTokens, newlines}
 use Rattle.gb_script.specs.Scanning.{scan}
-use Rattle.gb_script.specs.Grammar.{script_spelled}
+use Rattle.gb_script.specs.Grammar.{Leveled}
 use Rattle.gb_script.specs.Verdict.{IsFirstStray, IsFirstDeep}
-use Rattle.gb_script.specs.Reading.{all_at, script_at}
-use Rattle.gb_script.specs.Script.{IsScript, tokens_in, IsSource, Spells, line_of, IsSyntaxFault, IsDepthFault, Says}
+use Rattle.gb_script.specs.Reading.{Reader, all_at}
+use Rattle.gb_script.specs.Notation.{tokens_in, IsSource, IsSpelled, line_of, IsSyntaxFault, IsDepthFault, IsSaid}
 use Rattle.gb_script.proofs.Whole.{all_found, all_again, all_stray, all_deep}
 use Rattle.gb_script.proofs.Runs.{cases_bool}
 use Rattle.gb_script.proofs.Verdicts.{stray_again, deep_again}
-use Rattle.gb_script.proofs.Parts.{Reads-script, script_ends_text}
+use Rattle.gb_script.proofs.Readers.{Reads}
 use Rattle.gb_script.proofs.Pieces.{tokens_found, tokens_again}
 
 -- the tokens of a text, in two parts
@@ -65,105 +64,106 @@ left_place front rest n h =
     let some = length-map rest (λ (p : Placed). p.0) in
     omega (arith, all, some, length-append front rest)
 
-module _ (bytes : List ℕ) (short : length bytes ≤ 1048576) (utf8 : IsUtf8 bytes) where
-  source_is : IsSource bytes (scan 1 bytes)
-  source_is = record { short = short; utf8 = utf8; has = tokens_found bytes }
+module _ {A : Type 0} {P : A → Type 0} {m : A → List Leveled} {e : A → Option Token → Bool} {r : Reader A} (R : Reads P m e r) (ends_text : (a : A) → P a → e a None ≡ true) where
+  module _ (bytes : List ℕ) (short : length bytes ≤ 1048576) (utf8 : IsUtf8 bytes) where
+    source_is : IsSource bytes (scan 1 bytes)
+    source_is = record { short = short; utf8 = utf8; has = tokens_found bytes }
 
-  pub spells_found : (tokens : List Token) (script : List Statement) → tokens ≡ tokens_in (scan 1 bytes) → all_at script_at tokens ≡ Ok script → Spells bytes script
-  spells_found tokens script t h =
-      let f = all_found Reads-script script_ends_text tokens script h in
-      record { tokens = scan 1 bytes; source = source_is; spelled = sym t ∙ f.1; within = f.2; is = f.0 }
+    pub spells_found : (tokens : List Token) (script : A) → tokens ≡ tokens_in (scan 1 bytes) → all_at r tokens ≡ Ok script → IsSpelled P m bytes script
+    spells_found tokens script t h =
+        let f = all_found R ends_text tokens script h in
+        record { tokens = scan 1 bytes; source = source_is; spelled_so = sym t ∙ f.1; within = f.2; is = f.0 }
 
-  line_is : (n : ℕ) (lines : List ℕ) (front rest : List Placed) → lines ≡ map (λ p. p.1) (scan 1 bytes) → scan 1 bytes ≡ front ++ rest → n ≡ length (tokens_in rest) → get_or lines (length lines - n) (1 + newlines bytes) ≡ line_of bytes rest
-  line_is n lines front rest l w h =
-      let e : lines ≡ map (λ p. p.1) (front ++ rest) = l ∙ ap (map (λ (p : Placed). p.1)) w in
-      ap (λ (x : List ℕ). get_or x (length x - n) (1 + newlines bytes)) e
-      ∙ ap (λ i. get_or (map (λ p. p.1) (front ++ rest)) i (1 + newlines bytes)) (left_place front rest n h)
-      ∙ line_at bytes front rest
+    line_is : (n : ℕ) (lines : List ℕ) (front rest : List Placed) → lines ≡ map (λ p. p.1) (scan 1 bytes) → scan 1 bytes ≡ front ++ rest → n ≡ length (tokens_in rest) → get_or lines (length lines - n) (1 + newlines bytes) ≡ line_of bytes rest
+    line_is n lines front rest l w h =
+        let e : lines ≡ map (λ p. p.1) (front ++ rest) = l ∙ ap (map (λ (p : Placed). p.1)) w in
+        ap (λ (x : List ℕ). get_or x (length x - n) (1 + newlines bytes)) e
+        ∙ ap (λ i. get_or (map (λ p. p.1) (front ++ rest)) i (1 + newlines bytes)) (left_place front rest n h)
+        ∙ line_at bytes front rest
 
-  pub syntax_found : (tokens : List Token) (lines : List ℕ) (n line : ℕ) → tokens ≡ tokens_in (scan 1 bytes) → lines ≡ map (λ p. p.1) (scan 1 bytes) → line ≡ get_or lines (length lines - n) (1 + newlines bytes) → all_at script_at tokens ≡ Err (Stray n) → IsSyntaxFault bytes line
-  syntax_found tokens lines n line t l at h =
-      let s = all_stray Reads-script script_ends_text tokens n h in
-      let x = split_at s.before (scan 1 bytes) s.bad (sym t ∙ s.parts) in
-      record {
-        before = x.front;
-        bad = x.rest;
-        source = subst (IsSource bytes) x.whole source_is;
-        first = subst (λ (y : List Token). IsFirstStray IsScript script_spelled y (tokens_in x.rest)) x.front_is (subst (IsFirstStray IsScript script_spelled s.before) x.rest_is s.first);
-        line_is = at ∙ line_is n lines x.front x.rest l x.whole (s.left ∙ ap length x.rest_is);
-      }
+    pub syntax_found : (tokens : List Token) (lines : List ℕ) (n line : ℕ) → tokens ≡ tokens_in (scan 1 bytes) → lines ≡ map (λ p. p.1) (scan 1 bytes) → line ≡ get_or lines (length lines - n) (1 + newlines bytes) → all_at r tokens ≡ Err (Stray n) → IsSyntaxFault P m bytes line
+    syntax_found tokens lines n line t l at h =
+        let s = all_stray R ends_text tokens n h in
+        let x = split_at s.before (scan 1 bytes) s.bad (sym t ∙ s.parts) in
+        record {
+          before = x.front;
+          bad = x.rest;
+          source = subst (IsSource bytes) x.whole source_is;
+          first = subst (λ (y : List Token). IsFirstStray P m y (tokens_in x.rest)) x.front_is (subst (IsFirstStray P m s.before) x.rest_is s.first);
+          line_is = at ∙ line_is n lines x.front x.rest l x.whole (s.left ∙ ap length x.rest_is);
+        }
 
-  pub depth_found : (tokens : List Token) (lines : List ℕ) (n line : ℕ) → tokens ≡ tokens_in (scan 1 bytes) → lines ≡ map (λ p. p.1) (scan 1 bytes) → line ≡ get_or lines (length lines - n) (1 + newlines bytes) → all_at script_at tokens ≡ Err (Deep n) → IsDepthFault bytes line
-  depth_found tokens lines n line t l at h =
-      let s = all_deep Reads-script script_ends_text tokens n h in
-      let x = split_at s.before (scan 1 bytes) (s.over ∷ s.rest) (sym t ∙ s.parts) in
-      record {
-        before = x.front;
-        bad = x.rest;
-        source = subst (IsSource bytes) x.whole source_is;
-        first = subst (λ (y : List Token). IsFirstDeep IsScript script_spelled y (tokens_in x.rest)) x.front_is (subst (IsFirstDeep IsScript script_spelled s.before) x.rest_is s.first);
-        line_is = at ∙ line_is n lines x.front x.rest l x.whole (s.left ∙ ap length x.rest_is);
-      }
+    pub depth_found : (tokens : List Token) (lines : List ℕ) (n line : ℕ) → tokens ≡ tokens_in (scan 1 bytes) → lines ≡ map (λ p. p.1) (scan 1 bytes) → line ≡ get_or lines (length lines - n) (1 + newlines bytes) → all_at r tokens ≡ Err (Deep n) → IsDepthFault P m bytes line
+    depth_found tokens lines n line t l at h =
+        let s = all_deep R ends_text tokens n h in
+        let x = split_at s.before (scan 1 bytes) (s.over ∷ s.rest) (sym t ∙ s.parts) in
+        record {
+          before = x.front;
+          bad = x.rest;
+          source = subst (IsSource bytes) x.whole source_is;
+          first = subst (λ (y : List Token). IsFirstDeep P m y (tokens_in x.rest)) x.front_is (subst (IsFirstDeep P m s.before) x.rest_is s.first);
+          line_is = at ∙ line_is n lines x.front x.rest l x.whole (s.left ∙ ap length x.rest_is);
+        }
 
--- what the bytes spell is read
-pub spells_again : (bytes : List ℕ) (tokens : List Token) (script : List Statement) → tokens ≡ tokens_in (scan 1 bytes) → Spells bytes script → all_at script_at tokens ≡ Ok script
-spells_again bytes tokens script t s =
-    all_again Reads-script script_ends_text tokens script s.is (t ∙ ap tokens_in (sym (tokens_again bytes s.tokens s.source.has)) ∙ s.spelled) s.within
+  -- what the bytes spell is read
+  pub spells_again : (bytes : List ℕ) (tokens : List Token) (script : A) → tokens ≡ tokens_in (scan 1 bytes) → IsSpelled P m bytes script → all_at r tokens ≡ Ok script
+  spells_again bytes tokens script t s =
+      all_again R ends_text tokens script s.is (t ∙ ap tokens_in (sym (tokens_again bytes s.tokens s.source.has)) ∙ s.spelled_so) s.within
 
--- ---- what the bytes say is one thing
+  -- ---- what the bytes say is one thing
 
--- the line of the token with n left from it on, or the last
-abbrev line_left : List ℕ → ℕ → ℕ
-line_left bytes n = get_or (map (λ p. p.1) (scan 1 bytes)) (length (map (λ p. p.1) (scan 1 bytes)) - n) (1 + newlines bytes)
+  -- the line of the token with n left from it on, or the last
+  abbrev line_left : List ℕ → ℕ → ℕ
+  line_left bytes n = get_or (map (λ p. p.1) (scan 1 bytes)) (length (map (λ p. p.1) (scan 1 bytes)) - n) (1 + newlines bytes)
 
-abbrev told : List ℕ → Result (List Statement) Fault → Result (List Statement) ScriptFault
-told bytes (Ok script) = Ok script
-told bytes (Err (Stray n)) = Err (Syntax (line_left bytes n))
-told bytes (Err (Deep n)) = Err (TooDeep (line_left bytes n))
+  abbrev told : List ℕ → Result A Fault → Result A ScriptFault
+  told bytes (Ok script) = Ok script
+  told bytes (Err (Stray n)) = Err (Syntax (line_left bytes n))
+  told bytes (Err (Deep n)) = Err (TooDeep (line_left bytes n))
 
-abbrev told_text : List ℕ → Bool → Result (List Statement) ScriptFault
-told_text bytes utf8 = cond utf8 (told bytes (all_at script_at (tokens_in (scan 1 bytes)))) (Err NotUtf8)
+  abbrev told_text : List ℕ → Bool → Result A ScriptFault
+  told_text bytes utf8 = cond utf8 (told bytes (all_at r (tokens_in (scan 1 bytes)))) (Err NotUtf8)
 
-abbrev answer : List ℕ → Result (List Statement) ScriptFault
-answer bytes = cond (nat_lt 1048576 (length bytes)) (Err TooLong) (told_text bytes (is_utf8 bytes))
+  abbrev answer : List ℕ → Result A ScriptFault
+  answer bytes = cond (nat_lt 1048576 (length bytes)) (Err TooLong) (told_text bytes (is_utf8 bytes))
 
-text_answer : (bytes : List ℕ) → length bytes ≤ 1048576 → IsUtf8 bytes → answer bytes ≡ told bytes (all_at script_at (tokens_in (scan 1 bytes)))
-text_answer bytes short utf8 =
-    let s : nat_lt 1048576 (length bytes) ≡ false = le-ltb 1048576 (length bytes) short in
-    rw (s, is_utf8-from_IsUtf8 bytes utf8) refl
+  text_answer : (bytes : List ℕ) → length bytes ≤ 1048576 → IsUtf8 bytes → answer bytes ≡ told bytes (all_at r (tokens_in (scan 1 bytes)))
+  text_answer bytes short utf8 =
+      let s : nat_lt 1048576 (length bytes) ≡ false = le-ltb 1048576 (length bytes) short in
+      rw (s, is_utf8-from_IsUtf8 bytes utf8) refl
 
-tokens_are : (bytes : List ℕ) (before bad : List Placed) → HasTokens bytes (before ++ bad) → tokens_in (scan 1 bytes) ≡ tokens_in before ++ tokens_in bad
-tokens_are bytes before bad h = ap tokens_in (sym (tokens_again bytes (before ++ bad) h)) ∙ map-append (λ (p : Placed). p.0) before bad
+  tokens_are : (bytes : List ℕ) (before bad : List Placed) → HasTokens bytes (before ++ bad) → tokens_in (scan 1 bytes) ≡ tokens_in before ++ tokens_in bad
+  tokens_are bytes before bad h = ap tokens_in (sym (tokens_again bytes (before ++ bad) h)) ∙ map-append (λ (p : Placed). p.0) before bad
 
-left_line : (bytes : List ℕ) (before bad : List Placed) → IsSource bytes (before ++ bad) → line_left bytes (length (tokens_in bad)) ≡ line_of bytes bad
-left_line bytes before bad s =
-    line_is bytes s.short s.utf8 (length (tokens_in bad)) (map (λ p. p.1) (scan 1 bytes)) before bad refl (sym (tokens_again bytes (before ++ bad) s.has)) refl
+  left_line : (bytes : List ℕ) (before bad : List Placed) → IsSource bytes (before ++ bad) → line_left bytes (length (tokens_in bad)) ≡ line_of bytes bad
+  left_line bytes before bad s =
+      line_is bytes s.short s.utf8 (length (tokens_in bad)) (map (λ p. p.1) (scan 1 bytes)) before bad refl (sym (tokens_again bytes (before ++ bad) s.has)) refl
 
-pub said_is : (bytes : List ℕ) (said : Result (List Statement) ScriptFault) → Says bytes said → said ≡ answer bytes
-said_is bytes (Ok script) s = sym (text_answer bytes s.source.short s.source.utf8 ∙ ap (told bytes) (spells_again bytes (tokens_in (scan 1 bytes)) script refl s))
-said_is bytes (Err OutOfMemory) s = absurd s
-said_is bytes (Err TooLong) s = let long : nat_lt 1048576 (length bytes) ≡ true = lt-ltb 1048576 (length bytes) s in rw long refl
-said_is bytes (Err NotUtf8) s =
-    let short : nat_lt 1048576 (length bytes) ≡ false = le-ltb 1048576 (length bytes) s.0 in
-    elim (cases_bool (is_utf8 bytes)) [
-      | inl y ↦ absurd (s.1 (IsUtf8-from_is_utf8 bytes y))
-      | inr n ↦ rw (short, n) refl
-    ]
-said_is bytes (Err (Syntax line)) s =
-    let at = ap (all_at script_at) (tokens_are bytes s.before s.bad s.source.has) ∙ stray_again Reads-script script_ends_text (tokens_in s.before) (tokens_in s.bad) s.first in
-    sym (text_answer bytes s.source.short s.source.utf8 ∙ ap (told bytes) at ∙ ap (λ l. Err (Syntax l)) (left_line bytes s.before s.bad s.source ∙ sym s.line_is))
-said_is bytes (Err (TooDeep line)) s =
-    let at = ap (all_at script_at) (tokens_are bytes s.before s.bad s.source.has) ∙ deep_again Reads-script script_ends_text (tokens_in s.before) (tokens_in s.bad) s.first in
-    sym (text_answer bytes s.source.short s.source.utf8 ∙ ap (told bytes) at ∙ ap (λ l. Err (TooDeep l)) (left_line bytes s.before s.bad s.source ∙ sym s.line_is))
+  pub said_is : (bytes : List ℕ) (said : Result A ScriptFault) → IsSaid P m bytes said → said ≡ answer bytes
+  said_is bytes (Ok script) s = sym (text_answer bytes s.source.short s.source.utf8 ∙ ap (told bytes) (spells_again bytes (tokens_in (scan 1 bytes)) script refl s))
+  said_is bytes (Err OutOfMemory) s = absurd s
+  said_is bytes (Err TooLong) s = let long : nat_lt 1048576 (length bytes) ≡ true = lt-ltb 1048576 (length bytes) s in rw long refl
+  said_is bytes (Err NotUtf8) s =
+      let short : nat_lt 1048576 (length bytes) ≡ false = le-ltb 1048576 (length bytes) s.0 in
+      elim (cases_bool (is_utf8 bytes)) [
+        | inl y ↦ absurd (s.1 (IsUtf8-from_is_utf8 bytes y))
+        | inr n ↦ rw (short, n) refl
+      ]
+  said_is bytes (Err (Syntax line)) s =
+      let at = ap (all_at r) (tokens_are bytes s.before s.bad s.source.has) ∙ stray_again R ends_text (tokens_in s.before) (tokens_in s.bad) s.first in
+      sym (text_answer bytes s.source.short s.source.utf8 ∙ ap (told bytes) at ∙ ap (λ l. Err (Syntax l)) (left_line bytes s.before s.bad s.source ∙ sym s.line_is))
+  said_is bytes (Err (TooDeep line)) s =
+      let at = ap (all_at r) (tokens_are bytes s.before s.bad s.source.has) ∙ deep_again R ends_text (tokens_in s.before) (tokens_in s.bad) s.first in
+      sym (text_answer bytes s.source.short s.source.utf8 ∙ ap (told bytes) at ∙ ap (λ l. Err (TooDeep l)) (left_line bytes s.before s.bad s.source ∙ sym s.line_is))
 
-pub one_said : (bytes : List ℕ) (a b : Result (List Statement) ScriptFault) → Says bytes a → Says bytes b → a ≡ b
-one_said bytes a b s t = said_is bytes a s ∙ sym (said_is bytes b t)
+  pub one_said : (bytes : List ℕ) (a b : Result A ScriptFault) → IsSaid P m bytes a → IsSaid P m bytes b → a ≡ b
+  one_said bytes a b s t = said_is bytes a s ∙ sym (said_is bytes b t)
 
-abbrev fault_of : ScriptFault → Result (List Statement) ScriptFault
-fault_of f = Err f
+  abbrev fault_of : ScriptFault → Result A ScriptFault
+  fault_of f = Err f
 
-pub syntax_is : (bytes : List ℕ) (line other : ℕ) → IsSyntaxFault bytes line → fault_of (Syntax line) ≡ fault_of (Syntax other) → IsSyntaxFault bytes other
-syntax_is bytes line other s h = let same : line ≡ other = cc in subst (IsSyntaxFault bytes) same s
+  pub syntax_is : (bytes : List ℕ) (line other : ℕ) → IsSyntaxFault P m bytes line → fault_of (Syntax line) ≡ fault_of (Syntax other) → IsSyntaxFault P m bytes other
+  syntax_is bytes line other s h = let same : line ≡ other = cc in subst (IsSyntaxFault P m bytes) same s
 
-pub depth_is : (bytes : List ℕ) (line other : ℕ) → IsDepthFault bytes line → fault_of (TooDeep line) ≡ fault_of (TooDeep other) → IsDepthFault bytes other
-depth_is bytes line other s h = let same : line ≡ other = cc in subst (IsDepthFault bytes) same s
+  pub depth_is : (bytes : List ℕ) (line other : ℕ) → IsDepthFault P m bytes line → fault_of (TooDeep line) ≡ fault_of (TooDeep other) → IsDepthFault P m bytes other
+  depth_is bytes line other s h = let same : line ≡ other = cc in subst (IsDepthFault P m bytes) same s

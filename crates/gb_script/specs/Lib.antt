@@ -1,8 +1,15 @@
 pub mod Fault
 pub mod Lexing
+pub mod Tree
+pub mod Coding
+pub mod View
+pub mod Falling
+pub mod Words
 pub mod Grammar
+pub mod Fits
 pub mod Verdict
+pub mod Notation
 pub mod Script
 pub mod Scanning
-pub mod Words
 pub mod Reading
+pub mod Readers

@@ -1,27 +1,17 @@
--- Reading tokens from left to right, up to the first fault.
-use Rattle.std.specs.Prelude.{◌≡◌, ℕ, zero, suc, ◌-◌, Bool, true, false, not, ◌||◌, List, [], ◌∷◌, length, drop, Option, Some, None, Result, Ok, Err, nat_eq, ◌==◌, if◌then◌else◌, codes}
+-- Reading tokens from left to right, up to the first fault, and how readers are put together.
+use Rattle.std.specs.Prelude.{◌≡◌, ℕ, zero, suc, ◌-◌, Bool, true, false, not, ◌&&◌, List, [], ◌∷◌, length, drop, Option, Some, None, Result, Ok, Err, nat_eq, ◌==◌, if◌then◌else◌}
 use Rattle.std.specs.Str.{bytes_eq}
 use Rattle.gb_core.specs.Name.{is_name}
 use Rattle.gb_script.specs.declared.token.Sign.{Sign}
-use Rattle.gb_script.specs.declared.token.Sign.TheVariants.{OpenBrace, CloseBrace, OpenParen, CloseParen, Comma, Colon, Equals}
+use Rattle.gb_script.specs.declared.token.Sign.TheVariants.{Comma}
 use Rattle.gb_script.specs.declared.token.Token.{Token}
 use Rattle.gb_script.specs.declared.token.Token.TheVariants.{Word, Text, Mark, Wrong}
 use Rattle.gb_script.specs.declared.stop.Fault.{Fault}
 use Rattle.gb_script.specs.declared.stop.Fault.TheVariants.{Stray, Deep}
 use Rattle.gb_script.specs.declared.stop.Stop.{Stop}
 use Rattle.gb_script.specs.declared.stop.Stop.TheVariants as stops
-use Rattle.gb_script.specs.declared.words.ClauseWord.{ClauseWord}
-use Rattle.gb_script.specs.declared.words.ClauseWord.TheVariants.{First, Last, Output}
-use Rattle.gb_script.specs.declared.script.Call.{Call}
-use Rattle.gb_script.specs.declared.script.OutputFile.{OutputFile}
-use Rattle.gb_script.specs.declared.script.Clause.{Clause}
-use Rattle.gb_script.specs.declared.script.Clause.TheVariants as clauses
-use Rattle.gb_script.specs.declared.script.Registration.{Registration}
-use Rattle.gb_script.specs.declared.script.Statement.{Statement}
-use Rattle.gb_script.specs.declared.script.Statement.TheVariants.{Register}
 use Rattle.gb_script.specs.Lexing.{begins, sign_byte}
-use Rattle.gb_script.specs.Script.{is_output}
-use Rattle.gb_script.specs.Words.{clause_word}
+use Rattle.gb_script.specs.Words.{Meanings, meaning_in, is_reserved}
 
 -- a value and the tokens after it, or the first fault
 abbrev pub Reader : Type 0 → Type 0
@@ -82,6 +72,14 @@ name_at (Text t ∷ ts) = stray (Text t ∷ ts)
 name_at (Mark s ∷ ts) = stray (Mark s ∷ ts)
 name_at (Wrong ∷ ts) = stray (Wrong ∷ ts)
 
+-- a name that is none of those reserved
+unfoldable pub property_at : Reader (List ℕ)
+property_at [] = stray []
+property_at (Word w ∷ ts) = if is_name w && not (is_reserved w) then Ok (w, ts) else stray (Word w ∷ ts)
+property_at (Text t ∷ ts) = stray (Text t ∷ ts)
+property_at (Mark s ∷ ts) = stray (Mark s ∷ ts)
+property_at (Wrong ∷ ts) = stray (Wrong ∷ ts)
+
 unfoldable pub text_at : Reader (List ℕ)
 text_at [] = stray []
 text_at (Word w ∷ ts) = stray (Word w ∷ ts)
@@ -95,12 +93,12 @@ found_at whole ts None = stray whole
 found_at whole ts (Some k) = Ok (k, ts)
 
 -- a word that means something
-unfoldable pub meaning_at : {K : Type 0} → (List ℕ → Option K) → Reader K
-meaning_at of [] = stray []
-meaning_at of (Word w ∷ ts) = found_at (Word w ∷ ts) ts (of w)
-meaning_at of (Text t ∷ ts) = stray (Text t ∷ ts)
-meaning_at of (Mark s ∷ ts) = stray (Mark s ∷ ts)
-meaning_at of (Wrong ∷ ts) = stray (Wrong ∷ ts)
+unfoldable pub meaning_at : {K : Type 0} → Meanings K → Reader K
+meaning_at words [] = stray []
+meaning_at words (Word w ∷ ts) = found_at (Word w ∷ ts) ts (meaning_in words w)
+meaning_at words (Text t ∷ ts) = stray (Text t ∷ ts)
+meaning_at words (Mark s ∷ ts) = stray (Mark s ∷ ts)
+meaning_at words (Wrong ∷ ts) = stray (Wrong ∷ ts)
 
 -- what begins so, or nothing where nothing does
 unfoldable pub maybe_at : {A : Type 0} → (Token → Bool) → Reader A → A → Reader A
@@ -120,6 +118,36 @@ many_at test next r (suc n) s ts =
 unfoldable pub past_at : {A : Type 0} → (Token → Bool) → Reader A → Reader A
 past_at test r ts = skip_at test ts >>= r
 
+-- two, one after the other
+abbrev pub pair_at : {A B : Type 0} → Reader A → Reader B → Reader (A × B)
+pair_at first second ts = do
+  x ← first ts
+  y ← second x.1
+  Ok ((x.0, y.0), y.1)
+
+-- what is made of what is read
+abbrev pub made_at : {A B : Type 0} → (A → B) → Reader A → Reader B
+made_at make r ts = do
+  x ← r ts
+  Ok (make x.0, x.1)
+
+-- what stands before a token that passes the test
+abbrev pub closed_at : {A : Type 0} → (Token → Bool) → Reader A → Reader A
+closed_at test r ts = do
+  x ← r ts
+  rest ← skip_at test x.1
+  Ok (x.0, rest)
+
+-- what stands behind a bracket that opens, read with the room within
+abbrev pub opened_at : {A : Type 0} → Sign → ℕ → (ℕ → Reader A) → Reader A
+opened_at s room r ts = do
+  inner ← open_at s room ts
+  r inner.0 inner.1
+
+-- whether the word is said
+unfoldable pub said_at : List ℕ → Reader Bool
+said_at w ts = if begins (is_word w) ts then Ok (true, drop 1 ts) else Ok (false, ts)
+
 -- nothing to remember
 abbrev pub no_matter : {A : Type 0} → Unit {0} → A → Unit {0}
 no_matter s x = tt
@@ -136,95 +164,3 @@ unfoldable pub all_at : {A : Type 0} → Reader A → List Token → Result A Fa
 all_at r ts = do
   x ← r ts
   if length x.1 == 0 then Ok x.0 else stray x.1
-
--- ---- the readers of the notation
-
--- a text in brackets
-unfoldable pub bracketed_text_at : ℕ → Reader (List ℕ)
-bracketed_text_at room ts = do
-  inner ← open_at OpenParen room ts
-  text ← text_at inner.1
-  rest ← skip_at (is_sign CloseParen) text.1
-  Ok (text.0, rest)
-
--- texts in brackets
-unfoldable pub bracketed_texts_at : ℕ → Reader (List (List ℕ))
-bracketed_texts_at room ts = do
-  inner ← open_at OpenParen room ts
-  texts ← list_at text_at inner.1
-  rest ← skip_at (is_sign CloseParen) texts.1
-  Ok (texts.0, rest)
-
-unfoldable pub call_at : ℕ → Reader Call
-call_at room ts = do
-  name ← name_at ts
-  texts ← maybe_at (is_sign OpenParen) (bracketed_texts_at room) [] name.1
-  Ok (record { name = name.0; arguments = texts.0 }, texts.1)
-
-unfoldable pub output_at : ℕ → Reader OutputFile
-output_at room ts = do
-  name ← name_at ts
-  equals ← skip_at (is_sign Equals) name.1
-  file ← skip_at (is_word (codes "file")) equals
-  place ← bracketed_text_at room file
-  Ok (record { name = name.0; place = place.0 }, place.1)
-
--- what stands behind the word of a clause
-unfoldable pub clause_of_at : ℕ → ClauseWord → Reader Clause
-clause_of_at room First ts = do
-  call ← call_at room ts
-  Ok (clauses.DoFirst call.0, call.1)
-clause_of_at room Last ts = do
-  call ← call_at room ts
-  Ok (clauses.DoLast call.0, call.1)
-clause_of_at room Output ts = do
-  output ← output_at room ts
-  Ok (clauses.OutputFile output.0, output.1)
-
-unfoldable pub clause_at : ℕ → Bool → Reader Clause
-clause_at room has_output ts = do
-  word ← meaning_at (clause_word has_output) ts
-  clause_of_at room word.0 word.1
-
--- whether there is an output after a clause
-abbrev pub with_output : Bool → Clause → Bool
-with_output has_output clause = has_output || is_output clause
-
-abbrev pub in_block : Token → Bool
-in_block t = not (is_sign CloseBrace t)
-
-unfoldable pub block_at : ℕ → Reader (List Clause)
-block_at room ts = do
-  inner ← skip_at (is_sign OpenBrace) ts
-  clauses ← many_at in_block with_output (clause_at room) (length inner) false inner
-  rest ← skip_at (is_sign CloseBrace) clauses.1
-  Ok (clauses.0, rest)
-
--- a call behind a colon
-unfoldable pub action_at : ℕ → Reader (Option Call)
-action_at room ts = do
-  inner ← skip_at (is_sign Colon) ts
-  call ← call_at room inner
-  Ok (Some call.0, call.1)
-
-unfoldable pub registration_at : ℕ → Reader Registration
-registration_at room ts = do
-  begun ← skip_at (is_word (codes "register")) ts
-  name ← name_at begun
-  action ← maybe_at (is_sign Colon) (action_at room) None name.1
-  block ← block_at room action.1
-  Ok (record { name = name.0; action = action.0; block = block.0 }, block.1)
-
-unfoldable pub statement_at : ℕ → Reader Statement
-statement_at room ts = do
-  registration ← registration_at room ts
-  Ok (Register registration.0, registration.1)
-
-unfoldable pub one_statement_at : ℕ → Reader (List Statement)
-one_statement_at room ts = do
-  statement ← statement_at room ts
-  Ok (statement.0 ∷ [], statement.1)
-
--- at most one statement
-unfoldable pub script_at : Reader (List Statement)
-script_at ts = maybe_at is_any (one_statement_at 64) [] ts

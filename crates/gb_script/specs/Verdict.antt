@@ -4,7 +4,7 @@ use Rattle.std.specs.List.{AllByRecursion}
 use Rattle.gb_script.specs.declared.token.Token.{Token}
 use Rattle.gb_script.specs.Grammar.{Leveled, tokens_of}
 
--- at most 64 brackets are open at once
+-- at most 64 brackets are open at once, and a chain has at most 64 steps
 abbrev pub is_over : Leveled → Bool
 is_over m = nat_lt 64 m.1
 

@@ -1,13 +1,75 @@
 -- The words that the notation gives a meaning to.
-use Rattle.std.specs.Prelude.{ℕ, Bool, List, Option, Some, None, codes, if◌then◌else◌}
+use Rattle.std.specs.Prelude.{ℕ, Bool, List, [], ◌∷◌, Option, Some, None, is_some, codes, if◌then◌else◌}
 use Rattle.std.specs.Str.{bytes_eq}
+use Rattle.gb_script.specs.declared.words.SourceWord.{SourceWord}
+use Rattle.gb_script.specs.declared.words.SourceWord.TheVariants as sources
+use Rattle.gb_script.specs.declared.words.StepWord.{StepWord}
+use Rattle.gb_script.specs.declared.words.StepWord.TheVariants as steps
 use Rattle.gb_script.specs.declared.words.ClauseWord.{ClauseWord}
-use Rattle.gb_script.specs.declared.words.ClauseWord.TheVariants.{First, Last, Output}
+use Rattle.gb_script.specs.declared.words.ClauseWord.TheVariants as clauses
+use Rattle.gb_script.specs.declared.words.StatementWord.{StatementWord}
+use Rattle.gb_script.specs.declared.words.StatementWord.TheVariants as statements
 
--- the clause that a word begins; where the block has an output, no further one
-abbrev pub clause_word : Bool → List ℕ → Option ClauseWord
-clause_word has_output w =
-    if bytes_eq w (codes "doFirst") then Some First
-    else (if bytes_eq w (codes "doLast") then Some Last
-    else (if bytes_eq w (codes "outputFile") then (if has_output then None else Some Output)
-    else None))
+-- words, each with its meaning
+abbrev pub Meanings : Type 0 → Type 0
+Meanings K = List (List ℕ × K)
+
+-- what the word means among these
+abbrev pub meaning_in : {K : Type 0} → Meanings K → List ℕ → Option K
+meaning_in [] w = None
+meaning_in (x ∷ xs) w = if bytes_eq w x.0 then Some x.1 else meaning_in xs w
+
+-- the words that are a source of their own or begin one
+abbrev pub source_words : Meanings SourceWord
+source_words =
+    (codes "true", sources.True)
+    ∷ (codes "false", sources.False)
+    ∷ (codes "dir", sources.Dir)
+    ∷ (codes "file", sources.File)
+    ∷ (codes "buildDir", sources.BuildDir)
+    ∷ (codes "gradleProperty", sources.GradleProperty)
+    ∷ (codes "task", sources.Task)
+    ∷ []
+
+-- no property is named so
+abbrev pub is_reserved : List ℕ → Bool
+is_reserved w = is_some (meaning_in source_words w)
+
+-- the words that begin a step
+abbrev pub step_words : Meanings StepWord
+step_words =
+    (codes "map", steps.Map)
+    ∷ (codes "flatMap", steps.FlatMap)
+    ∷ (codes "zip", steps.Zip)
+    ∷ (codes "orElse", steps.OrElse)
+    ∷ []
+
+-- the words that begin a clause
+abbrev pub clause_words : Meanings ClauseWord
+clause_words =
+    (codes "input", clauses.Input)
+    ∷ (codes "inputFiles", clauses.InputFiles)
+    ∷ (codes "outputFile", clauses.OutputFile)
+    ∷ (codes "outputDir", clauses.OutputDir)
+    ∷ (codes "dependsOn", clauses.DependsOn)
+    ∷ (codes "mustRunAfter", clauses.MustRunAfter)
+    ∷ (codes "finalizedBy", clauses.FinalizedBy)
+    ∷ (codes "doFirst", clauses.DoFirst)
+    ∷ (codes "doLast", clauses.DoLast)
+    ∷ (codes "onlyIf", clauses.OnlyIf)
+    ∷ (codes "upToDateWhen", clauses.UpToDateWhen)
+    ∷ (codes "enabled", clauses.Enabled)
+    ∷ []
+
+-- the words that begin a statement
+abbrev pub statement_words : Meanings StatementWord
+statement_words =
+    (codes "defaultTasks", statements.DefaultTasks)
+    ∷ (codes "property", statements.Property)
+    ∷ (codes "set", statements.Set)
+    ∷ (codes "convention", statements.Convention)
+    ∷ (codes "unset", statements.Unset)
+    ∷ (codes "disallowChanges", statements.DisallowChanges)
+    ∷ (codes "register", statements.Register)
+    ∷ (codes "named", statements.Named)
+    ∷ []

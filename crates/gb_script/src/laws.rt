@@ -1,7 +1,8 @@
 //! Laws of what bytes say.
-ghost use Rattle.gb_script.specs.Script.{SaysOneThing};
+ghost use Rattle.gb_script.specs.Script.{ScriptsSayOneThing, SettingsSayOneThing};
 
-/// Bytes say one thing: a script, or one fault.
+/// Bytes say one thing as a script, and one as settings: what they spell, or one fault.
 pub fn bytes_say_one_thing()
-    ensures { SaysOneThing }
+    ensures script { ScriptsSayOneThing }
+    ensures settings { SettingsSayOneThing }
 {}

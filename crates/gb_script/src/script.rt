@@ -1,29 +1,71 @@
-//! What a script says.
+//! What scripts and settings say.
+use crate::expression::{Expression, Expressions};
+use crate::function::Function;
 use gb_core::name::Name;
-use gb_core::text::{Text, Texts};
+use gb_core::text::Texts;
 use std::marker::Model;
 
 /// A kind with what is given to it.
 #[derive(Debug, Drop)]
 pub struct Call {
     pub name: Name,
-    pub arguments: Texts,
+    pub arguments: Expressions,
 }
 
-/// A file that a task makes.
+/// A name with the value that it gets.
 #[derive(Debug, Drop)]
-pub struct OutputFile {
+pub struct Assignment {
     pub name: Name,
-    pub place: Text,
+    pub value: Expression,
+}
+
+/// A value, and the test that it has to pass.
+#[derive(Debug, Drop)]
+pub struct Condition {
+    pub value: Expression,
+    pub test: Function,
+}
+
+/// Files that a task reads.
+#[derive(Debug, Drop)]
+pub struct InputFiles {
+    pub name: Name,
+    /// Actions hear what changed since the last run.
+    pub incremental: bool,
+    /// Without any file the task has nothing to do.
+    pub skip_when_empty: bool,
+    /// A file counts by the last segment of its place.
+    pub name_only: bool,
+    /// The roots, at least one.
+    pub from: Expressions,
+    /// The patterns that let files in, or none where all are in.
+    pub include: Texts,
+    /// The patterns that keep files out.
+    pub exclude: Texts,
 }
 
 #[derive(Debug, Drop)]
 pub enum Clause {
+    Input(Assignment),
+    InputFiles(InputFiles),
+    OutputFile(Assignment),
+    OutputDir(Assignment),
+    /// Tasks that run before this one, at least one.
+    DependsOn(Texts),
+    /// Tasks that run before this one where both run, at least one.
+    MustRunAfter(Texts),
+    /// Tasks that run after this one, at least one.
+    FinalizedBy(Texts),
     /// An action put before those of the task.
     DoFirst(Call),
     /// An action put behind those of the task.
     DoLast(Call),
-    OutputFile(OutputFile),
+    /// The task is skipped where the value fails the test.
+    OnlyIf(Condition),
+    /// The task runs in full where the value fails the test.
+    UpToDateWhen(Condition),
+    /// The task is skipped where the value is not true.
+    Enabled(Expression),
 }
 
 /// The clauses of a task, in their order.
@@ -34,9 +76,13 @@ pub struct Block {
 
 impl Model for Block {
     ghost use Rattle.std.specs.Prelude.{List};
+    ghost use Rattle.std.specs.Coded.{codes};
+    ghost use Rattle.gb_script.specs.Coding.{tree_code};
     ghost use Rattle.gb_script.specs.declared.script.Clause.{Clause};
 
     ghost Value = { List Clause };
+
+    ghost coded = { Prim.hlevel (codes, tree_code) };
 
     ghost view = { λ b. b.clauses.items };
 }
@@ -66,9 +112,25 @@ pub struct Registration {
     pub block: Block,
 }
 
+/// More clauses for a task.
+#[derive(Debug, Drop)]
+pub struct Configuration {
+    pub name: Name,
+    pub block: Block,
+}
+
 #[derive(Debug, Drop)]
 pub enum Statement {
+    /// The tasks that run where an invocation names none, at least one.
+    DefaultTasks(Texts),
+    /// A new property.
+    Property(Name),
+    Set(Assignment),
+    Convention(Assignment),
+    Unset(Name),
+    DisallowChanges(Name),
     Register(Registration),
+    Named(Configuration),
 }
 
 /// The statements of a script, in their order.
@@ -79,9 +141,13 @@ pub struct Script {
 
 impl Model for Script {
     ghost use Rattle.std.specs.Prelude.{List};
+    ghost use Rattle.std.specs.Coded.{codes};
+    ghost use Rattle.gb_script.specs.Coding.{tree_code};
     ghost use Rattle.gb_script.specs.declared.script.Statement.{Statement};
 
     ghost Value = { List Statement };
+
+    ghost coded = { Prim.hlevel (codes, tree_code) };
 
     ghost view = { λ s. s.statements.items };
 }
@@ -99,5 +165,35 @@ impl Script {
         ensures { result.now ≡ self.now }
     {
         self.statements.as_slice()
+    }
+}
+
+/// The project paths that settings include: for each `include` its texts, at least one, in their order.
+#[derive(Debug, Drop)]
+pub struct Settings {
+    includes: Vec<Texts>,
+}
+
+impl Model for Settings {
+    ghost use Rattle.std.specs.Prelude.{List, ℕ};
+
+    ghost Value = { List (List (List ℕ)) };
+
+    ghost view = { λ s. s.includes.items };
+}
+
+impl Settings {
+    ghost use Rattle.std.specs.Prelude.{◌≡◌};
+
+    pub fn new(includes: Vec<Texts>) -> Settings
+        ensures { result ≡ includes.items }
+    {
+        Settings { includes }
+    }
+
+    pub fn includes(&self) -> &[Texts]
+        ensures { result.now ≡ self.now }
+    {
+        self.includes.as_slice()
     }
 }

@@ -1,13 +1,16 @@
-//! Bytes to a script.
+//! Bytes to scripts and settings.
 ghost use Rattle.std.specs.Prelude.{◌≡◌, ℕ, ◌<◌, ◌≤◌, ◌↔◌, ◌⊎◌, List, length, Result, Err, IfOk, IsErrOf, IsUtf8};
-ghost use Rattle.gb_script.specs.Script.{Spells, IsSyntaxFault, IsDepthFault, Says};
+ghost use Rattle.gb_script.specs.Grammar.{script_spelled, settings_spelled};
+ghost use Rattle.gb_script.specs.Fits.{IsScript, IsSettings};
+ghost use Rattle.gb_script.specs.Notation.{IsSyntaxFault, IsDepthFault};
+ghost use Rattle.gb_script.specs.Script.{Spells, Says, SpellsSettings, SaysAsSettings};
 ghost use Rattle.gb_script.specs.declared.fault.ScriptFault.{ScriptFault};
 ghost use Rattle.gb_script.specs.declared.script.Statement.{Statement};
 
 use crate::fault::ScriptFault;
 use crate::lexing::lex;
-use crate::reading::whole_script;
-use crate::script::Script;
+use crate::script::{Script, Settings};
+use crate::statements::{whole_script, whole_settings};
 use crate::stop::{Fault, Stop};
 use std::alloc::Global;
 
@@ -17,8 +20,8 @@ const MAX_BYTES: usize = 1_048_576;
 /// The script that the bytes are.
 ///
 /// The faults, in the order in which they are told: more than 1 MiB (21), no UTF-8 (23), and then the
-/// first in the text of a token that no script has there (20) and a bracket inside of 64 others (22),
-/// each with its line. Memory may run out on the way (3).
+/// first in the text of a token that no script has there (20), and a bracket inside of 64 others or a
+/// step behind 64 others (22), each with its line. Memory may run out on the way (3).
 pub fn read_script(alloc: Global, bytes: &[u8]) -> Result<Script, ScriptFault>
     // What is read is what the bytes spell.
     ensures found { IfOk result (λ script. Spells bytes.now script) }
@@ -28,8 +31,8 @@ pub fn read_script(alloc: Global, bytes: &[u8]) -> Result<Script, ScriptFault>
 
     ensures too_long { IsErrOf result ScriptFault.TooLong ↔ (1048576 < length bytes.now) }
     ensures not_utf8 { IsErrOf result ScriptFault.NotUtf8 ↔ ((length bytes.now ≤ 1048576) × ¬ (IsUtf8 bytes.now)) }
-    ensures syntax { (line : ℕ) → result ≡ Err (ScriptFault.Syntax line) → IsSyntaxFault bytes.now line }
-    ensures too_deep { (line : ℕ) → result ≡ Err (ScriptFault.TooDeep line) → IsDepthFault bytes.now line }
+    ensures syntax { (line : ℕ) → result ≡ Err (ScriptFault.Syntax line) → IsSyntaxFault IsScript script_spelled bytes.now line }
+    ensures too_deep { (line : ℕ) → result ≡ Err (ScriptFault.TooDeep line) → IsDepthFault IsScript script_spelled bytes.now line }
 {
     if bytes.len() > MAX_BYTES {
         return Err(ScriptFault::TooLong);
@@ -40,6 +43,34 @@ pub fn read_script(alloc: Global, bytes: &[u8]) -> Result<Script, ScriptFault>
     let lexed = lex(alloc, text)?;
     match whole_script(alloc, &lexed.tokens) {
         Ok(script) => Ok(script),
+        Err(Stop::Memory) => Err(ScriptFault::OutOfMemory),
+        Err(Stop::Fault(Fault::Stray(left))) => Err(ScriptFault::Syntax(lexed.line_of(text, left))),
+        Err(Stop::Fault(Fault::Deep(left))) => Err(ScriptFault::TooDeep(lexed.line_of(text, left))),
+    }
+}
+
+/// The settings that the bytes are. The faults are those of `read_settings`, in the same order.
+pub fn read_settings(alloc: Global, bytes: &[u8]) -> Result<Settings, ScriptFault>
+    // What is read is what the bytes spell.
+    ensures found { IfOk result (λ settings. SpellsSettings bytes.now settings) }
+    // What the bytes say is the answer, unless memory runs out.
+    ensures back { (said : Result (List (List (List ℕ))) ScriptFault) → SaysAsSettings bytes.now said
+        → (result ≡ said) ⊎ (result ≡ Err ScriptFault.OutOfMemory) }
+
+    ensures too_long { IsErrOf result ScriptFault.TooLong ↔ (1048576 < length bytes.now) }
+    ensures not_utf8 { IsErrOf result ScriptFault.NotUtf8 ↔ ((length bytes.now ≤ 1048576) × ¬ (IsUtf8 bytes.now)) }
+    ensures syntax { (line : ℕ) → result ≡ Err (ScriptFault.Syntax line) → IsSyntaxFault IsSettings settings_spelled bytes.now line }
+    ensures too_deep { (line : ℕ) → result ≡ Err (ScriptFault.TooDeep line) → IsDepthFault IsSettings settings_spelled bytes.now line }
+{
+    if bytes.len() > MAX_BYTES {
+        return Err(ScriptFault::TooLong);
+    }
+    let Ok(text) = std::str::from_utf8(bytes) else {
+        return Err(ScriptFault::NotUtf8);
+    };
+    let lexed = lex(alloc, text)?;
+    match whole_settings(alloc, &lexed.tokens) {
+        Ok(settings) => Ok(settings),
         Err(Stop::Memory) => Err(ScriptFault::OutOfMemory),
         Err(Stop::Fault(Fault::Stray(left))) => Err(ScriptFault::Syntax(lexed.line_of(text, left))),
         Err(Stop::Fault(Fault::Deep(left))) => Err(ScriptFault::TooDeep(lexed.line_of(text, left))),

@@ -1,8 +1,6 @@
-use Rattle.std.proofs.Common.{◌≡◌, ℕ, List, subst, Ok, Err, ap, inl, inr}
+use Rattle.std.proofs.Common.{ℕ, List, subst, Ok, Err, ap, inl, inr}
 use Rattle.std.proofs.lemmas.Result.{MatchResult-weaker}
-use Rattle.gb_script.specs.Script.{Says, Spells}
-use Rattle.gb_script.specs.declared.fault.ScriptFault.{ScriptFault}
-use Rattle.gb_build.specs.Scripts.{in_script}
+use Rattle.gb_build.specs.Scripts.{SpellsPlain, IsFaultOf}
 use Rattle.gb_build.proofs.Said.{said_by, said_too_long}
 use Rattle.gb_build.proofs.script.read_build_script.Goals as goal
 
@@ -12,10 +10,10 @@ returns-in-Ok-clause-said g c = λ tells.
     let sound = g.met.F.Folder.sound c.args.folder.now in
     let stands = c.in-Ok.ensures.found tells in
     MatchResult-weaker c.spelled.result c.spelled.ensures
-    (λ script spells. said_by files c.in_ok-place.place _ (Ok script) sound c.in_ok-place.ensures stands (subst (λ (bytes : List ℕ). Spells bytes script) c.as_slice.ensures.value spells))
+    (λ script spells. said_by files c.in_ok-place.place _ (Ok script) sound c.in_ok-place.ensures stands (subst (λ (bytes : List ℕ). SpellsPlain bytes script) c.as_slice.ensures.value spells))
     (λ fault why. elim why [
       | inl memory ↦ inl (inl memory)
-      | inr told ↦ inr (said_by files c.in_ok-place.place _ (Err fault) sound c.in_ok-place.ensures stands (subst (λ (bytes : List ℕ). (said : ScriptFault) × Says bytes (Err said) × (fault ≡ in_script said)) c.as_slice.ensures.value told))
+      | inr told ↦ inr (said_by files c.in_ok-place.place _ (Err fault) sound c.in_ok-place.ensures stands (subst (λ (bytes : List ℕ). IsFaultOf bytes fault) c.as_slice.ensures.value told))
     ])
 
 pub returns-in-Err-TooLarge-clause-said : goal.returns-in-Err-TooLarge-clause-said

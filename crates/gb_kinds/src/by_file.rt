@@ -1,0 +1,137 @@
+//! Kinds that work file by file: all files, or the changed ones.
+ghost use Rattle.std.specs.Prelude.{◌≡◌, ◌++◌, IfOk, OnOk, IsTrue};
+ghost use Rattle.std.specs.List.{flat_map};
+ghost use Rattle.std.specs.Option.{option_copied};
+ghost use Rattle.std.specs.FinMap.Entries.{is_sorted};
+ghost use Rattle.gb_action.specs.Files.{byte_order, tree_at};
+ghost use Rattle.gb_action.specs.Shapes.{source as source_is};
+ghost use Rattle.gb_kinds.specs.ByFile.{file_of, by_file, edited, holds, rewritten, writes_for, removes_for, IsByFile};
+
+use crate::edit::FileEdit;
+use crate::names::{output_name, source_name};
+use crate::source;
+use gb_action::change::Change;
+use gb_action::reply::{OutputPath, Removals, Reply, Writes, Written};
+use gb_action::request::Request;
+use gb_core::bytes::Bytes;
+use gb_core::place::RelPath;
+use std::alloc::{AllocError, Global};
+
+/// The reply of a kind that makes a file of each file.
+pub fn reply_by_file(alloc: Global, request: &Request, edit: &FileEdit) -> Result<Reply, AllocError>
+    ensures reply { IfOk result (λ reply. IsByFile (edited edit.now) request.now reply) }
+    ensures ordered { IfOk result (λ _. IsTrue (is_sorted byte_order (tree_at request.now.files source_is))) }
+{
+    let name = source_name(alloc)?;
+    let files = source::files_of(request, &name);
+    let changes = source::changes_of(request, &name);
+    let lines = source::change_lines(alloc, changes)?;
+    if request.changes.is_incremental() {
+        Ok(Reply {
+            removes: removals(alloc, changes)?,
+            writes: changed_writes(alloc, request, edit, changes)?,
+            lines,
+        })
+    } else {
+        Ok(Reply {
+            removes: Removals::new(alloc),
+            writes: all_writes(alloc, files, edit)?,
+            lines,
+        })
+    }
+}
+
+fn all_writes(
+    alloc: Global,
+    files: &[(RelPath, Bytes)],
+    edit: &FileEdit,
+) -> Result<Writes, AllocError>
+    ensures { IfOk result (λ writes. writes ≡ by_file (edited edit.now) files.now) }
+{
+    let mut writes = Writes::new(alloc);
+    for (path, bytes) in files {
+        let made = edit.apply(alloc, bytes.as_slice())?;
+        writes.push(written(alloc, path, made)?)?;
+    }
+    Ok(writes)
+}
+
+/// What is removed and was not put back.
+fn removals(alloc: Global, changes: &[Change]) -> Result<Removals, AllocError>
+    ensures { IfOk result (λ removes. removes ≡ flat_map removes_for changes.now) }
+{
+    let mut removes = Removals::new(alloc);
+    for change in changes {
+        if let Change::Removed(path) = change {
+            removes.push(OutputPath {
+                output: output_name(alloc)?,
+                path: path.copy()?,
+            })?;
+        }
+    }
+    Ok(removes)
+}
+
+/// What is made of the changed files, where it does not stand so already.
+fn changed_writes(
+    alloc: Global,
+    request: &Request,
+    edit: &FileEdit,
+    changes: &[Change],
+) -> Result<Writes, AllocError>
+    ensures { IfOk result (λ writes. writes ≡ flat_map (writes_for (edited edit.now) request.now.outputs (tree_at request.now.files source_is)) changes.now) }
+{
+    let name = source_name(alloc)?;
+    let output = output_name(alloc)?;
+    let mut writes = Writes::new(alloc);
+    for change in changes {
+        match change {
+            Change::Added(path) | Change::Modified(path) => {
+                let standing = request.outputs.file_at(&output, path);
+                let contents = source::file_of(request, &name, path);
+                rewrite(alloc, &mut writes, edit, path, standing, contents)?;
+            }
+            Change::Removed(_) => {}
+        }
+    }
+    Ok(writes)
+}
+
+/// Writes what is made of the file, if there is one, unless that stands already.
+fn rewrite(
+    alloc: Global,
+    writes: &mut Writes,
+    edit: &FileEdit,
+    path: &RelPath,
+    standing: Option<&Bytes>,
+    contents: Option<&Bytes>,
+) -> Result<(), AllocError>
+    ensures { OnOk result (writes.new ≡ writes.old ++ rewritten (edited edit.now) path.now (option_copied standing.entry) (option_copied contents.entry)) }
+{
+    if let Some(bytes) = contents {
+        let made = edit.apply(alloc, bytes.as_slice())?;
+        if !holds(standing, &made) {
+            writes.push(written(alloc, path, made)?)?;
+        }
+    }
+    Ok(())
+}
+
+fn holds(standing: Option<&Bytes>, bytes: &Bytes) -> bool
+    ensures { result ≡ holds (option_copied standing.entry) bytes.now }
+{
+    match standing {
+        Some(found) => found.as_slice() == bytes.as_slice(),
+        None => false,
+    }
+}
+
+fn written(alloc: Global, path: &RelPath, bytes: Bytes) -> Result<Written, AllocError>
+    ensures { IfOk result (λ file. file ≡ file_of path.now bytes) }
+{
+    Ok(Written {
+        output: output_name(alloc)?,
+        path: path.copy()?,
+        bytes,
+    })
+}

@@ -1,0 +1,96 @@
+//! The kinds that read files, and the one that adds a file.
+ghost use Rattle.std.specs.Prelude.{◌≡◌, IfOk, IsTrue};
+ghost use Rattle.gb_core.specs.Place.{is_rel_path};
+ghost use Rattle.gb_action.specs.Files.{tree_at};
+ghost use Rattle.gb_action.specs.Replies.{Answers};
+ghost use Rattle.gb_action.specs.Shapes.{IsAsked};
+ghost use Rattle.gb_kinds.specs.Builtin.{builtin_shape, builtin_makes, builtin_prints};
+ghost use Rattle.gb_kinds.specs.ByFile.{all_bytes};
+
+use crate::arguments::{first_text, second_text};
+use crate::by_file::reply_by_file;
+use crate::edit::FileEdit;
+use crate::names::{own_path, source_name};
+use crate::one_file::one_file;
+use crate::shapes::{ADD_FILE, CONCAT, COPY_FILES, KEEP_LINES, REPLACE_TOKENS, SUMS};
+use crate::source::files_of;
+use gb_action::reply::{ActionFault, Reply};
+use gb_action::request::Request;
+use gb_core::bytes::Bytes;
+use gb_core::place::RelPath;
+use std::alloc::{AllocError, Global};
+
+/// Makes each file again, at the same path.
+pub fn copy_files(alloc: Global, request: &Request) -> Result<Reply, ActionFault>
+    requires { IsAsked (builtin_shape COPY_FILES) request.now }
+    ensures { Answers (builtin_makes COPY_FILES) (builtin_prints COPY_FILES) request.now result }
+{
+    Ok(reply_by_file(alloc, request, &FileEdit::Copy)?)
+}
+
+/// Makes each file with a value in place of each `@key@`.
+pub fn replace_tokens(alloc: Global, request: &Request) -> Result<Reply, ActionFault>
+    requires { IsAsked (builtin_shape REPLACE_TOKENS) request.now }
+    ensures { Answers (builtin_makes REPLACE_TOKENS) (builtin_prints REPLACE_TOKENS) request.now result }
+{
+    let edit = FileEdit::ReplaceToken {
+        key: first_text(&request.args),
+        value: second_text(&request.args),
+    };
+    Ok(reply_by_file(alloc, request, &edit)?)
+}
+
+/// Makes each file with its lines that hold a text.
+pub fn keep_lines(alloc: Global, request: &Request) -> Result<Reply, ActionFault>
+    requires { IsAsked (builtin_shape KEEP_LINES) request.now }
+    ensures { Answers (builtin_makes KEEP_LINES) (builtin_prints KEEP_LINES) request.now result }
+{
+    let edit = FileEdit::KeepLines(first_text(&request.args));
+    Ok(reply_by_file(alloc, request, &edit)?)
+}
+
+/// Makes for each file one that holds its SHA-256 in hex, and a line feed.
+pub fn sums(alloc: Global, request: &Request) -> Result<Reply, ActionFault>
+    requires { IsAsked (builtin_shape SUMS) request.now }
+    ensures { Answers (builtin_makes SUMS) (builtin_prints SUMS) request.now result }
+{
+    Ok(reply_by_file(alloc, request, &FileEdit::Sum)?)
+}
+
+/// Makes one file of the bytes of all, in the order of their paths.
+pub fn concat(alloc: Global, request: &Request) -> Result<Reply, ActionFault>
+    requires { IsAsked (builtin_shape CONCAT) request.now }
+    ensures { Answers (builtin_makes CONCAT) (builtin_prints CONCAT) request.now result }
+{
+    let name = source_name(alloc)?;
+    let bytes = all_bytes(alloc, files_of(request, &name))?;
+    Ok(one_file(alloc, own_path(alloc)?, bytes)?)
+}
+
+/// Makes the file at a path beneath the output, which holds a text.
+pub fn add_file(alloc: Global, request: &Request) -> Result<Reply, ActionFault>
+    requires { IsAsked (builtin_shape ADD_FILE) request.now }
+    ensures { Answers (builtin_makes ADD_FILE) (builtin_prints ADD_FILE) request.now result }
+{
+    let path = rel_path(alloc, first_text(&request.args))?;
+    let text = second_text(&request.args);
+    Ok(one_file(alloc, path, Bytes::from_slice(alloc, text.as_bytes())?)?)
+}
+
+/// The path of a text that is known to be one.
+fn rel_path(alloc: Global, text: &str) -> Result<RelPath, AllocError>
+    requires { IsTrue (is_rel_path text.now) }
+    ensures { IfOk result (λ path. path ≡ text.now) }
+{
+    RelPath::read(alloc, text).map_err(|_| AllocError)
+}
+
+fn all_bytes(alloc: Global, files: &[(RelPath, Bytes)]) -> Result<Bytes, AllocError>
+    ensures { IfOk result (λ bytes. bytes ≡ all_bytes files.now) }
+{
+    let mut joined = Vec::new(alloc);
+    for (_, bytes) in files {
+        joined.extend_from_slice(bytes.as_slice())?;
+    }
+    Ok(Bytes::new(joined))
+}

@@ -1,0 +1,28 @@
+-- A look-up in a list of entries, from an index on.
+use Rattle.std.proofs.Common.{◌≡◌, ◌≢◌, ℕ, cond, List, ◌∷◌, Some, refl, sym, ap, subst}
+use Rattle.std.specs.Ordering.{is_eq}
+use Rattle.std.specs.Cmp.{tied_itself}
+use Rattle.std.specs.Cmp.Lexicographic.{nat_list_cmp_total}
+use Rattle.std.specs.declared.cmp.Ordering.TheVariants.{Less, Equal, Greater}
+use Rattle.std.specs.FinMap.{nat_cmp-IsAntisymmetric, slice_cmp-IsAntisymmetric}
+use Rattle.std.specs.FinMap.Entries.{find}
+use Rattle.gb_provider.specs.Table.{byte_order}
+
+-- keys that tie are equal
+pub tied_same : (q k : List ℕ) → byte_order q k ≡ Equal → q ≡ k
+tied_same q k e = slice_cmp-IsAntisymmetric nat_cmp-IsAntisymmetric q k e
+
+pub same_tied : (q k : List ℕ) → q ≡ k → byte_order q k ≡ Equal
+same_tied q k e = subst (λ x. byte_order q x ≡ Equal) e (tied_itself nat_list_cmp_total q)
+
+module _ {X : Type 0} (q : List ℕ) (e : List ℕ × X) (es : List (List ℕ × X)) where
+  pub find-same : e.0 ≡ q → find byte_order q (e ∷ es) ≡ Some e.1
+  find-same is = ap (λ r. cond (is_eq r) (Some e.1) (find byte_order q es)) (same_tied q e.0 (sym is))
+
+  pub find-other : e.0 ≢ q → find byte_order q (e ∷ es) ≡ find byte_order q es
+  find-other other =
+      elim (byte_order q e.0) as (λ r. byte_order q e.0 ≡ r → cond (is_eq r) (Some e.1) (find byte_order q es) ≡ find byte_order q es) [
+        | Less ↦ λ p. refl
+        | Equal ↦ λ p. absurd (other (sym (tied_same q e.0 p)))
+        | Greater ↦ λ p. refl
+      ] refl

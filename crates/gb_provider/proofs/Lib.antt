@@ -1,0 +1,10 @@
+pub mod Found
+pub mod Tables
+pub mod RoundsLemmas
+pub mod CircleLemmas
+pub mod SearchLemmas
+pub mod EvaluateLemmas
+pub mod RecallLemmas
+pub mod NamesLemmas
+pub mod WithinLemmas
+pub mod TestLemmas

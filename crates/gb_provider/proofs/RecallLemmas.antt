@@ -1,0 +1,46 @@
+-- What is remembered of answers.
+use Rattle.std.proofs.Common.{◌≡◌, ◌≢◌, ℕ, zero, suc, List, [], ◌∷◌, ◌++◌, refl, arith}
+use Rattle.std.specs.Prelude.{Option, Some, None, Result, Ok, Err, slice_get}
+use Rattle.gb_core.specs.declared.value.Value.{Value}
+use Rattle.gb_provider.specs.declared.fault.ProviderFault.{ProviderFault}
+use Rattle.gb_provider.specs.declared.fault.ProviderFault.TheVariants as faults
+use Rattle.gb_provider.specs.declared.expression.Expression.{Expression}
+use Rattle.gb_provider.specs.declared.expression.Outcome.{Outcome}
+use Rattle.gb_provider.specs.declared.reading.State.{State}
+use Rattle.gb_provider.specs.declared.reading.State.TheVariants.{New, Open}
+use Rattle.gb_provider.specs.Answers.{IsGot}
+use Rattle.gb_provider.specs.Meanings.{Meanings}
+use Rattle.gb_provider.specs.Remembered.{IsTold, IsRemembered}
+use Rattle.gb_provider.specs.Rounds.{Rule, answer}
+use Rattle.gb_provider.specs.Rules.{rules}
+use Rattle.gb_provider.specs.Search.{known}
+
+module _ {A : Type 0} where
+  -- one more new state says nothing
+  pub known_more : (states : List (State A)) (e : ℕ) → known (states ++ New ∷ []) e ≡ known states e
+  known_more [] zero = refl
+  known_more [] (suc e) = refl
+  known_more (state ∷ states) zero = refl
+  known_more (state ∷ states) (suc e) = known_more states e
+
+  -- and is not open
+  pub closed_more : (states : List (State A)) (e : ℕ) → slice_get states e ≢ Some Open → slice_get (states ++ New ∷ []) e ≢ Some Open
+  closed_more [] zero shut is = cc
+  closed_more [] (suc e) shut is = cc
+  closed_more (state ∷ states) zero shut is = shut is
+  closed_more (state ∷ states) (suc e) shut is = closed_more states e shut is
+
+  -- with nothing remembered, all of it is right
+  pub none_remembered : (table : List (Rule A)) → IsRemembered table []
+  none_remembered table = (omega arith, record { right = λ e a is. cc; closed = λ e is. cc })
+
+-- a known answer that is told is got
+pub told_got : {M F Z S : Type 0} (meanings : Meanings M F Z S) (nodes : List (Expression M F Z)) (number : ℕ) (o : Option Outcome) → ((a : Outcome) → o ≡ Some a → answer (rules meanings nodes) number ≡ Some a)
+    → (result : Result (Option Value) ProviderFault) → IsTold o result → IsGot meanings nodes number result
+told_got meanings nodes number o right (Ok (Some value)) told = right _ told
+told_got meanings nodes number o right (Ok None) told = right _ told
+told_got meanings nodes number o right (Err (faults.Circular names)) told = absurd told
+told_got meanings nodes number o right (Err (faults.Step fault)) told = absurd told
+told_got meanings nodes number o right (Err faults.NoValue) told = absurd told
+told_got meanings nodes number o right (Err (faults.Value fault)) told = right _ told
+told_got meanings nodes number o right (Err faults.OutOfMemory) told = tt

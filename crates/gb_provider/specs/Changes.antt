@@ -1,0 +1,67 @@
+-- Changes of properties and outputs.
+use Rattle.std.specs.Prelude.{◌≡◌, ◌<◌, ℕ, List, Bool, true, false, Option, Some, None, Result, Ok, Err, slice_get, slice_set}
+use Rattle.gb_provider.specs.declared.fault.Final.{Final}
+use Rattle.gb_provider.specs.declared.expression.Setting.TheVariants.{Held, Followed}
+use Rattle.gb_provider.specs.declared.expression.Property.{Property}
+use Rattle.gb_provider.specs.declared.expression.Expression.{Expression}
+use Rattle.gb_provider.specs.declared.expression.Expression.TheVariants.{Constant, OfProperty, OfOutput, Listed, Mapped, FlatMapped, Zipped, OrElse}
+use Rattle.gb_provider.specs.declared.expression.Node.{Node}
+use Rattle.gb_provider.specs.declared.fault.Chosen.{Chosen}
+use Rattle.gb_provider.specs.declared.change.Change.{Change}
+use Rattle.gb_provider.specs.declared.change.Change.TheVariants as changes
+use Rattle.gb_provider.specs.Answers as answers
+use Rattle.gb_provider.specs.Steps.{IsAdded}
+
+abbrev pub if_open : Property → Bool → Option Property
+if_open property true = None
+if_open property false = Some property
+
+module _ {M F Z : Type 0} where
+  -- the property at a place, if there is one that is not final
+  abbrev pub open_property : Option (Expression M F Z) → Option Property
+  open_property (Some (Constant value)) = None
+  open_property (Some (OfProperty property)) = if_open property property.is_final
+  open_property (Some (OfOutput output)) = None
+  open_property (Some (Listed operands)) = None
+  open_property (Some (Mapped source call)) = None
+  open_property (Some (FlatMapped source call)) = None
+  open_property (Some (Zipped left right call)) = None
+  open_property (Some (OrElse left right)) = None
+  open_property None = None
+
+-- What a change makes of a property.
+abbrev pub changed : Change → Property → Property
+changed (changes.Set value) property = record property { setting = Some (Held value) }
+changed (changes.SetFrom source) property = record property { setting = Some (Followed source) }
+changed changes.Unset property = record property { setting = None }
+changed (changes.Convention source) property = record property { convention = Some source }
+changed changes.Finalize property = record property { is_final = true }
+
+-- the operand of a change is one of the first n expressions
+abbrev pub ChangeWithin : ℕ → Change → Type 0
+ChangeWithin n (changes.Set value) = Unit {0}
+ChangeWithin n (changes.SetFrom source) = source < n
+ChangeWithin n changes.Unset = Unit {0}
+ChangeWithin n (changes.Convention source) = source < n
+ChangeWithin n changes.Finalize = Unit {0}
+
+-- An open property is changed, and nothing else; else the change is refused.
+abbrev pub AreChanged : {M F Z : Type 0} → Change → List (Expression M F Z) → ℕ → List (Expression M F Z) → Result (Unit {0}) Final → Type 0
+AreChanged change old at new (Ok done) =
+    (property : Property) × (open_property (slice_get old at) ≡ Some property) × (new ≡ slice_set old at (OfProperty (changed change property)))
+AreChanged change old at new (Err final) = (open_property (slice_get old at) ≡ None) × (new ≡ old)
+
+-- the same of all that providers hold: the table stays
+abbrev pub IsChanged : {M F Z S : Type 0} → Change → answers.Held M F Z S → ℕ → answers.Held M F Z S → Result (Unit {0}) Final → Type 0
+IsChanged change old at new result = AreChanged change old.nodes at new.nodes result × (new.table ≡ old.table)
+
+module _ {M F Z S : Type 0} (old : answers.Held M F Z S) (chosen : Chosen) where
+  -- the node of an output: where it stands, or one more
+  abbrev pub IsOutput : Option ℕ → answers.Held M F Z S → Node → Type 0
+  IsOutput (Some place) new node = (node.number ≡ place) × (new ≡ old)
+  IsOutput None new node = IsAdded old (OfOutput (record { chosen = chosen; declared = None })) new node
+
+  -- the node of an output, which is declared as this expression
+  abbrev pub IsDeclared : ℕ → Option ℕ → answers.Held M F Z S → Node → Type 0
+  IsDeclared source (Some place) new node = (node.number ≡ place) × (new ≡ record old { nodes = slice_set old.nodes place (OfOutput (record { chosen = chosen; declared = Some source })) })
+  IsDeclared source None new node = IsAdded old (OfOutput (record { chosen = chosen; declared = Some source })) new node

@@ -1,0 +1,14 @@
+pub mod Meanings
+pub mod Table
+pub mod Faults
+pub mod Rounds
+pub mod Circle
+pub mod Called
+pub mod Rules
+pub mod Search
+pub mod Names
+pub mod Answers
+pub mod Steps
+pub mod Changes
+pub mod Remembered
+pub mod Sample

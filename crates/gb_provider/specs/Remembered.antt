@@ -1,0 +1,30 @@
+-- What providers remember of the answers that they gave.
+use Rattle.std.specs.Prelude.{◌≡◌, ◌≤◌, List, length, All, Option, Some, None, Result, Ok, Err}
+use Rattle.gb_core.specs.declared.value.Value.{Value}
+use Rattle.gb_provider.specs.declared.fault.ProviderFault.{ProviderFault}
+use Rattle.gb_provider.specs.declared.fault.ProviderFault.TheVariants as faults
+use Rattle.gb_provider.specs.declared.expression.Expression.{Expression}
+use Rattle.gb_provider.specs.declared.expression.Outcome.{Outcome}
+use Rattle.gb_provider.specs.declared.expression.Outcome.TheVariants.{Given, Absent, Refused}
+use Rattle.gb_provider.specs.declared.reading.State.{State}
+use Rattle.gb_provider.specs.Rounds.{Rule}
+use Rattle.gb_provider.specs.Rules.{OperandsWithin}
+use Rattle.gb_provider.specs.Search.{IsSound}
+
+-- each operand is an expression of the table
+abbrev pub AreWithin : {M F Z : Type 0} → List (Expression M F Z) → Type 0
+AreWithin nodes = All (λ node. OperandsWithin (length nodes) node) nodes
+
+-- the first expressions have states, and each answer that is known is right
+abbrev pub IsRemembered : {A : Type 0} → List (Rule A) → List (State A) → Type 0
+IsRemembered rules states = (length states ≤ length rules) × IsSound rules states
+
+-- how an answer is told
+abbrev pub IsTold : Option Outcome → Result (Option Value) ProviderFault → Type 0
+IsTold answer (Ok (Some value)) = answer ≡ Some (Given value)
+IsTold answer (Ok None) = answer ≡ Some Absent
+IsTold answer (Err (faults.Circular names)) = ⊥
+IsTold answer (Err (faults.Step fault)) = ⊥
+IsTold answer (Err faults.NoValue) = ⊥
+IsTold answer (Err (faults.Value fault)) = answer ≡ Some (Refused fault)
+IsTold answer (Err faults.OutOfMemory) = Unit {0}

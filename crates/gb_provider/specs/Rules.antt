@@ -1,0 +1,155 @@
+-- How an expression is evaluated.
+use Rattle.std.specs.Prelude.{◌≡◌, ℕ, ◌<◌, List, [], ◌∷◌, ◌++◌, Bool, false, ◌&&◌, Option, Some, None, Result, Ok, Err, position, map, codes, All}
+use Rattle.std.specs.Str.{bytes_eq}
+use Rattle.gb_core.specs.declared.value.Value.{Value}
+use Rattle.gb_core.specs.declared.value.Value.TheVariants as values
+use Rattle.gb_provider.specs.declared.fault.Chosen.{Chosen}
+use Rattle.gb_provider.specs.declared.fault.Refusal.{Refusal}
+use Rattle.gb_provider.specs.declared.fault.Refusal.TheVariants.{WrongValue}
+use Rattle.gb_provider.specs.declared.fault.TransformFault.{TransformFault}
+use Rattle.gb_provider.specs.declared.fault.TransformFault.TheVariants as thrown
+use Rattle.gb_provider.specs.declared.fault.ValueFault.TheVariants as faults
+use Rattle.gb_provider.specs.declared.expression.Node.{Node}
+use Rattle.gb_provider.specs.declared.expression.Setting.{Setting}
+use Rattle.gb_provider.specs.declared.expression.Setting.TheVariants.{Held, Followed}
+use Rattle.gb_provider.specs.declared.expression.Expression.{Expression}
+use Rattle.gb_provider.specs.declared.expression.Expression.TheVariants.{Constant, OfProperty, OfOutput, Listed, Mapped, FlatMapped, Zipped, OrElse}
+use Rattle.gb_provider.specs.declared.expression.Outcome.{Outcome}
+use Rattle.gb_provider.specs.declared.expression.Outcome.TheVariants.{Given, Absent, Refused}
+use Rattle.gb_provider.specs.Called.{Called}
+use Rattle.gb_provider.specs.Meanings.{Meanings, meaning_of}
+use Rattle.gb_provider.specs.Rounds.{Rule, Answers, Reads}
+
+abbrev pub numbers_of : List Node → List ℕ
+numbers_of nodes = map (λ node. node.number) nodes
+
+-- the function of this name refuses
+abbrev pub refused : List ℕ → Refusal → Outcome
+refused function refusal = Refused (faults.Refused function refusal)
+
+-- a function's fault as an outcome
+abbrev pub RefusedAs : List ℕ → TransformFault → Outcome → Type 0
+RefusedAs function (thrown.Refused refusal) outcome = outcome ≡ refused function refusal
+RefusedAs function thrown.OutOfMemory outcome = ⊥
+
+-- the answer of another expression
+abbrev pub follow : ℕ → Rule Outcome
+follow operand = Reads operand Answers
+
+-- what follows where the operand is a value; else the operand is the answer
+abbrev pub on_value : (Value → Rule Outcome) → Outcome → Rule Outcome
+on_value go_on (Given value) = go_on value
+on_value go_on Absent = Answers Absent
+on_value go_on (Refused fault) = Answers (Refused fault)
+
+-- A property: what is set, else the convention, else absent.
+abbrev pub property_rule : Option Setting → Option ℕ → Rule Outcome
+property_rule (Some (Held value)) convention = Answers (Given value)
+property_rule (Some (Followed source)) convention = follow source
+property_rule None (Some source) = follow source
+property_rule None None = Answers Absent
+
+-- An output: the value of its expression; 36 while it is not declared.
+abbrev pub output_rule : Chosen → Option ℕ → Rule Outcome
+output_rule chosen (Some source) = follow source
+output_rule chosen None = Answers (Refused (faults.Unrealised chosen))
+
+-- an element of a list has to be a text
+abbrev pub on_text : (List ℕ → Rule Outcome) → Value → Rule Outcome
+on_text go_on (values.Text text) = go_on text
+on_text go_on (values.Flag flag) = Answers (refused (codes "list") WrongValue)
+on_text go_on (values.List texts) = Answers (refused (codes "list") WrongValue)
+on_text go_on (values.Place place) = Answers (refused (codes "list") WrongValue)
+on_text go_on (values.Task task) = Answers (refused (codes "list") WrongValue)
+
+-- A list: the texts of its elements from the left, behind those already there.
+abbrev pub list_rule : List (List ℕ) → List ℕ → Rule Outcome
+list_rule texts [] = Answers (Given (values.List texts))
+list_rule texts (operand ∷ operands) = Reads operand (on_value (on_text (λ text. list_rule (texts ++ text ∷ []) operands)))
+
+abbrev pub mapped : List ℕ → Result (Option Value) Refusal → Outcome
+mapped function (Ok (Some value)) = Given value
+mapped function (Ok None) = Absent
+mapped function (Err refusal) = refused function refusal
+
+abbrev pub zipped : List ℕ → Result Value Refusal → Outcome
+zipped function (Ok value) = Given value
+zipped function (Err refusal) = refused function refusal
+
+abbrev pub is_chosen : Chosen → Chosen → Bool
+is_chosen chosen other = bytes_eq other.task chosen.task && bytes_eq other.output chosen.output
+
+module _ {M F Z : Type 0} where
+  abbrev pub is_output : Chosen → Expression M F Z → Bool
+  is_output chosen (Constant value) = false
+  is_output chosen (OfProperty property) = false
+  is_output chosen (OfOutput output) = is_chosen chosen output.chosen
+  is_output chosen (Listed operands) = false
+  is_output chosen (Mapped source call) = false
+  is_output chosen (FlatMapped source call) = false
+  is_output chosen (Zipped left right call) = false
+  is_output chosen (OrElse left right) = false
+
+  -- where an output stands
+  abbrev pub output_place : List (Expression M F Z) → Chosen → Option ℕ
+  output_place nodes chosen = position (is_output chosen) nodes
+
+  -- `flatMap`: the chosen output; absent where none is chosen.
+  abbrev pub chosen_rule : List (Expression M F Z) → List ℕ → Result (Option Chosen) Refusal → Rule Outcome
+  chosen_rule nodes function (Ok (Some chosen)) = output_rule chosen (output_place nodes chosen)
+  chosen_rule nodes function (Ok None) = Answers Absent
+  chosen_rule nodes function (Err refusal) = Answers (refused function refusal)
+
+-- `orElse`: the left unless it is absent, then the right.
+abbrev pub or_else : ℕ → Outcome → Rule Outcome
+or_else right (Given value) = Answers (Given value)
+or_else right Absent = follow right
+or_else right (Refused fault) = Answers (Refused fault)
+
+module _ {M F Z S : Type 0} (meanings : Meanings M F Z S) where
+  abbrev pub map_rule : ℕ → Called M → Rule Outcome
+  map_rule source call =
+      Reads source (on_value (λ value. Answers (mapped call.name (meaning_of meanings.map call.function value call.arguments))))
+
+  abbrev pub flat_map_rule : List (Expression M F Z) → ℕ → Called F → Rule Outcome
+  flat_map_rule nodes source call =
+      Reads source (on_value (λ value. chosen_rule nodes call.name (meaning_of meanings.flat_map call.function value call.arguments)))
+
+  abbrev pub zip_rule : ℕ → ℕ → Called Z → Rule Outcome
+  zip_rule left right call =
+      Reads left (on_value (λ a. Reads right (on_value (λ b. Answers (zipped call.name (meaning_of meanings.zip call.function a b call.arguments))))))
+
+  -- How an expression of a table is evaluated.
+  abbrev pub rule : List (Expression M F Z) → Expression M F Z → Rule Outcome
+  rule nodes (Constant value) = Answers (Given value)
+  rule nodes (OfProperty property) = property_rule property.setting property.convention
+  rule nodes (OfOutput output) = output_rule output.chosen output.declared
+  rule nodes (Listed operands) = list_rule [] operands
+  rule nodes (Mapped source call) = map_rule source call
+  rule nodes (FlatMapped source call) = flat_map_rule nodes source call
+  rule nodes (Zipped left right call) = zip_rule left right call
+  rule nodes (OrElse left right) = Reads left (or_else right)
+
+  abbrev pub rules : List (Expression M F Z) → List (Rule Outcome)
+  rules nodes = map (rule nodes) nodes
+
+-- the place, if there is one, is one of the first n
+abbrev pub PlaceWithin : ℕ → Option ℕ → Type 0
+PlaceWithin n None = Unit {0}
+PlaceWithin n (Some place) = place < n
+
+abbrev pub SettingWithin : ℕ → Option Setting → Type 0
+SettingWithin n None = Unit {0}
+SettingWithin n (Some (Held value)) = Unit {0}
+SettingWithin n (Some (Followed source)) = source < n
+
+-- the operands that an expression names are among the first n
+abbrev pub OperandsWithin : {M F Z : Type 0} → ℕ → Expression M F Z → Type 0
+OperandsWithin n (Constant value) = Unit {0}
+OperandsWithin n (OfProperty property) = SettingWithin n property.setting × PlaceWithin n property.convention
+OperandsWithin n (OfOutput output) = PlaceWithin n output.declared
+OperandsWithin n (Listed operands) = All (λ operand. operand < n) operands
+OperandsWithin n (Mapped source call) = source < n
+OperandsWithin n (FlatMapped source call) = source < n
+OperandsWithin n (Zipped left right call) = (left < n) × (right < n)
+OperandsWithin n (OrElse left right) = (left < n) × (right < n)

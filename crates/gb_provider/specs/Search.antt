@@ -1,0 +1,61 @@
+-- A search for the answer of one entry.
+use Rattle.std.specs.Prelude.{◌≡◌, ◌≢◌, ℕ, ◌+◌, ◌<◌, List, length, Option, Some, None, Result, Ok, Err, Vec, slice_get, slice_index, sum_by}
+use Rattle.std.specs.declared.alloc.Global.{Global}
+use Rattle.std.specs.declared.alloc.AllocError.{AllocError}
+use Rattle.gb_provider.specs.Circle.{IsCircle}
+use Rattle.gb_provider.specs.declared.reading.State.{State}
+use Rattle.gb_provider.specs.declared.reading.State.TheVariants.{New, Open, Known}
+use Rattle.gb_provider.specs.declared.reading.Reading.{Reading}
+use Rattle.gb_provider.specs.declared.reading.Reading.TheVariants.{Settles, Waits}
+use Rattle.gb_provider.specs.Rounds.{Rule, reading, answer, and_then}
+
+-- the answer of an entry, where it is known
+abbrev pub known_answer : {A : Type 0} → State A → Option A
+known_answer New = None
+known_answer Open = None
+known_answer (Known a) = Some a
+
+abbrev pub known : {A : Type 0} → List (State A) → ℕ → Option A
+known states entry = and_then known_answer (slice_get states entry)
+
+-- what a look waits for is one of the first n
+abbrev pub WaitsWithin : {A : Type 0} → ℕ → Reading A → Type 0
+WaitsWithin n (Settles a) = Unit {0}
+WaitsWithin n (Waits operand) = operand < n
+
+-- with the answers f, the rule of an entry waits for an operand
+pub record WaitsFor {A : Type 0} (rules : List (Rule A)) (f : ℕ → Option A) (entry operand : ℕ) : Type 0 where
+  pub rule : Rule A
+  pub there : slice_get rules entry ≡ Some rule
+  pub waits : reading f rule ≡ Waits operand
+
+-- what is known is right, and the open entries are a path on which each waits for the next
+pub record IsSearch {A : Type 0} (rules : List (Rule A)) (entry : ℕ) (states : List (State A)) (path : List ℕ) : Type 0 where
+  pub same : length states ≡ length rules
+  pub right : (e : ℕ) (a : A) → known states e ≡ Some a → answer rules e ≡ Some a
+  pub first : 0 < length path → slice_index path 0 ≡ entry
+  pub done : length path ≡ 0 → (a : A) × (known states entry ≡ Some a)
+  pub opened : (k : ℕ) → k < length path → slice_get states (slice_index path k) ≡ Some Open
+  pub waits : (k : ℕ) → k + 1 < length path → WaitsFor rules (known states) (slice_index path k) (slice_index path (k + 1))
+  pub different : (i j : ℕ) → i < j → j < length path → slice_index path i ≢ slice_index path j
+  pub listed : (e : ℕ) → slice_get states e ≡ Some Open → (k : ℕ) × (k < length path) × (slice_index path k ≡ e)
+
+-- what is known is right, and no entry is being evaluated
+pub record IsSound {A : Type 0} (rules : List (Rule A)) (states : List (State A)) : Type 0 where
+  pub right : (e : ℕ) (a : A) → known states e ≡ Some a → answer rules e ≡ Some a
+  pub closed : (e : ℕ) → slice_get states e ≢ Some Open
+
+-- what an evaluation of an entry comes to: its answer is known, or it runs into a circle
+abbrev pub IsEvaluated : {A : Type 0} → List (Rule A) → ℕ → List (State A) → Result (Option (Vec ℕ Global)) AllocError → Type 0
+IsEvaluated {A} rules entry states (Ok None) = (length states ≡ length rules) × IsSound rules states × ((a : A) × (known states entry ≡ Some a))
+IsEvaluated rules entry states (Ok (Some circle)) = (answer rules entry ≡ None) × IsCircle rules entry circle.items
+IsEvaluated rules entry states (Err failed) = Unit {0}
+
+-- how much is left to do at an entry
+abbrev pub left_at : {A : Type 0} → State A → ℕ
+left_at New = 2
+left_at Open = 1
+left_at (Known a) = 0
+
+abbrev pub left : {A : Type 0} → List (State A) → ℕ
+left states = sum_by left_at states

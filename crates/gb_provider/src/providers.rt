@@ -1,0 +1,395 @@
+//! Providers.
+ghost use Rattle.std.specs.Prelude.{◌≡◌, ◌<◌, ◌++◌, [], ◌∷◌, length, All, IfOk, OnErr, None, false};
+ghost use Rattle.gb_provider.specs.Answers.{IsGot, IsRequired, IsTested, IsTestedBy, IsAsked};
+ghost use Rattle.gb_provider.specs.Meanings.{meaning_of};
+ghost use Rattle.gb_provider.specs.Changes.{ChangeWithin, IsChanged, IsOutput, IsDeclared};
+ghost use Rattle.gb_provider.specs.Table.{map_named, flat_map_named, zip_named, test_named};
+ghost use Rattle.gb_provider.specs.Rules.{numbers_of, OperandsWithin, output_place};
+ghost use Rattle.gb_provider.specs.Steps.{IsAdded, IsStep};
+
+use crate::change::{Change, change_property, put};
+use crate::evaluate::output_place;
+use crate::expression::{Call, Expression, Node, Operands, Outcome, Output, Property};
+use crate::fault::{Chosen, Final, ProviderFault, StepFault, TransformFault, ValueFault};
+use crate::reading::State;
+use crate::recall::recall;
+use crate::table::TransformTable;
+use crate::transforms::Transforms;
+use gb_core::name::Name;
+use gb_core::path::{ProjectPath, TaskPath};
+use gb_core::text::{Text, Texts};
+use gb_core::value::Value;
+use std::alloc::{AllocError, Global};
+use std::marker::Model;
+
+/// A table of providers, over a table of stored functions. What was read once is remembered until
+/// a property or an output changes.
+#[derive(Drop)]
+pub struct Providers<'a, T: Transforms> {
+    alloc: Global,
+    table: &'a TransformTable<T::Map, T::FlatMap, T::Zip, T::Test>,
+    nodes: Vec<Expression<'a, T::Map, T::FlatMap, T::Zip>>,
+    states: Vec<State<Outcome>>,
+}
+
+impl<'a, T: Transforms> Model for Providers<'a, T> {
+    ghost use Rattle.gb_provider.specs.Answers.{Held};
+    ghost use Rattle.gb_provider.specs.Remembered.{AreWithin, IsRemembered};
+    ghost use Rattle.gb_provider.specs.Rules.{rules};
+
+    ghost Value = { Held T.Map T.FlatMap T.Zip T.Test };
+
+    ghost view = { λ p. record { table = p.table.now; nodes = p.nodes.items } };
+
+    ghost invariant = { λ p. AreWithin p.nodes.items × IsRemembered (rules T.meanings p.nodes.items) p.states.items };
+}
+
+impl<'a, T: Transforms> Providers<'a, T> {
+    /// No expression yet. The stored functions are those of the table.
+    pub fn new(
+        alloc: Global,
+        table: &'a TransformTable<T::Map, T::FlatMap, T::Zip, T::Test>,
+    ) -> Self
+        ensures { result ≡ record { table = table.now; nodes = [] } }
+    {
+        Providers {
+            alloc,
+            table,
+            nodes: Vec::new(alloc),
+            states: Vec::new(alloc),
+        }
+    }
+
+    // Puts an expression behind the others. Nothing is remembered after it.
+    fn add(
+        &mut self,
+        expression: Expression<'a, T::Map, T::FlatMap, T::Zip>,
+    ) -> Result<Node, AllocError>
+        requires { OperandsWithin (length self.old.nodes) expression }
+        ensures ok { IfOk result (λ node. IsAdded self.old expression.entry self.new node) }
+        ensures err { OnErr result (self.new ≡ self.old) }
+    {
+        let number = self.nodes.len();
+        self.nodes.push(expression)?;
+        self.states.clear();
+        Ok(Node { number })
+    }
+
+    /// A constant.
+    pub fn value(&mut self, value: Value) -> Result<Node, AllocError>
+        ensures ok { IfOk result (λ node. IsAdded self.old (Expression.Constant value) self.new node) }
+        ensures err { OnErr result (self.new ≡ self.old) }
+    {
+        self.add(Expression::Constant(value))
+    }
+
+    /// A property of a project that nothing sets yet. On a circle it is told by this path and name.
+    pub fn property(&mut self, project: ProjectPath, name: Name) -> Result<Node, AllocError>
+        ensures ok { IfOk result (λ node. IsAdded self.old (Expression.OfProperty (record { project = project; name = name; setting = None; convention = None; is_final = false })) self.new node) }
+        ensures err { OnErr result (self.new ≡ self.old) }
+    {
+        self.add(Expression::OfProperty(Property {
+            project,
+            name,
+            setting: None,
+            convention: None,
+            is_final: false,
+        }))
+    }
+
+    /// The list of the texts that these give: absent where one is, and 34 where one is no text.
+    pub fn list(&mut self, elements: &[Node]) -> Result<Node, AllocError>
+        requires { All (λ element. element.number < length self.old.nodes) elements.now }
+        ensures ok { IfOk result (λ node. IsAdded self.old (Expression.Listed (numbers_of elements.now)) self.new node) }
+        ensures err { OnErr result (self.new ≡ self.old) }
+    {
+        let operands = Operands::of(self.alloc, elements)?;
+        self.add(Expression::Listed(operands))
+    }
+
+    /// The left where it is present, else the right.
+    pub fn or_else(&mut self, left: Node, right: Node) -> Result<Node, AllocError>
+        requires left { left.number < length self.old.nodes }
+        requires right { right.number < length self.old.nodes }
+        ensures ok { IfOk result (λ node. IsAdded self.old (Expression.OrElse left.number right.number) self.new node) }
+        ensures err { OnErr result (self.new ≡ self.old) }
+    {
+        self.add(Expression::OrElse(left.number, right.number))
+    }
+
+    /// The output of a task, which stands once; 36 until it is declared.
+    pub fn output(&mut self, task: TaskPath, name: Text) -> Result<Node, AllocError>
+        ensures ok { IfOk result (λ node. IsOutput self.old (record { task = task; output = name }) (output_place self.old.nodes (record { task = task; output = name })) self.new node) }
+        ensures err { OnErr result (self.new ≡ self.old) }
+    {
+        let chosen = Chosen { task, output: name };
+        match output_place(&self.nodes, &chosen) {
+            Some(number) => Ok(Node { number }),
+            None => self.add(Expression::OfOutput(Output {
+                chosen,
+                declared: None,
+            })),
+        }
+    }
+
+    /// Declares the output of a task as an expression, in place of an earlier one.
+    pub fn declare_output(
+        &mut self,
+        task: TaskPath,
+        name: Text,
+        source: Node,
+    ) -> Result<Node, AllocError>
+        requires { source.number < length self.old.nodes }
+        ensures ok { IfOk result (λ node. IsDeclared self.old (record { task = task; output = name }) source.number (output_place self.old.nodes (record { task = task; output = name })) self.new node) }
+        ensures err { OnErr result (self.new ≡ self.old) }
+    {
+        let chosen = Chosen { task, output: name };
+        let place = output_place(&self.nodes, &chosen);
+        let declared = Expression::OfOutput(Output {
+            chosen,
+            declared: Some(source.number),
+        });
+        match place {
+            Some(number) => {
+                put(&mut self.nodes, number, declared);
+                self.states.clear();
+                Ok(Node { number })
+            }
+            None => self.add(declared),
+        }
+    }
+
+    /// What a function of `map` makes of a value: absent where that is, or where it gives nothing.
+    pub fn map(&mut self, source: Node, name: &str, arguments: Texts) -> Result<Node, StepFault>
+        requires { source.number < length self.old.nodes }
+        ensures step { IsStep self.old (Expression.Mapped source.number) T.meanings.map.arity (map_named self.old.table name.now) name.now arguments self.new result }
+        ensures err { OnErr result (self.new ≡ self.old) }
+    {
+        let Some(function) = self.table.find_map(name) else {
+            return Err(StepFault::UnknownTransform);
+        };
+        if T::map_arity(function) as usize != arguments.as_slice().len() {
+            return Err(StepFault::BadArguments);
+        }
+        let name = Text::from_str(self.alloc, name)?;
+        let node = self.add(Expression::Mapped(
+            source.number,
+            Call {
+                name,
+                function,
+                arguments,
+            },
+        ))?;
+        Ok(node)
+    }
+
+    /// The output that a function of `flatMap` chooses by a value; absent where it chooses none.
+    pub fn flat_map(
+        &mut self,
+        source: Node,
+        name: &str,
+        arguments: Texts,
+    ) -> Result<Node, StepFault>
+        requires { source.number < length self.old.nodes }
+        ensures step { IsStep self.old (Expression.FlatMapped source.number) T.meanings.flat_map.arity (flat_map_named self.old.table name.now) name.now arguments self.new result }
+        ensures err { OnErr result (self.new ≡ self.old) }
+    {
+        let Some(function) = self.table.find_flat(name) else {
+            return Err(StepFault::UnknownTransform);
+        };
+        if T::flat_map_arity(function) as usize != arguments.as_slice().len() {
+            return Err(StepFault::BadArguments);
+        }
+        let name = Text::from_str(self.alloc, name)?;
+        let node = self.add(Expression::FlatMapped(
+            source.number,
+            Call {
+                name,
+                function,
+                arguments,
+            },
+        ))?;
+        Ok(node)
+    }
+
+    /// What a function of `zip` makes of two values: absent where one is.
+    pub fn zip(
+        &mut self,
+        left: Node,
+        right: Node,
+        name: &str,
+        arguments: Texts,
+    ) -> Result<Node, StepFault>
+        requires left { left.number < length self.old.nodes }
+        requires right { right.number < length self.old.nodes }
+        ensures step { IsStep self.old (Expression.Zipped left.number right.number) T.meanings.zip.arity (zip_named self.old.table name.now) name.now arguments self.new result }
+        ensures err { OnErr result (self.new ≡ self.old) }
+    {
+        let Some(function) = self.table.find_zip(name) else {
+            return Err(StepFault::UnknownTransform);
+        };
+        if T::zip_arity(function) as usize != arguments.as_slice().len() {
+            return Err(StepFault::BadArguments);
+        }
+        let name = Text::from_str(self.alloc, name)?;
+        let node = self.add(Expression::Zipped(
+            left.number,
+            right.number,
+            Call {
+                name,
+                function,
+                arguments,
+            },
+        ))?;
+        Ok(node)
+    }
+
+    // Changes a property. Nothing is remembered after it.
+    fn change(&mut self, node: Node, change: Change) -> Result<(), Final>
+        requires node { node.number < length self.old.nodes }
+        requires change { ChangeWithin (length self.old.nodes) change }
+        ensures { IsChanged change self.old node.number self.new result }
+    {
+        change_property(&mut self.nodes, node.number, change)?;
+        self.states.clear();
+        Ok(())
+    }
+
+    /// Sets a property. 35 where it is final, or where the node is no property. Takes no memory.
+    pub fn set(&mut self, node: Node, value: Value) -> Result<(), Final>
+        requires { node.number < length self.old.nodes }
+        ensures { IsChanged (Change.Set value) self.old node.number self.new result }
+    {
+        self.change(node, Change::Set(value))
+    }
+
+    /// Lets a property follow an expression, and be absent where that is, convention or not. 35 as
+    /// in `set`. Takes no memory.
+    pub fn set_from(&mut self, node: Node, source: Node) -> Result<(), Final>
+        requires node { node.number < length self.old.nodes }
+        requires source { source.number < length self.old.nodes }
+        ensures { IsChanged (Change.SetFrom source.number) self.old node.number self.new result }
+    {
+        self.change(node, Change::SetFrom(source.number))
+    }
+
+    /// Takes back what a property was set to. 35 as in `set`. Takes no memory.
+    pub fn unset(&mut self, node: Node) -> Result<(), Final>
+        requires { node.number < length self.old.nodes }
+        ensures { IsChanged Change.Unset self.old node.number self.new result }
+    {
+        self.change(node, Change::Unset)
+    }
+
+    /// What a property follows where it is not set. 35 as in `set`. Takes no memory.
+    pub fn convention(&mut self, node: Node, source: Node) -> Result<(), Final>
+        requires node { node.number < length self.old.nodes }
+        requires source { source.number < length self.old.nodes }
+        ensures { IsChanged (Change.Convention source.number) self.old node.number self.new result }
+    {
+        self.change(node, Change::Convention(source.number))
+    }
+
+    /// Makes a property final. 35 as in `set`. Takes no memory.
+    pub fn disallow_changes(&mut self, node: Node) -> Result<(), Final>
+        requires { node.number < length self.old.nodes }
+        ensures { IsChanged Change.Finalize self.old node.number self.new result }
+    {
+        self.change(node, Change::Finalize)
+    }
+
+    /// The value of an expression, or nothing where it is absent.
+    pub fn get(&mut self, node: Node) -> Result<Option<Value>, ProviderFault>
+        requires { node.number < length self.old.nodes }
+        ensures got { IsGot T.meanings self.old.nodes node.number result }
+        ensures kept { self.new ≡ self.old }
+    {
+        recall::<T>(self.alloc, &self.nodes, &mut self.states, node.number)
+    }
+
+    /// The value of an expression; 33 where it is absent.
+    pub fn require(&mut self, node: Node) -> Result<Value, ProviderFault>
+        requires { node.number < length self.old.nodes }
+        ensures required { IsRequired T.meanings self.old.nodes node.number result }
+        ensures kept { self.new ≡ self.old }
+    {
+        match self.get(node) {
+            Ok(Some(value)) => Ok(value),
+            Ok(None) => Err(ProviderFault::NoValue),
+            Err(fault) => Err(fault),
+        }
+    }
+
+    /// Whether a test passes of the value of an expression: never where it is absent.
+    pub fn test(
+        &mut self,
+        node: Node,
+        name: &str,
+        arguments: &[Text],
+    ) -> Result<bool, ProviderFault>
+        requires { node.number < length self.old.nodes }
+        ensures tested { IsTested T.meanings self.old node.number name.now arguments.now (test_named self.old.table name.now) result }
+        ensures kept { self.new ≡ self.old }
+    {
+        let Some(function) = self.table.find_test(name) else {
+            return Err(ProviderFault::Step(StepFault::UnknownTransform));
+        };
+        if T::test_arity(function) as usize != arguments.len() {
+            return Err(ProviderFault::Step(StepFault::BadArguments));
+        }
+        self.test_by(node, function, name, arguments)
+    }
+
+    // The answer of a test that takes as many arguments.
+    fn test_by(
+        &mut self,
+        node: Node,
+        test: &T::Test,
+        name: &str,
+        arguments: &[Text],
+    ) -> Result<bool, ProviderFault>
+        requires node { node.number < length self.old.nodes }
+        requires count { T.meanings.test.arity test.now ≡ length arguments.now }
+        ensures tested { IsTestedBy T.meanings self.old node.number name.now arguments.now test.now result }
+        ensures kept { self.new ≡ self.old }
+    {
+        match self.get(node) {
+            Ok(Some(value)) => ask_once::<T>(self.alloc, test, name, value, arguments),
+            Ok(None) => Ok(false),
+            Err(fault) => Err(fault),
+        }
+    }
+}
+
+// Asks a test of a value.
+fn ask<T: Transforms>(
+    alloc: Global,
+    test: &T::Test,
+    name: &str,
+    value: &Value,
+    arguments: &[Text],
+) -> Result<bool, ProviderFault>
+    ensures { IsAsked (meaning_of T.meanings.test test.now) name.now arguments.now value.now result }
+{
+    match T::test(test, alloc, value, arguments) {
+        Ok(truth) => Ok(truth),
+        Err(TransformFault::OutOfMemory) => Err(ProviderFault::OutOfMemory),
+        Err(TransformFault::Refused(refusal)) => {
+            let function = Text::from_str(alloc, name)?;
+            Err(ProviderFault::Value(ValueFault::Refused(function, refusal)))
+        }
+    }
+}
+
+// The same of a value that nobody needs any more.
+fn ask_once<T: Transforms>(
+    alloc: Global,
+    test: &T::Test,
+    name: &str,
+    value: Value,
+    arguments: &[Text],
+) -> Result<bool, ProviderFault>
+    ensures { IsAsked (meaning_of T.meanings.test test.now) name.now arguments.now value result }
+{
+    ask::<T>(alloc, test, name, &value, arguments)
+}

@@ -1,0 +1,148 @@
+//! The functions of a build by name.
+ghost use Rattle.std.specs.Prelude.{◌≡◌, [], ◌∷◌, ◌++◌, ◌↔◌, None, OnOk, OnErr, IsErrOf, IsSome};
+ghost use Rattle.std.specs.FinMap.Entries.{find};
+ghost use Rattle.std.specs.Option.{option_copied};
+ghost use Rattle.gb_provider.specs.Table.{byte_order, map_named, flat_map_named, zip_named, test_named};
+
+use crate::fault::TableFault;
+use gb_core::name::Name;
+use indexmap::IndexMap;
+use std::alloc::Global;
+use std::marker::Model;
+
+/// A stored function, by its use.
+#[derive(Drop)]
+pub enum Transform<M, F, Z, S> {
+    Map(M),
+    FlatMap(F),
+    Zip(Z),
+    Test(S),
+}
+
+/// Stored functions by name, as they were added. All uses share one space of names.
+#[derive(Drop)]
+pub struct TransformTable<M, F, Z, S> {
+    alloc: Global,
+    entries: IndexMap<String, Transform<M, F, Z, S>>,
+}
+
+impl<M, F, Z, S> Model for TransformTable<M, F, Z, S> {
+    ghost use Rattle.std.specs.Prelude.{List, ℕ, map, string_bytes};
+    ghost use Rattle.gb_provider.specs.declared.table.Transform.{Transform};
+
+    ghost Value = { List (List ℕ × Transform M F Z S) };
+
+    ghost view = { λ t. map (λ e. (string_bytes e.0, e.1)) t.entries.entries };
+}
+
+impl<M: Drop, F: Drop, Z: Drop, S: Drop> TransformTable<M, F, Z, S> {
+    /// No function yet.
+    pub fn new(alloc: Global) -> Self
+        ensures { result ≡ [] }
+    {
+        TransformTable {
+            alloc,
+            entries: IndexMap::new(alloc),
+        }
+    }
+
+    /// Adds a function of `map` under a name that no other has.
+    pub fn add_map(&mut self, name: &Name, stored: M) -> Result<(), TableFault>
+        ensures ok { OnOk result (self.new ≡ self.old ++ (name.now, Transform.Map stored) ∷ []) }
+        ensures absent { OnOk result (find byte_order name.now self.old ≡ None) }
+        ensures duplicate { IsErrOf result TableFault.DuplicateTransform ↔ IsSome (find byte_order name.now self.old) }
+        ensures err { OnErr result (self.new ≡ self.old) }
+    {
+        self.add(name, Transform::Map(stored))
+    }
+
+    /// Adds a function of `flatMap` under a name that no other has.
+    pub fn add_flat(&mut self, name: &Name, stored: F) -> Result<(), TableFault>
+        ensures ok { OnOk result (self.new ≡ self.old ++ (name.now, Transform.FlatMap stored) ∷ []) }
+        ensures absent { OnOk result (find byte_order name.now self.old ≡ None) }
+        ensures duplicate { IsErrOf result TableFault.DuplicateTransform ↔ IsSome (find byte_order name.now self.old) }
+        ensures err { OnErr result (self.new ≡ self.old) }
+    {
+        self.add(name, Transform::FlatMap(stored))
+    }
+
+    /// Adds a function of `zip` under a name that no other has.
+    pub fn add_zip(&mut self, name: &Name, stored: Z) -> Result<(), TableFault>
+        ensures ok { OnOk result (self.new ≡ self.old ++ (name.now, Transform.Zip stored) ∷ []) }
+        ensures absent { OnOk result (find byte_order name.now self.old ≡ None) }
+        ensures duplicate { IsErrOf result TableFault.DuplicateTransform ↔ IsSome (find byte_order name.now self.old) }
+        ensures err { OnErr result (self.new ≡ self.old) }
+    {
+        self.add(name, Transform::Zip(stored))
+    }
+
+    /// Adds a test under a name that no other function has.
+    pub fn add_test(&mut self, name: &Name, stored: S) -> Result<(), TableFault>
+        ensures ok { OnOk result (self.new ≡ self.old ++ (name.now, Transform.Test stored) ∷ []) }
+        ensures absent { OnOk result (find byte_order name.now self.old ≡ None) }
+        ensures duplicate { IsErrOf result TableFault.DuplicateTransform ↔ IsSome (find byte_order name.now self.old) }
+        ensures err { OnErr result (self.new ≡ self.old) }
+    {
+        self.add(name, Transform::Test(stored))
+    }
+
+    fn add(&mut self, name: &Name, stored: Transform<M, F, Z, S>) -> Result<(), TableFault>
+        ensures ok { OnOk result (self.new ≡ self.old ++ (name.now, stored) ∷ []) }
+        ensures absent { OnOk result (find byte_order name.now self.old ≡ None) }
+        ensures duplicate { IsErrOf result TableFault.DuplicateTransform ↔ IsSome (find byte_order name.now self.old) }
+        ensures err { OnErr result (self.new ≡ self.old) }
+    {
+        if self.entries.contains_key(name.as_str()) {
+            return Err(TableFault::DuplicateTransform);
+        }
+        let key = name.as_str().to_string(self.alloc)?;
+        self.entries.insert(key, stored)?;
+        Ok(())
+    }
+
+    /// The function of `map` of the name. Takes no memory.
+    pub fn find_map(&self, name: &str) -> Option<&M>
+        ensures { option_copied result ≡ map_named self.now name.now }
+    {
+        match self.find(name) {
+            Some(Transform::Map(stored)) => Some(stored),
+            _ => None,
+        }
+    }
+
+    /// The function of `flatMap` of the name. Takes no memory.
+    pub fn find_flat(&self, name: &str) -> Option<&F>
+        ensures { option_copied result ≡ flat_map_named self.now name.now }
+    {
+        match self.find(name) {
+            Some(Transform::FlatMap(stored)) => Some(stored),
+            _ => None,
+        }
+    }
+
+    /// The function of `zip` of the name. Takes no memory.
+    pub fn find_zip(&self, name: &str) -> Option<&Z>
+        ensures { option_copied result ≡ zip_named self.now name.now }
+    {
+        match self.find(name) {
+            Some(Transform::Zip(stored)) => Some(stored),
+            _ => None,
+        }
+    }
+
+    /// The test of the name. Takes no memory.
+    pub fn find_test(&self, name: &str) -> Option<&S>
+        ensures { option_copied result ≡ test_named self.now name.now }
+    {
+        match self.find(name) {
+            Some(Transform::Test(stored)) => Some(stored),
+            _ => None,
+        }
+    }
+
+    fn find(&self, name: &str) -> Option<&Transform<M, F, Z, S>>
+        ensures { option_copied result ≡ find byte_order name.now self.now }
+    {
+        self.entries.get(name)
+    }
+}

@@ -1,0 +1,247 @@
+//! Tokens to the clauses of a task.
+ghost use Rattle.std.specs.Prelude.{◌≡◌, ◌<◌, ◌≤◌, length, IfOk, []};
+ghost use Rattle.gb_script.specs.Lexing.{begins};
+ghost use Rattle.gb_script.specs.Words.{clause_words};
+ghost use Rattle.gb_script.specs.Reading.{Gives, is_sign, no_matter, name_at, property_at, meaning_at, maybe_at, many_at, past_at};
+ghost use Rattle.gb_script.specs.Readers.{in_block, tree_at, bracketed_values_at, call_at, assignment_at, condition_at, input_files_at, clause_of_at, clause_at, block_at};
+
+use crate::expression::{Expression, Expressions};
+use crate::reading::{
+    begins, function, name, open, patterns, property, said, skip, skip_word, stray, texts,
+};
+use crate::script::{Assignment, Block, Call, Clause, Condition, InputFiles};
+use crate::stop::Stop;
+use crate::token::{Sign, Token};
+use crate::values::{expression, expressions};
+use crate::words::{ClauseWord, clause_word};
+use std::alloc::Global;
+
+/// Values in brackets.
+#[tactic(auto, unfolding(crate::specs::Readers::bracketed_values_at))]
+fn bracketed_values(
+    alloc: Global,
+    tokens: &[Token],
+    room: u32,
+) -> Result<(Expressions, &[Token]), Stop>
+    ensures exact { Gives (λ x. (x.0, x.1.now)) result (bracketed_values_at room tokens.now) }
+    ensures shorter { IfOk result (λ x. length x.1.now < length tokens.now) }
+{
+    let (inner, rest) = open(tokens, Sign::OpenParen, room)?;
+    let (values, rest) = expressions(alloc, rest, inner)?;
+    let rest = skip(rest, Sign::CloseParen)?;
+    Ok((Expressions::new(values), rest))
+}
+
+/// Values in brackets, or none where no bracket is.
+#[tactic(auto, unfolding(crate::specs::Reading::maybe_at))]
+fn values(alloc: Global, tokens: &[Token], room: u32) -> Result<(Expressions, &[Token]), Stop>
+    ensures exact { Gives (λ x. (x.0, x.1.now)) result (maybe_at (is_sign Sign.OpenParen) (bracketed_values_at room) [] tokens.now) }
+    ensures shorter { IfOk result (λ x. length x.1.now ≤ length tokens.now) }
+{
+    if begins(tokens, Sign::OpenParen) {
+        bracketed_values(alloc, tokens, room)
+    } else {
+        Ok((Expressions::new(Vec::new(alloc)), tokens))
+    }
+}
+
+#[tactic(auto, unfolding(crate::specs::Readers::call_at))]
+pub fn call(alloc: Global, tokens: &[Token], room: u32) -> Result<(Call, &[Token]), Stop>
+    ensures exact { Gives (λ x. (x.0, x.1.now)) result (call_at room tokens.now) }
+    ensures shorter { IfOk result (λ x. length x.1.now < length tokens.now) }
+{
+    let (name, rest) = name(tokens)?;
+    let (arguments, rest) = values(alloc, rest, room)?;
+    Ok((Call { name, arguments }, rest))
+}
+
+/// A value behind a sign of equality.
+#[tactic(auto, unfolding(crate::specs::Reading::past_at))]
+fn assigned(alloc: Global, tokens: &[Token], room: u32) -> Result<(Expression, &[Token]), Stop>
+    ensures exact { Gives (λ x. (x.0, x.1.now)) result (past_at (is_sign Sign.Equals) (tree_at room) tokens.now) }
+    ensures shorter { IfOk result (λ x. length x.1.now < length tokens.now) }
+{
+    expression(alloc, skip(tokens, Sign::Equals)?, room)
+}
+
+/// A name, and the value that it gets.
+#[tactic(auto, unfolding(crate::specs::Readers::assignment_at))]
+fn assignment(alloc: Global, tokens: &[Token], room: u32) -> Result<(Assignment, &[Token]), Stop>
+    ensures exact { Gives (λ x. (x.0, x.1.now)) result (assignment_at name_at room tokens.now) }
+    ensures shorter { IfOk result (λ x. length x.1.now < length tokens.now) }
+{
+    let (name, rest) = name(tokens)?;
+    let (value, rest) = assigned(alloc, rest, room)?;
+    Ok((Assignment { name, value }, rest))
+}
+
+/// A property, and the value that it gets.
+#[tactic(auto, unfolding(crate::specs::Readers::assignment_at))]
+pub fn property_assignment(
+    alloc: Global,
+    tokens: &[Token],
+    room: u32,
+) -> Result<(Assignment, &[Token]), Stop>
+    ensures exact { Gives (λ x. (x.0, x.1.now)) result (assignment_at property_at room tokens.now) }
+    ensures shorter { IfOk result (λ x. length x.1.now < length tokens.now) }
+{
+    let (name, rest) = property(tokens)?;
+    let (value, rest) = assigned(alloc, rest, room)?;
+    Ok((Assignment { name, value }, rest))
+}
+
+#[tactic(auto, unfolding(crate::specs::Reading::past_at, crate::specs::Readers::condition_at))]
+fn condition(alloc: Global, tokens: &[Token], room: u32) -> Result<(Condition, &[Token]), Stop>
+    ensures exact { Gives (λ x. (x.0, x.1.now)) result (condition_at room tokens.now) }
+    ensures shorter { IfOk result (λ x. length x.1.now < length tokens.now) }
+{
+    let (value, rest) = expression(alloc, tokens, room)?;
+    let rest = skip_word(rest, "is")?;
+    let (test, rest) = function(alloc, rest, room)?;
+    Ok((Condition { value, test }, rest))
+}
+
+#[tactic(auto, unfolding(crate::specs::Reading::past_at, crate::specs::Readers::flags_at, crate::specs::Readers::roots_at, crate::specs::Readers::input_files_at))]
+fn input_files(alloc: Global, tokens: &[Token], room: u32) -> Result<(InputFiles, &[Token]), Stop>
+    ensures exact { Gives (λ x. (x.0, x.1.now)) result (input_files_at room tokens.now) }
+    ensures shorter { IfOk result (λ x. length x.1.now < length tokens.now) }
+{
+    let (name, rest) = name(tokens)?;
+    let (incremental, rest) = said(rest, "incremental");
+    let (skip_when_empty, rest) = said(rest, "skipWhenEmpty");
+    let (name_only, rest) = said(rest, "nameOnly");
+    let rest = skip_word(rest, "from")?;
+    let (from, rest) = expressions(alloc, rest, room)?;
+    let (include, rest) = patterns(alloc, rest, "include")?;
+    let (exclude, rest) = patterns(alloc, rest, "exclude")?;
+    Ok((
+        InputFiles {
+            name,
+            incremental,
+            skip_when_empty,
+            name_only,
+            from: Expressions::new(from),
+            include,
+            exclude,
+        },
+        rest,
+    ))
+}
+
+/// What stands behind the word of a clause.
+#[tactic(auto, unfolding(crate::specs::Readers::clause_of_at))]
+fn clause_of(
+    alloc: Global,
+    word: ClauseWord,
+    tokens: &[Token],
+    room: u32,
+) -> Result<(Clause, &[Token]), Stop>
+    ensures exact { Gives (λ x. (x.0, x.1.now)) result (clause_of_at room word tokens.now) }
+    ensures shorter { IfOk result (λ x. length x.1.now < length tokens.now) }
+{
+    match word {
+        ClauseWord::Input => {
+            let (input, rest) = assignment(alloc, tokens, room)?;
+            Ok((Clause::Input(input), rest))
+        }
+        ClauseWord::InputFiles => {
+            let (files, rest) = input_files(alloc, tokens, room)?;
+            Ok((Clause::InputFiles(files), rest))
+        }
+        ClauseWord::OutputFile => {
+            let (output, rest) = assignment(alloc, tokens, room)?;
+            Ok((Clause::OutputFile(output), rest))
+        }
+        ClauseWord::OutputDir => {
+            let (output, rest) = assignment(alloc, tokens, room)?;
+            Ok((Clause::OutputDir(output), rest))
+        }
+        ClauseWord::DependsOn => {
+            let (tasks, rest) = texts(alloc, tokens)?;
+            Ok((Clause::DependsOn(tasks), rest))
+        }
+        ClauseWord::MustRunAfter => {
+            let (tasks, rest) = texts(alloc, tokens)?;
+            Ok((Clause::MustRunAfter(tasks), rest))
+        }
+        ClauseWord::FinalizedBy => {
+            let (tasks, rest) = texts(alloc, tokens)?;
+            Ok((Clause::FinalizedBy(tasks), rest))
+        }
+        ClauseWord::DoFirst => {
+            let (action, rest) = call(alloc, tokens, room)?;
+            Ok((Clause::DoFirst(action), rest))
+        }
+        ClauseWord::DoLast => {
+            let (action, rest) = call(alloc, tokens, room)?;
+            Ok((Clause::DoLast(action), rest))
+        }
+        ClauseWord::OnlyIf => {
+            let (condition, rest) = condition(alloc, tokens, room)?;
+            Ok((Clause::OnlyIf(condition), rest))
+        }
+        ClauseWord::UpToDateWhen => {
+            let (condition, rest) = condition(alloc, tokens, room)?;
+            Ok((Clause::UpToDateWhen(condition), rest))
+        }
+        ClauseWord::Enabled => {
+            let (value, rest) = expression(alloc, tokens, room)?;
+            Ok((Clause::Enabled(value), rest))
+        }
+    }
+}
+
+#[tactic(auto, unfolding(crate::specs::Reading::meaning_at))]
+fn read_clause_word(tokens: &[Token]) -> Result<(ClauseWord, &[Token]), Stop>
+    ensures exact { Gives (λ x. (x.0, x.1.now)) result (meaning_at clause_words tokens.now) }
+    ensures shorter { IfOk result (λ x. length x.1.now < length tokens.now) }
+{
+    match tokens {
+        [Token::Word(word), rest @ ..] => match clause_word(word.as_str()) {
+            Some(found) => Ok((found, rest)),
+            None => Err(stray(tokens)),
+        },
+        _ => Err(stray(tokens)),
+    }
+}
+
+#[tactic(auto, unfolding(crate::specs::Readers::clause_at))]
+fn clause(alloc: Global, tokens: &[Token], room: u32) -> Result<(Clause, &[Token]), Stop>
+    ensures exact { Gives (λ x. (x.0, x.1.now)) result (clause_at room tokens.now) }
+    ensures shorter { IfOk result (λ x. length x.1.now < length tokens.now) }
+{
+    let (word, rest) = read_clause_word(tokens)?;
+    clause_of(alloc, word, rest, room)
+}
+
+fn is_in_block(tokens: &[Token]) -> bool
+    ensures { result ≡ begins in_block tokens.now }
+{
+    !tokens.is_empty() && !begins(tokens, Sign::CloseBrace)
+}
+
+/// The clauses up to the end of a block.
+fn clauses(alloc: Global, tokens: &[Token], room: u32) -> Result<(Vec<Clause>, &[Token]), Stop>
+    ensures exact { Gives (λ x. (x.0.items, x.1.now)) result (many_at in_block no_matter (λ s. clause_at room) (length tokens.now) tt tokens.now) }
+    ensures shorter { IfOk result (λ x. length x.1.now ≤ length tokens.now) }
+{
+    let mut clauses = Vec::new(alloc);
+    let mut rest = tokens;
+    'clauses: while is_in_block(rest) {
+        let (next, after) = clause(alloc, rest, room)?;
+        clauses.push(next)?;
+        rest = after;
+    }
+    Ok((clauses, rest))
+}
+
+#[tactic(auto, unfolding(crate::specs::Readers::block_at))]
+pub fn block(alloc: Global, tokens: &[Token], room: u32) -> Result<(Block, &[Token]), Stop>
+    ensures exact { Gives (λ x. (x.0, x.1.now)) result (block_at room tokens.now) }
+    ensures shorter { IfOk result (λ x. length x.1.now < length tokens.now) }
+{
+    let rest = skip(tokens, Sign::OpenBrace)?;
+    let (clauses, rest) = clauses(alloc, rest, room)?;
+    let rest = skip(rest, Sign::CloseBrace)?;
+    Ok((Block::new(clauses), rest))
+}

@@ -1,0 +1,79 @@
+-- Why a file that stands is not read.
+use Rattle.std.proofs.Common.{◌≡◌, ◌≢◌, ◌⊎◌, ◌<◌, ◌≤◌, ◌++◌, map, Result, Ok, Err, arith, inl, inr, ℕ, Bool, true, false, cond, not, List, [], ◌∷◌, length, Option, Some, None, refl, sym, ◌∙◌, ap, subst, IsTrue}
+use Rattle.std.proofs.lemmas.Bool.Decides.{nat_tests}
+use Rattle.std.proofs.lemmas.Bool.{and_parts, not-true, false≢true}
+use Rattle.std.proofs.lemmas.Option.{none-some}
+use Rattle.std.specs.Cmp.Lexicographic.{slice_cmp}
+use Rattle.std.specs.List.{filter, list_all}
+use Rattle.std.specs.Option.{option_map}
+use Rattle.std.specs.Ordering.{nat_cmp, is_eq}
+use Rattle.std.specs.Prelude.{IsSome, IsSomeAnd, nat_lt, unwrap_or}
+use Rattle.gb_folder.specs.Files.{Place, Files, Contents, IsFolder, HasRisen, file_at, first_of, is_blocked, is_odd_under, places_under}
+use Rattle.gb_folder.proofs.Changes.{HasRisen-before}
+use Rattle.gb_folder.proofs.Held.{equal_from}
+use Rattle.gb_folder.proofs.Sound.{same_from}
+use Rattle.gb_folder.specs.declared.folder.FolderFault.{FolderFault}
+use Rattle.gb_folder.specs.declared.folder.FolderFault.TheVariants as folders
+use Rattle.gb_tree.specs.declared.fault.TreeFault.{TreeFault}
+use Rattle.gb_tree.specs.declared.fault.TreeFault.TheVariants as faults
+use Rattle.gb_tree.specs.Tree.{IsOfMachine, told_at, is_large, max_file, max_files, output_faults}
+
+free_among : (all files : Files) (place bytes : List ℕ) → list_all (λ (file : List ℕ × List ℕ). not (is_blocked all file.0)) files ≡ true → file_at files place ≡ Some bytes → is_blocked all place ≡ false
+free_among all [] place bytes sound stands = absurd (none-some bytes stands)
+free_among all (file ∷ files) place bytes sound stands =
+    let parts = and_parts (not (is_blocked all file.0)) _ sound in
+    elim (is_eq (slice_cmp nat_cmp place file.0)) as (λ b. is_eq (slice_cmp nat_cmp place file.0) ≡ b → cond b (Some file.1) (file_at files place) ≡ Some bytes → is_blocked all place ≡ false) [
+      | true ↦ λ is _. ap (is_blocked all) (same_from place file.0 (equal_from _ is)) ∙ not-true _ parts.0
+      | false ↦ λ _ later. free_among all files place bytes parts.1 later
+    ] refl stands
+
+-- no file stands where another is in the way
+pub not_blocked : (files : Files) (place : Place) → IsFolder files → IsSome (file_at files place) → is_blocked files place ≡ true → ⊥
+not_blocked files place sound stands blocked = by (file_at files place) refl stands
+  where
+    by : (o : Option (List ℕ)) → file_at files place ≡ o → IsSome o → ⊥
+    by None is h = cc
+    by (Some bytes) is h = false≢true (sym (free_among files files place bytes sound.none_blocked is) ∙ blocked)
+
+pub large_from : (files : Files) (place : Place) → IsSomeAnd (file_at files place) (λ bytes. max_file < length bytes) → is_large files place ≡ true
+large_from files place h = by (file_at files place) h
+  where
+    by : (o : Option (List ℕ)) → IsSomeAnd o (λ bytes. max_file < length bytes) → nat_lt max_file (length (unwrap_or o [])) ≡ true
+    by None h = absurd h
+    by (Some bytes) h = grind (arith, nat_tests)
+
+pub read_refused : (before after : ℕ) (place : Place) (fault : FolderFault) (told : TreeFault) (large : Bool) → (told ≡ faults.OutOfMemory) ⊎ (told ≡ told_at place fault)
+    → (fault ≡ folders.Device → HasRisen before after) → (fault ≡ folders.Missing → ⊥) → (fault ≡ folders.Blocked → ⊥) → (fault ≡ folders.BadFileName → ⊥) → (fault ≡ folders.TooLarge → large ≡ true)
+    → IsOfMachine before after told ⊎ ((large ≡ true) × (told ≡ faults.TooLarge place))
+read_refused before after place fault told large (inl is) rose missing blocked odd over = inl (inl is)
+read_refused before after place folders.OutOfMemory told large (inr is) rose missing blocked odd over = inl (inl is)
+read_refused before after place folders.Device told large (inr is) rose missing blocked odd over = inl (inr (place, is, rose refl))
+read_refused before after place folders.Missing told large (inr is) rose missing blocked odd over = absurd (missing refl)
+read_refused before after place folders.Blocked told large (inr is) rose missing blocked odd over = absurd (blocked refl)
+read_refused before after place folders.TooLarge told large (inr is) rose missing blocked odd over = inr (over refl, is)
+read_refused before after place folders.BadFileName told large (inr is) rose missing blocked odd over = absurd (odd refl)
+
+-- it began to rise before the call
+pub machine_before : (first second third : ℕ) (fault : TreeFault) → first ≤ second → second ≤ third → IsOfMachine second third fault → IsOfMachine first third fault
+machine_before first second third fault le more (inl is) = inl is
+machine_before first second third fault le more (inr device) = inr (device.0, device.1, HasRisen-before first second third le more device.2)
+
+-- what holds of an error holds of the result that is it
+pub at_err : {A E : Type 0} (P : Result A E → Type 0) (r : Result A E) (y z : E) → r ≡ Err y → y ≡ z → P (Err z) → P r
+at_err P r y z is same holds = subst P (sym (is ∙ ap Err same)) holds
+
+few : (n : ℕ) → n ≤ max_files → nat_lt max_files n ≡ false
+few n le = grind (arith, nat_tests)
+
+first_mapped : {X Y : Type 0} (f : X → Y) (xs : List X) (x : X) → first_of xs ≡ Some x → first_of (map f xs) ≡ Some (f x)
+first_mapped f [] x e = absurd (cc)
+first_mapped f (y ∷ xs) x e = ap (option_map f) e
+
+-- the first file that is too large is the fault where nothing else hinders
+pub first_large : (name : List ℕ) (root : Place) (contents : Contents) (at : Place) → is_odd_under contents root ≡ false → length (places_under contents.files root) ≤ max_files
+    → first_of (filter (is_large contents.files) (places_under contents.files root)) ≡ Some at → first_of (output_faults name root contents) ≡ Some (faults.TooLarge at)
+first_large name root contents at even count first =
+    let larges = map faults.TooLarge (filter (is_large contents.files) (places_under contents.files root)) in
+    ap (λ b. first_of ((cond b (faults.BadFileName root ∷ []) [] ++ cond (nat_lt max_files (length (places_under contents.files root))) (faults.TooManyFiles name ∷ []) []) ++ larges)) even
+    ∙ ap (λ b. first_of (cond b (faults.TooManyFiles name ∷ []) [] ++ larges)) (few (length (places_under contents.files root)) count)
+    ∙ first_mapped faults.TooLarge (filter (is_large contents.files) (places_under contents.files root)) at first

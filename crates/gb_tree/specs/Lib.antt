@@ -1,0 +1,6 @@
+pub mod Pattern
+pub mod Passes
+pub mod Faults
+pub mod Prints
+pub mod Merge
+pub mod Tree

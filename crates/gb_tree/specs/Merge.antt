@@ -1,0 +1,15 @@
+-- How two lists of entries are gone through together.
+use Rattle.std.specs.Prelude.{ℕ, List, [], ◌∷◌, Some}
+use Rattle.std.specs.declared.cmp.Ordering.{Ordering}
+use Rattle.std.specs.FinMap.Entries.{by_order}
+use Rattle.gb_action.specs.Changes.{change_at}
+use Rattle.gb_action.specs.declared.change.Change.{Change}
+use Rattle.gb_action.specs.declared.change.Change.TheVariants.{Added, Removed}
+
+-- what two entries that are met tell, by the order of their paths
+abbrev pub told : Ordering → List ℕ × List ℕ → List ℕ × List ℕ → List Change
+told order old new = by_order order (Removed old.0 ∷ []) (change_at old.0 (Some old.1) (Some new.1)) (Added new.0 ∷ [])
+
+-- how many entries of either list are told then
+abbrev pub past : Ordering → ℕ × ℕ
+past order = by_order order (1, 0) (1, 1) (0, 1)

@@ -1,0 +1,29 @@
+-- How a match goes on along a pattern: before which of its items a match can stand once a text has been read.
+use Rattle.std.specs.Prelude.{ℕ, Bool, true, false, ◌&&◌, ◌||◌, List, [], ◌∷◌, if◌then◌else◌, ◌==◌, Option, None, Some}
+use Rattle.gb_tree.specs.Pattern.{matches_by}
+
+-- One more thing is read, which fits some items of the pattern. `entered`: a match comes to stand before the first item;
+-- `waiting`: one stood there that had read nothing of the thing.
+abbrev pub pass : {P : Type 0} → (P → Bool) → (P → Bool) → Bool → Bool → List Bool → List P → List Bool × Bool
+pass any fits entered waiting states [] = (states, entered)
+pass any fits entered waiting [] (p ∷ ps) = ([], entered)
+pass any fits entered waiting (stood ∷ states) (p ∷ ps) =
+    let here = stood || waiting in
+    let stands = entered || (any p && here) in
+    let rest = pass any fits (if any p then stands else here && fits p) (any p && here) states ps in
+    (stands ∷ rest.0, rest.1)
+
+-- one of the matches that stand along the pattern, or at its end, goes on to the text's end
+abbrev pub goes_on : {P X : Type 0} → (P → Bool) → (P → X → Bool) → List Bool → List P → Bool → List X → Bool
+goes_on any fits states [] ended xs = ended && matches_by any fits [] xs
+goes_on any fits [] (p ∷ ps) ended xs = false
+goes_on any fits (stands ∷ states) (p ∷ ps) ended xs = (stands && matches_by any fits (p ∷ ps) xs) || goes_on any fits states ps ended xs
+
+-- whether what was read fits an item; where nothing was read it fits none
+abbrev pub fits_read : {P X : Type 0} → (P → X → Bool) → Option X → P → Bool
+fits_read fits None p = false
+fits_read fits (Some x) p = fits p x
+
+abbrev pub is_start : {X : Type 0} → Option X → Bool
+is_start None = true
+is_start (Some x) = false

@@ -1,0 +1,48 @@
+-- Patterns, and the paths that they match.
+use Rattle.std.specs.Prelude.{ℕ, Bool, true, false, not, ◌&&◌, ◌||◌, ◌==◌, List, [], ◌∷◌, ◌++◌, if◌then◌else◌, codes, bytes_eq}
+use Rattle.std.specs.List.{list_any, ends_with}
+use Rattle.std.specs.Str.{chars}
+use Rattle.gb_core.specs.Place.{is_place, segments}
+
+-- the list and each of its ends
+abbrev pub ends_of : {X : Type 0} → List X → List (List X)
+ends_of [] = [] ∷ []
+ends_of (x ∷ xs) = (x ∷ xs) ∷ ends_of xs
+
+-- A row of things against a pattern: an item of the pattern that is `any` stands for any number of things, none
+-- included, and each other item for one thing that fits it.
+abbrev pub matches_by : {P X : Type 0} → (P → Bool) → (P → X → Bool) → List P → List X → Bool
+matches_by any fits [] [] = true
+matches_by any fits [] (x ∷ xs) = false
+matches_by any fits (p ∷ ps) [] = any p && matches_by any fits ps []
+matches_by any fits (p ∷ ps) (x ∷ xs) =
+    if any p then list_any (matches_by any fits ps) (ends_of (x ∷ xs))
+    else fits p x && matches_by any fits ps xs
+
+-- in a segment `*` stands for any characters, `?` for one, and any other character for itself
+abbrev pub is_star : ℕ → Bool
+is_star p = p == 42
+
+abbrev pub stands_for : ℕ → ℕ → Bool
+stands_for p c = (p == 63) || (p == c)
+
+abbrev pub segment_matches : List ℕ → List ℕ → Bool
+segment_matches pattern text = matches_by is_star stands_for (chars pattern) (chars text)
+
+-- in a path the segment `**` stands for any segments
+abbrev pub is_double_star : List ℕ → Bool
+is_double_star segment = bytes_eq segment (codes "**")
+
+abbrev pub path_matches : List ℕ → List ℕ → Bool
+path_matches pattern path = matches_by is_double_star segment_matches (segments pattern) (segments path)
+
+-- a last '/' stands for "/**"
+abbrev pub spelled_out : List ℕ → List ℕ
+spelled_out text = if ends_with (λ a b. a == b) text (codes "/") then text ++ codes "**" else text
+
+abbrev pub is_backslash : ℕ → Bool
+is_backslash b = b == 92
+
+-- a place, once it is spelled out, without backslashes
+abbrev pub is_pattern : List ℕ → Bool
+is_pattern text = is_place (spelled_out text) && not (list_any is_backslash text)

@@ -1,0 +1,85 @@
+//! How two states of a tree differ.
+ghost use Rattle.std.specs.Prelude.{◌≡◌, ◌++◌, map, IfOk, OnOk};
+ghost use Rattle.gb_action.specs.declared.change.Change.TheVariants.{Added, Removed};
+ghost use Rattle.gb_action.specs.Changes.{changes_between};
+ghost use Rattle.gb_action.specs.Files.{Tree, byte_order};
+ghost use Rattle.gb_tree.specs.Merge.{past, told};
+ghost use Rattle.gb_tree.specs.Prints.{AreApart, digests_of};
+
+use crate::prints::Prints;
+use gb_action::change::{Change, ChangeList};
+use gb_core::place::RelPath;
+use std::alloc::{AllocError, Global};
+use std::cmp::Ordering;
+
+/// What was added, modified or removed from the old state to the new one, by the bytes of the
+/// paths. The entries of both are gone through together, once.
+pub fn compare(alloc: Global, old: &Prints, new: &Prints) -> Result<ChangeList, AllocError>
+    ensures changes { IfOk result (λ changes. changes ≡ changes_between old.now.1 new.now.1) }
+    ensures exact { IfOk result (λ changes. (before after : Tree) → old.now.1 ≡ digests_of before → new.now.1 ≡ digests_of after
+        → AreApart before after → changes ≡ changes_between before after) }
+{
+    let (before, after) = (old.as_slice(), new.as_slice());
+    let mut changes = ChangeList::new(alloc);
+    let (mut at, mut to) = (0, 0);
+    while at < before.len() && to < after.len() {
+        let order = tell(&mut changes, &before[at], &after[to])?;
+        let (more_before, more_after) = past(order);
+        at += more_before;
+        to += more_after;
+    }
+    tell_removed(&mut changes, &before[at..])?;
+    tell_added(&mut changes, &after[to..])?;
+    Ok(changes)
+}
+
+/// Tells what two entries show that are met, and answers their order.
+fn tell(
+    changes: &mut ChangeList,
+    old: &(RelPath, [u8; 32]),
+    new: &(RelPath, [u8; 32]),
+) -> Result<Ordering, AllocError>
+    ensures order { IfOk result (λ order. order ≡ byte_order old.now.0 new.now.0) }
+    ensures told { OnOk result (changes.new ≡ changes.old ++ told (byte_order old.now.0 new.now.0) old.now new.now) }
+{
+    let order = old.0.cmp(&new.0);
+    match order {
+        Ordering::Less => changes.push(Change::Removed(old.0.copy()?))?,
+        Ordering::Greater => changes.push(Change::Added(new.0.copy()?))?,
+        Ordering::Equal => {
+            if old.1 != new.1 {
+                changes.push(Change::Modified(old.0.copy()?))?;
+            }
+        }
+    }
+    Ok(order)
+}
+
+/// How many entries of either list are told when two are met in this order.
+fn past(order: Ordering) -> (usize, usize)
+    ensures { result ≡ past order }
+{
+    match order {
+        Ordering::Less => (1, 0),
+        Ordering::Equal => (1, 1),
+        Ordering::Greater => (0, 1),
+    }
+}
+
+fn tell_removed(changes: &mut ChangeList, old: &[(RelPath, [u8; 32])]) -> Result<(), AllocError>
+    ensures { OnOk result (changes.new ≡ changes.old ++ map (λ entry. Removed entry.0) old.now) }
+{
+    for (path, _) in old.iter() {
+        changes.push(Change::Removed(path.copy()?))?;
+    }
+    Ok(())
+}
+
+fn tell_added(changes: &mut ChangeList, new: &[(RelPath, [u8; 32])]) -> Result<(), AllocError>
+    ensures { OnOk result (changes.new ≡ changes.old ++ map (λ entry. Added entry.0) new.now) }
+{
+    for (path, _) in new.iter() {
+        changes.push(Change::Added(path.copy()?))?;
+    }
+    Ok(())
+}

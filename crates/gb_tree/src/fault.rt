@@ -1,0 +1,94 @@
+//! Why a tree is not read.
+ghost use Rattle.std.specs.Prelude.{◌≡◌, ◌⊎◌};
+ghost use Rattle.gb_tree.specs.Tree.{told_at};
+
+use gb_core::name::Name;
+use gb_core::place::Place;
+use gb_folder::folder::FolderFault;
+use std::alloc::{AllocError, AllocFailed};
+use thiserror::Error;
+
+/// Why a tree is not read, with the place at which that came or the name of what was read.
+#[derive(Debug, Drop, Error)]
+pub enum TreeFault {
+    #[error("out of memory")]
+    OutOfMemory,
+    #[error("device {0}")]
+    Device(Place),
+    /// A file was listed that no longer stands.
+    #[error("missing {0}")]
+    Missing(Place),
+    #[error("blocked {0}")]
+    Blocked(Place),
+    /// It has more than 8 MiB.
+    #[error("too large {0}")]
+    TooLarge(Place),
+    /// Something stands there, or beneath it, that no place can name.
+    #[error("bad file name {0}")]
+    BadFileName(Place),
+    /// There are more than 65,536.
+    #[error("too many files {0}")]
+    TooManyFiles(Name),
+}
+
+impl TreeFault {
+    ghost use Rattle.gb_tree.specs.Faults.{tree_fault_number};
+
+    /// The number under which the fault is told to users.
+    pub fn number(&self) -> u16
+        ensures { result ≡ tree_fault_number self.now }
+    {
+        match self {
+            TreeFault::OutOfMemory => 3,
+            TreeFault::Device(_) => 10,
+            TreeFault::Missing(_) => 11,
+            TreeFault::Blocked(_) => 12,
+            TreeFault::TooLarge(_) => 13,
+            TreeFault::BadFileName(_) => 14,
+            TreeFault::TooManyFiles(_) => 72,
+        }
+    }
+}
+
+impl From<AllocError> for TreeFault {
+    ghost use Rattle.gb_tree.specs.declared.fault.TreeFault.TheVariants.{OutOfMemory};
+
+    ghost from_gives = { λ _ fault. fault ≡ OutOfMemory };
+
+    fn from(_error: AllocError) -> TreeFault {
+        TreeFault::OutOfMemory
+    }
+}
+
+impl<T: Drop> From<AllocFailed<T>> for TreeFault {
+    ghost use Rattle.gb_tree.specs.declared.fault.TreeFault.TheVariants.{OutOfMemory};
+
+    ghost from_gives = { λ _ fault. fault ≡ OutOfMemory };
+
+    fn from(_error: AllocFailed<T>) -> TreeFault {
+        TreeFault::OutOfMemory
+    }
+}
+
+/// The fault at a place; want of memory takes its stead where there is none to name the place.
+pub(crate) fn fault_at(fault: FolderFault, place: &Place) -> TreeFault
+    ensures { (result ≡ TreeFault.OutOfMemory) ⊎ (result ≡ told_at place.now fault) }
+{
+    match place.copy() {
+        Ok(place) => fault_of(fault, place),
+        Err(_) => TreeFault::OutOfMemory,
+    }
+}
+
+fn fault_of(fault: FolderFault, place: Place) -> TreeFault
+    ensures { result ≡ told_at place fault }
+{
+    match fault {
+        FolderFault::OutOfMemory => TreeFault::OutOfMemory,
+        FolderFault::Device => TreeFault::Device(place),
+        FolderFault::Missing => TreeFault::Missing(place),
+        FolderFault::Blocked => TreeFault::Blocked(place),
+        FolderFault::TooLarge => TreeFault::TooLarge(place),
+        FolderFault::BadFileName => TreeFault::BadFileName(place),
+    }
+}

@@ -1,0 +1,137 @@
+//! Whether a path matches a pattern, in steps that grow with the product of their lengths at most.
+//!
+//! The text is read from the left, once. For each item of the pattern one flag says whether a match
+//! of what was read can stand before it, so no choice is tried twice.
+ghost use Rattle.std.specs.Prelude.{◌≡◌, ◌≤◌, ◌&&◌, ◌||◌, if◌then◌else◌, false, length};
+ghost use Rattle.std.specs.Str.{chars};
+ghost use Rattle.std.specs.Option.{option_copied};
+ghost use Rattle.gb_core.specs.Place.{segments};
+ghost use Rattle.gb_tree.specs.Pattern.{is_star, stands_for, is_double_star, segment_matches, path_matches};
+ghost use Rattle.gb_tree.specs.Passes.{pass, fits_read, is_start};
+
+/// More than the most items of a pattern: a place has at most 1,024 bytes.
+const MOST_ITEMS: usize = 1025;
+
+/// One pass along a pattern, as one more thing of the text is read.
+#[derive(Clone, Copy)]
+struct Pass {
+    /// Whether a match comes to stand before the next item.
+    entered: bool,
+    /// Whether one stood there that has not read the thing yet.
+    waiting: bool,
+}
+
+impl Pass {
+    /// Whether a match that has not read the thing yet stands before the next item.
+    fn is_open(self, stood: bool) -> bool
+        ensures { result ≡ (stood || self.waiting) }
+    {
+        stood || self.waiting
+    }
+
+    /// Goes past one item; whether a match stands before it.
+    fn over(&mut self, stood: bool, any: bool, fits: bool) -> bool
+        ensures stands { result ≡ (self.old.entered || (any && (stood || self.old.waiting))) }
+        ensures entered { self.new.entered ≡ (if any then (self.old.entered || (any && (stood || self.old.waiting))) else ((stood || self.old.waiting) && fits)) }
+        ensures waiting { self.new.waiting ≡ (any && (stood || self.old.waiting)) }
+    {
+        let here = stood || self.waiting;
+        let stands = self.entered || any && here;
+        self.entered = if any { stands } else { here && fits };
+        self.waiting = any && here;
+        stands
+    }
+}
+
+/// Reads one more character, or begins; whether the whole of what was read matches.
+fn read_character(states: &mut [bool], pattern: &str, read: Option<char>) -> bool
+    requires { length (chars pattern.now) ≤ length states.now }
+    ensures states { states.new ≡ (pass is_star (fits_read stands_for read) (is_start read) false states.old (chars pattern.now)).0 }
+    ensures ended { result ≡ (pass is_star (fits_read stands_for read) (is_start read) false states.old (chars pattern.now)).1 }
+{
+    let mut pass = Pass {
+        entered: read.is_none(),
+        waiting: false,
+    };
+    let mut index = 0;
+    for item in pattern.chars() {
+        let stood = states[index];
+        states[index] = pass.over(stood, item == '*', stands_for(item, read));
+        index += 1;
+    }
+    pass.entered
+}
+
+/// Whether the character that was read fits this one of a pattern.
+fn stands_for(item: char, read: Option<char>) -> bool
+    ensures { result ≡ fits_read stands_for read item }
+{
+    match read {
+        None => false,
+        Some(character) => item == '?' || item == character,
+    }
+}
+
+/// Whether the text matches one segment of a pattern.
+fn segment_matches(pattern: &str, text: &str) -> bool
+    requires { length pattern.now ≤ 1024 }
+    ensures { result ≡ segment_matches pattern.now text.now }
+{
+    let mut states = [false; MOST_ITEMS];
+    let mut matched = read_character(&mut states, pattern, None);
+    for character in text.chars() {
+        matched = read_character(&mut states, pattern, Some(character));
+    }
+    matched
+}
+
+/// Reads one more segment, or begins; whether the whole of what was read matches.
+fn read_segment(states: &mut [bool], pattern: &str, read: Option<&str>) -> bool
+    requires { length (segments pattern.now) ≤ length states.now × length pattern.now ≤ 1024 }
+    ensures states { states.new ≡ (pass is_double_star (fits_read segment_matches (option_copied read.entry)) (is_start (option_copied read.entry)) false states.old (segments pattern.now)).0 }
+    ensures ended { result ≡ (pass is_double_star (fits_read segment_matches (option_copied read.entry)) (is_start (option_copied read.entry)) false states.old (segments pattern.now)).1 }
+{
+    let mut pass = Pass {
+        entered: read.is_none(),
+        waiting: false,
+    };
+    let mut index = 0;
+    for item in pattern.split('/') {
+        let stood = states[index];
+        let here = pass.is_open(stood);
+        states[index] = pass.over(stood, is_double_star(item), fits_here(here, item, read));
+        index += 1;
+    }
+    pass.entered
+}
+
+fn is_double_star(item: &str) -> bool
+    ensures { result ≡ is_double_star item.now }
+{
+    item == "**"
+}
+
+/// Whether the segment that was read matches this one of a pattern; asked only where a match stands
+/// before it.
+fn fits_here(here: bool, item: &str, read: Option<&str>) -> bool
+    requires { length item.now ≤ 1024 }
+    ensures { result ≡ (here && fits_read segment_matches (option_copied read.entry) item.now) }
+{
+    match read {
+        Some(segment) if here => segment_matches(item, segment),
+        _ => false,
+    }
+}
+
+/// Whether the path matches the pattern.
+pub fn path_matches(pattern: &str, path: &str) -> bool
+    requires { length pattern.now ≤ 1024 }
+    ensures { result ≡ path_matches pattern.now path.now }
+{
+    let mut states = [false; MOST_ITEMS];
+    let mut matched = read_segment(&mut states, pattern, None);
+    for segment in path.split('/') {
+        matched = read_segment(&mut states, pattern, Some(segment));
+    }
+    matched
+}
