@@ -23,7 +23,7 @@ use Rattle.gb_kinds.specs.ByFile.{by_file, change_line, file_of, holds, removes_
 use Rattle.gb_kinds.proofs.FileLaw.{carries, is_frugal}
 use Rattle.gb_kinds.proofs.Paths.{unchanged}
 
-same_ok : {X E : Type 0} {x y : X} → ◌≡◌ {A = Result X E} (Ok x) (Ok y) → x ≡ y
+pub same_ok : {X E : Type 0} {x y : X} → ◌≡◌ {A = Result X E} (Ok x) (Ok y) → x ≡ y
 same_ok e = cc
 
 -- ---- Trees and changes
@@ -58,16 +58,16 @@ source_told old request tells = by (find byte_order source request.changes.lists
 -- ---- The outputs that are named
 
 module _ (outputs : List OutputFiles) (declared : list_any (λ (output : OutputFiles). bytes_eq output.name target) outputs ≡ true) where
-  abbrev is_output : List ℕ → Bool
+  abbrev pub is_output : List ℕ → Bool
   is_output name = list_any (λ (output : OutputFiles). bytes_eq output.name name) outputs
 
-  abbrev written_there : List Written → Bool
+  abbrev pub written_there : List Written → Bool
   written_there files = list_all (λ (file : Written). is_output file.output) files
 
-  abbrev removed_there : List OutputPath → Bool
+  abbrev pub removed_there : List OutputPath → Bool
   removed_there removes = list_all (λ (removed : OutputPath). is_output removed.output) removes
 
-  both : (a b : Bool) → a ≡ true → b ≡ true → (a && b) ≡ true
+  pub both : (a b : Bool) → a ≡ true → b ≡ true → (a && b) ≡ true
   both true b p q = q
   both false b p q = p
 

@@ -19,36 +19,36 @@ use Rattle.gb_kinds.specs.ByFile.{by_file, file_of, holds, where_new, rewritten,
 use Rattle.gb_kinds.proofs.Paths.{at_path}
 use Rattle.gb_kinds.proofs.Writing.{or_none, or_same, written_at-append, written_at-by_file}
 
-and_false : (a b : Bool) → b ≡ false → (a && b) ≡ false
+pub and_false : (a b : Bool) → b ≡ false → (a && b) ≡ false
 and_false true b e = e
 and_false false b e = refl
 
-and_true : (a b : Bool) → b ≡ true → (a && b) ≡ a
+pub and_true : (a b : Bool) → b ≡ true → (a && b) ≡ a
 and_true true b e = e
 and_true false b e = refl
 
-or_false : (b : Bool) → (b || false) ≡ b
+pub or_false : (b : Bool) → (b || false) ≡ b
 or_false true = refl
 or_false false = refl
 
-or_itself : (b : Bool) → (b || b) ≡ b
+pub or_itself : (b : Bool) → (b || b) ≡ b
 or_itself true = refl
 or_itself false = refl
 
-itself : (x : List ℕ) → bytes_eq x x ≡ true
+pub itself : (x : List ℕ) → bytes_eq x x ≡ true
 itself x = (bytes_decides x x).1 refl
 
-differs : (x y : List ℕ) → x ≢ y → bytes_eq x y ≡ false
+pub differs : (x y : List ℕ) → x ≢ y → bytes_eq x y ≡ false
 differs x y other = by (bytes_eq x y) refl
   where
     by : (b : Bool) → bytes_eq x y ≡ b → bytes_eq x y ≡ false
     by true e = absurd (other ((bytes_decides x y).0 e))
     by false e = e
 
-some_same : {X : Type 0} (x y : X) → Some x ≡ Some y → x ≡ y
+pub some_same : {X : Type 0} (x y : X) → Some x ≡ Some y → x ≡ y
 some_same x y e = cc
 
-some_none : {X : Type 0} (x : X) → Some x ≢ None
+pub some_none : {X : Type 0} (x : X) → Some x ≢ None
 some_none x e = true≢false (ap is_some e)
 
 -- ---- One file of the output that kinds write

@@ -31,11 +31,11 @@ written_at-append (x ∷ xs) ys output path =
     ap (λ w. option_or w (if bytes_eq x.output output && bytes_eq x.path path then Some x.bytes else None)) (written_at-append xs ys output path)
     ∙ or_later (written_at ys output path) (written_at xs output path) _
 
-first : (a b : Bool) → T (a && b) → T a
+pub first : (a b : Bool) → T (a && b) → T a
 first true b p = tt
 first false b p = absurd p
 
-second : (a b : Bool) → T (a && b) → T b
+pub second : (a b : Bool) → T (a && b) → T b
 second true b p = p
 second false b p = absurd p
 
@@ -45,7 +45,7 @@ not_equal Equal p = absurd p
 not_equal Greater p = absurd p
 
 -- a path below all paths of a tree has no file
-below : (path : List ℕ) (files : Tree) → T (below_all byte_order path files) → file_at files path ≡ None
+pub below : (path : List ℕ) (files : Tree) → T (below_all byte_order path files) → file_at files path ≡ None
 below path [] h = refl
 below path (file ∷ files) h =
     ap (λ b. cond b (Some file.1) (file_at files path)) (not_equal (byte_order path file.0) (first _ _ h)) ∙ below path files (second (is_lt (byte_order path file.0)) _ h)

@@ -16,9 +16,11 @@ use Rattle.gb_action.specs.declared.request.Request.{Request}
 use Rattle.gb_action.specs.declared.shape.Arg.{Arg}
 use Rattle.gb_action.specs.declared.shape.Arg.TheVariants as args
 use Rattle.gb_action.specs.declared.shape.Shape.{Shape}
-use Rattle.gb_kinds.specs.declared.shapes.TheConstants.{PRINT_LINE, WRITE_TEXT, FAIL, COPY_FILES, REPLACE_TOKENS, KEEP_LINES, SUMS, CONCAT, ADD_FILE}
+use Rattle.gb_kinds.specs.declared.shapes.TheConstants.{PRINT_LINE, WRITE_TEXT, FAIL, COPY_FILES, REPLACE_TOKENS, KEEP_LINES, SUMS, CONCAT, ADD_FILE, WORD_INDEX}
 use Rattle.gb_kinds.specs.ByFile.{file_of, by_file, all_bytes, source_changes, change_line}
 use Rattle.gb_kinds.specs.Contents.{sum_line, kept_lines, with_value}
+use Rattle.gb_kinds.specs.Remade.{as_made}
+use Rattle.gb_kinds.specs.Words.{index_of}
 
 pub data Kind : Type 0 where
   PrintLine : Kind
@@ -30,6 +32,7 @@ pub data Kind : Type 0 where
   Sums : Kind
   Concat : Kind
   AddFile : Kind
+  WordIndex : Kind
   NoKind : Kind
 
 -- the kind of a number
@@ -44,6 +47,7 @@ kind_of number =
     else if number == SUMS then Sums
     else if number == CONCAT then Concat
     else if number == ADD_FILE then AddFile
+    else if number == WORD_INDEX then WordIndex
     else NoKind
 
 -- the first argument, which is a text
@@ -62,7 +66,7 @@ second_text [] = []
 abbrev pub of_texts : List Arg → Option Form → Shape
 of_texts args out = record { args = args; src = false; out = out; incremental = false }
 
--- a kind that works file by file
+-- a kind that follows the changes of files
 abbrev pub of_files : List Arg → Shape
 of_files args = record { args = args; src = true; out = Some Dir; incremental = true }
 
@@ -76,13 +80,14 @@ kind_shape KeepLines = of_files (args.Text ∷ [])
 kind_shape Sums = of_files []
 kind_shape Concat = record { args = []; src = true; out = Some File; incremental = false }
 kind_shape AddFile = of_texts (args.Rel ∷ args.Text ∷ []) (Some Dir)
+kind_shape WordIndex = of_files []
 kind_shape NoKind = of_texts [] None
 
 -- ---- What is made and printed
 
 -- `writeText` makes the output itself, which holds the text; `fail` fails with it; `copyFiles`, `replaceTokens`, `keepLines`
 -- and `sums` make a file of each file; `concat` makes one file of all, in the order of their paths; `addFile` makes the
--- file at its path beneath the output
+-- file at its path beneath the output; `wordIndex` makes for each word the file that tells where it stands
 abbrev pub kind_makes : Kind → Making
 kind_makes PrintLine arguments values trees = Ok []
 kind_makes WriteText arguments values trees = Ok (file_of [] (first_text arguments) ∷ [])
@@ -93,9 +98,10 @@ kind_makes KeepLines arguments values trees = Ok (by_file (kept_lines (first_tex
 kind_makes Sums arguments values trees = Ok (by_file sum_line (tree_at trees source))
 kind_makes Concat arguments values trees = Ok (file_of [] (all_bytes (tree_at trees source)) ∷ [])
 kind_makes AddFile arguments values trees = Ok (file_of (first_text arguments) (second_text arguments) ∷ [])
+kind_makes WordIndex arguments values trees = Ok (as_made (index_of (tree_at trees source)))
 kind_makes NoKind arguments values trees = Err []
 
--- a kind that works file by file prints a line for each change
+-- a kind that follows changes prints a line for each
 abbrev pub prints_changes : Printing
 prints_changes arguments values trees changes = map change_line (source_changes changes)
 
@@ -110,6 +116,7 @@ kind_prints KeepLines arguments values trees changes = prints_changes arguments 
 kind_prints Sums arguments values trees changes = prints_changes arguments values trees changes
 kind_prints Concat arguments values trees changes = []
 kind_prints AddFile arguments values trees changes = []
+kind_prints WordIndex arguments values trees changes = prints_changes arguments values trees changes
 kind_prints NoKind arguments values trees changes = []
 
 -- ---- By number
@@ -127,9 +134,9 @@ builtin_prints number = kind_prints (kind_of number)
 abbrev pub text_names : List (List ℕ × ℕ × ℕ)
 text_names = (codes "printLine", PRINT_LINE, 1) ∷ (codes "writeText", WRITE_TEXT, 1) ∷ (codes "fail", FAIL, 1) ∷ []
 
--- those that work file by file,
+-- those that follow the changes of files,
 abbrev pub file_names : List (List ℕ × ℕ × ℕ)
-file_names = (codes "copyFiles", COPY_FILES, 1) ∷ (codes "replaceTokens", REPLACE_TOKENS, 1) ∷ (codes "keepLines", KEEP_LINES, 1) ∷ (codes "sums", SUMS, 1) ∷ []
+file_names = (codes "copyFiles", COPY_FILES, 1) ∷ (codes "replaceTokens", REPLACE_TOKENS, 1) ∷ (codes "keepLines", KEEP_LINES, 1) ∷ (codes "sums", SUMS, 1) ∷ (codes "wordIndex", WORD_INDEX, 1) ∷ []
 
 -- and those that write one file
 abbrev pub one_file_names : List (List ℕ × ℕ × ℕ)

@@ -1,3 +1,9 @@
 pub mod Contents
 pub mod ByFile
+pub mod Remade
+pub mod Carried
+pub mod Words
 pub mod Builtin
+pub mod Functions
+pub mod ReplyProps
+pub mod FunctionNames

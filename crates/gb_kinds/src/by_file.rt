@@ -110,18 +110,19 @@ fn rewrite(
 {
     if let Some(bytes) = contents {
         let made = edit.apply(alloc, bytes.as_slice())?;
-        if !holds(standing, &made) {
+        if !holds(standing, made.as_slice()) {
             writes.push(written(alloc, path, made)?)?;
         }
     }
     Ok(())
 }
 
-fn holds(standing: Option<&Bytes>, bytes: &Bytes) -> bool
+/// Whether these bytes stand.
+pub fn holds(standing: Option<&Bytes>, bytes: &[u8]) -> bool
     ensures { result ≡ holds (option_copied standing.entry) bytes.now }
 {
     match standing {
-        Some(found) => found.as_slice() == bytes.as_slice(),
+        Some(found) => found.as_slice() == bytes,
         None => false,
     }
 }

@@ -1,18 +1,21 @@
 //! The kinds that read files, and the one that adds a file.
-ghost use Rattle.std.specs.Prelude.{◌≡◌, IfOk, IsTrue};
-ghost use Rattle.gb_core.specs.Place.{is_rel_path};
-ghost use Rattle.gb_action.specs.Files.{tree_at};
+ghost use Rattle.std.specs.Prelude.{◌≡◌, IfOk};
 ghost use Rattle.gb_action.specs.Replies.{Answers};
 ghost use Rattle.gb_action.specs.Shapes.{IsAsked};
 ghost use Rattle.gb_kinds.specs.Builtin.{builtin_shape, builtin_makes, builtin_prints};
 ghost use Rattle.gb_kinds.specs.ByFile.{all_bytes};
+ghost use Rattle.gb_kinds.specs.Carried.{IsIndexFor};
+ghost use Rattle.gb_kinds.specs.Words.{index_files};
 
 use crate::arguments::{first_text, second_text};
 use crate::by_file::reply_by_file;
+use crate::carried::carried_index;
 use crate::edit::FileEdit;
-use crate::names::{own_path, source_name};
+use crate::index::{Index, index_of};
+use crate::names::{own_path, rel_path, source_name};
 use crate::one_file::one_file;
-use crate::shapes::{ADD_FILE, CONCAT, COPY_FILES, KEEP_LINES, REPLACE_TOKENS, SUMS};
+use crate::remade::reply_remade;
+use crate::shapes::{ADD_FILE, CONCAT, COPY_FILES, KEEP_LINES, REPLACE_TOKENS, SUMS, WORD_INDEX};
 use crate::source::files_of;
 use gb_action::reply::{ActionFault, Reply};
 use gb_action::request::Request;
@@ -57,6 +60,26 @@ pub fn sums(alloc: Global, request: &Request) -> Result<Reply, ActionFault>
     Ok(reply_by_file(alloc, request, &FileEdit::Sum)?)
 }
 
+/// Makes for each word of the files one that holds the paths of those with the word, each ended by
+/// a line feed. Asked for changes it reads the bytes of the old index and of the changed files alone.
+pub fn word_index(alloc: Global, request: &Request) -> Result<Reply, ActionFault>
+    requires { IsAsked (builtin_shape WORD_INDEX) request.now }
+    ensures { Answers (builtin_makes WORD_INDEX) (builtin_prints WORD_INDEX) request.now result }
+{
+    let index = index_for(alloc, request)?;
+    Ok(reply_remade(alloc, request, index)?)
+}
+
+fn index_for(alloc: Global, request: &Request) -> Result<Index, AllocError>
+    ensures { IfOk result (λ index. IsIndexFor request.now (index_files index)) }
+{
+    if request.changes.is_incremental() {
+        return carried_index(alloc, request);
+    }
+    let name = source_name(alloc)?;
+    index_of(alloc, files_of(request, &name))
+}
+
 /// Makes one file of the bytes of all, in the order of their paths.
 pub fn concat(alloc: Global, request: &Request) -> Result<Reply, ActionFault>
     requires { IsAsked (builtin_shape CONCAT) request.now }
@@ -75,14 +98,6 @@ pub fn add_file(alloc: Global, request: &Request) -> Result<Reply, ActionFault>
     let path = rel_path(alloc, first_text(&request.args))?;
     let text = second_text(&request.args);
     Ok(one_file(alloc, path, Bytes::from_slice(alloc, text.as_bytes())?)?)
-}
-
-/// The path of a text that is known to be one.
-fn rel_path(alloc: Global, text: &str) -> Result<RelPath, AllocError>
-    requires { IsTrue (is_rel_path text.now) }
-    ensures { IfOk result (λ path. path ≡ text.now) }
-{
-    RelPath::read(alloc, text).map_err(|_| AllocError)
 }
 
 fn all_bytes(alloc: Global, files: &[(RelPath, Bytes)]) -> Result<Bytes, AllocError>

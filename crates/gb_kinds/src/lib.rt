@@ -4,18 +4,29 @@
 //! whose contract is that meaning, and its shape. A program boxes the functions and hands them to
 //! `builtin_table`: no function here can make the boxes, since what is known of a boxed closure
 //! would then hang on that function's body.
+//! The functions of values, of which properties and providers are made, have the same form.
 #![tactic(auto)]
 
 mod arguments;
 pub mod builtin;
 mod by_file;
+mod carried;
 mod edit;
 pub mod files;
+pub mod function_table;
+pub mod functions;
+mod index;
+mod line;
 mod names;
 mod one_file;
+mod remade;
 pub mod shapes;
 mod source;
+pub mod stored;
 pub mod table;
 #[cfg(test)]
 mod tests;
 pub mod texts;
+#[cfg(test)]
+mod value_tests;
+mod words;

@@ -33,6 +33,9 @@ pub const CONCAT: u16 = 7;
 /// The number of the kind `addFile`.
 pub const ADD_FILE: u16 = 8;
 
+/// The number of the kind `wordIndex`.
+pub const WORD_INDEX: u16 = 9;
+
 /// `printLine(LINE)` writes no file.
 pub fn print_line_shape(alloc: Global) -> Result<Shape, AllocError>
     ensures { IfOk result (λ shape. shape ≡ builtin_shape PRINT_LINE) }
@@ -103,6 +106,13 @@ pub fn add_file_shape(alloc: Global) -> Result<Shape, AllocError>
     Ok(of_texts(two_arguments(alloc, Arg::Rel, Arg::Text)?, Some(Form::Dir)))
 }
 
+/// `wordIndex` makes the folder `out` of `src`.
+pub fn word_index_shape(alloc: Global) -> Result<Shape, AllocError>
+    ensures { IfOk result (λ shape. shape ≡ builtin_shape WORD_INDEX) }
+{
+    Ok(of_files(ArgList::new(alloc)))
+}
+
 /// The shape of a kind that takes one argument and reads no files.
 fn one_argument(alloc: Global, arg: Arg, out: Option<Form>) -> Result<Shape, AllocError>
     ensures { IfOk result (λ shape. shape ≡ of_texts (arg ∷ []) out) }
@@ -133,7 +143,7 @@ fn of_texts(args: ArgList, out: Option<Form>) -> Shape
     }
 }
 
-/// The shape of a kind that works file by file.
+/// The shape of a kind that follows the changes of files.
 fn of_files(args: ArgList) -> Shape
     ensures { result ≡ of_files args }
 {

@@ -5,14 +5,14 @@ ghost use Rattle.gb_action.specs.Shapes.{source, target};
 ghost use Rattle.gb_action.specs.declared.output.Form.{Form};
 
 use crate::builtin::{Builtin, Run, StoredAction};
-use crate::files::{add_file, concat, copy_files, keep_lines, replace_tokens, sums};
+use crate::files::{add_file, concat, copy_files, keep_lines, replace_tokens, sums, word_index};
 use crate::names::{output_name, source_name};
 use crate::shapes::{
-    ADD_FILE, CONCAT, COPY_FILES, FAIL, KEEP_LINES, REPLACE_TOKENS, SUMS, WRITE_TEXT,
+    ADD_FILE, CONCAT, COPY_FILES, FAIL, KEEP_LINES, REPLACE_TOKENS, SUMS, WORD_INDEX, WRITE_TEXT,
     add_file_shape, concat_shape, copy_files_shape, fail_shape, keep_lines_shape,
-    replace_tokens_shape, sums_shape, write_text_shape,
+    replace_tokens_shape, sums_shape, word_index_shape, write_text_shape,
 };
-use crate::table::{add_file_kinds, add_one_file_kinds, add_text_kinds};
+use crate::table::{Runs, builtin_table};
 use crate::texts::{fail, print_line, write_text};
 use gb_action::change::{Change, ChangeList, ChangeLists, InputChanges};
 use gb_action::files::Files;
@@ -162,19 +162,19 @@ fn ask(
 #[test]
 fn the_table_has_each_kind(rt: HostRuntime) -> Result<(), Fail> {
     let alloc = rt.alloc();
-    let mut table = ActionTable::new(alloc);
-    let prints: Run = Box::new(alloc, print_line)?;
-    let writes: Run = Box::new(alloc, write_text)?;
-    let fails: Run = Box::new(alloc, fail)?;
-    add_text_kinds(alloc, &mut table, prints, writes, fails)?;
-    let copies: Run = Box::new(alloc, copy_files)?;
-    let replaces: Run = Box::new(alloc, replace_tokens)?;
-    let keeps: Run = Box::new(alloc, keep_lines)?;
-    let sums: Run = Box::new(alloc, sums)?;
-    add_file_kinds(alloc, &mut table, copies, replaces, keeps, sums)?;
-    let joins: Run = Box::new(alloc, concat)?;
-    let adds: Run = Box::new(alloc, add_file)?;
-    add_one_file_kinds(alloc, &mut table, joins, adds)?;
+    let runs = Runs {
+        print_line: Box::new(alloc, print_line)?,
+        write_text: Box::new(alloc, write_text)?,
+        fail: Box::new(alloc, fail)?,
+        copy_files: Box::new(alloc, copy_files)?,
+        replace_tokens: Box::new(alloc, replace_tokens)?,
+        keep_lines: Box::new(alloc, keep_lines)?,
+        sums: Box::new(alloc, sums)?,
+        word_index: Box::new(alloc, word_index)?,
+        concat: Box::new(alloc, concat)?,
+        add_file: Box::new(alloc, add_file)?,
+    };
+    let table = builtin_table(alloc, runs)?;
     let shown = ask_named(alloc, &table, "printLine", Form::Dir, &["hello"])?;
     assert_eq!(rt; shown.as_str(), ">hello;");
     let shown = ask_named(alloc, &table, "sums", Form::File, &[])?;
@@ -368,5 +368,226 @@ fn texts_are_written_and_fail(rt: HostRuntime) -> Result<(), Fail> {
     let stored = StoredAction::new(FAIL, 1, fail_shape(alloc)?, run);
     assert_eq!(rt; ask_of(alloc, &stored, &["no"], "")?.as_str(), "no");
     assert_eq!(rt; ask_of(alloc, &stored, &["a\nb"], "")?.as_str(), "no fit");
+    Ok(())
+}
+
+/// The answers to each change alone, and to all at once: `a` is modified, `b` gone, `c` made as it
+/// stands, and `d` new.
+fn ask_each(
+    alloc: Global,
+    stored: &StoredAction,
+    args: &[&str],
+    files: &[(&str, &str)],
+    standing: &[(&str, &str)],
+) -> Result<String, Fail> {
+    let changes = &[('M', "a"), ('R', "b"), ('M', "c"), ('A', "d")];
+    let mut shown = String::new(alloc);
+    for change in changes {
+        let one = ask(alloc, stored, Form::Dir, args, files, standing, &[*change])?;
+        shown.push_str(one.as_str())?;
+        shown.push('|')?;
+    }
+    let all = ask(alloc, stored, Form::Dir, args, files, standing, changes)?;
+    shown.push_str(all.as_str())?;
+    Ok(shown)
+}
+
+#[test]
+fn tokens_follow_the_changes(rt: HostRuntime) -> Result<(), Fail> {
+    let alloc = rt.alloc();
+    let run: Run = Box::new(alloc, replace_tokens)?;
+    let stored = StoredAction::new(REPLACE_TOKENS, 1, replace_tokens_shape(alloc)?, run);
+    let shown = ask_each(
+        alloc,
+        &stored,
+        &["k", "v"],
+        &[("a", "@k@x"), ("c", "@k@"), ("d", "")],
+        &[("a", "v"), ("b", "b"), ("c", "v")],
+    )?;
+    assert_eq!(rt;
+        shown.as_str(),
+        "+a=vx;>MODIFIED a;|-b;>REMOVED b;|>MODIFIED c;|+d=;>ADDED d;|-b;+a=vx;+d=;>MODIFIED a;>REMOVED b;>MODIFIED c;>ADDED d;"
+    );
+    Ok(())
+}
+
+#[test]
+fn lines_follow_the_changes(rt: HostRuntime) -> Result<(), Fail> {
+    let alloc = rt.alloc();
+    let run: Run = Box::new(alloc, keep_lines)?;
+    let stored = StoredAction::new(KEEP_LINES, 1, keep_lines_shape(alloc)?, run);
+    let shown = ask_each(
+        alloc,
+        &stored,
+        &["x"],
+        &[("a", "x1\ny\n"), ("c", "x\nz"), ("d", "y\nx")],
+        &[("a", "x0\n"), ("b", "x"), ("c", "x\n")],
+    )?;
+    assert_eq!(rt;
+        shown.as_str(),
+        "+a=x1\n;>MODIFIED a;|-b;>REMOVED b;|>MODIFIED c;|+d=x;>ADDED d;|-b;+a=x1\n;+d=x;>MODIFIED a;>REMOVED b;>MODIFIED c;>ADDED d;"
+    );
+    Ok(())
+}
+
+/// `a` and `c` are empty files, and the sum of `c` stands.
+#[test]
+fn sums_follow_the_changes(rt: HostRuntime) -> Result<(), Fail> {
+    let alloc = rt.alloc();
+    let run: Run = Box::new(alloc, sums)?;
+    let stored = StoredAction::new(SUMS, 1, sums_shape(alloc)?, run);
+    let nothing = "e3b0c44298fc1c149afbf4c8996fb92427ae41e4649b934ca495991b7852b855\n";
+    let shown = ask_each(
+        alloc,
+        &stored,
+        &[],
+        &[("a", ""), ("c", ""), ("d", "abc")],
+        &[("a", ""), ("b", ""), ("c", nothing)],
+    )?;
+    assert_eq!(rt;
+        shown.as_str(),
+        "+a=e3b0c44298fc1c149afbf4c8996fb92427ae41e4649b934ca495991b7852b855\n;>MODIFIED a;|-b;>REMOVED b;|>MODIFIED c;|+d=ba7816bf8f01cfea414140de5dae2223b00361a396177a9cb410ff61f20015ad\n;>ADDED d;|-b;+a=e3b0c44298fc1c149afbf4c8996fb92427ae41e4649b934ca495991b7852b855\n;+d=ba7816bf8f01cfea414140de5dae2223b00361a396177a9cb410ff61f20015ad\n;>MODIFIED a;>REMOVED b;>MODIFIED c;>ADDED d;"
+    );
+    Ok(())
+}
+
+#[test]
+fn empty_files_are_copied(rt: HostRuntime) -> Result<(), Fail> {
+    let alloc = rt.alloc();
+    let run: Run = Box::new(alloc, copy_files)?;
+    let stored = StoredAction::new(COPY_FILES, 1, copy_files_shape(alloc)?, run);
+    let shown = ask_of(alloc, &stored, &[], "")?;
+    assert_eq!(rt; shown.as_str(), "+a=;");
+    Ok(())
+}
+
+/// The answers to full requests, one after another.
+fn ask_in_full(
+    alloc: Global,
+    stored: &StoredAction,
+    trees: &[&[(&str, &str)]],
+) -> Result<String, Fail> {
+    let mut shown = String::new(alloc);
+    for files in trees {
+        let one = ask(alloc, stored, Form::Dir, &[], *files, &[], &[])?;
+        shown.push_str(one.as_str())?;
+        shown.push('|')?;
+    }
+    Ok(shown)
+}
+
+#[test]
+fn words_are_told_in_full(rt: HostRuntime) -> Result<(), Fail> {
+    let alloc = rt.alloc();
+    let run: Run = Box::new(alloc, word_index)?;
+    let stored = StoredAction::new(WORD_INDEX, 1, word_index_shape(alloc)?, run);
+    let trees: &[&[(&str, &str)]] = &[
+        &[("a", "red Blue"), ("b", "blue")],
+        &[("a", "green"), ("b", "blue")],
+        &[("a", "green")],
+        &[("a", "")],
+    ];
+    let shown = ask_in_full(alloc, &stored, trees)?;
+    assert_eq!(rt;
+        shown.as_str(),
+        "+blue=a\nb\n;+red=a\n;|+blue=b\n;+green=a\n;|+green=a\n;||"
+    );
+    Ok(())
+}
+
+/// A word of 64 letters counts, and one of 65 does not.
+#[test]
+fn long_words_are_left_out(rt: HostRuntime) -> Result<(), Fail> {
+    let alloc = rt.alloc();
+    let run: Run = Box::new(alloc, word_index)?;
+    let stored = StoredAction::new(WORD_INDEX, 1, word_index_shape(alloc)?, run);
+    let shown = ask_of(
+        alloc,
+        &stored,
+        &[],
+        "AAAAAAAAAAAAAAAAAAAAAAAAAAAAAAAAAAAAAAAAAAAAAAAAAAAAAAAAAAAAAAAA4bbbbbbbbbbbbbbbbbbbbbbbbbbbbbbbbbbbbbbbbbbbbbbbbbbbbbbbbbbbbbbbbb c",
+    )?;
+    assert_eq!(rt;
+        shown.as_str(),
+        "+aaaaaaaaaaaaaaaaaaaaaaaaaaaaaaaaaaaaaaaaaaaaaaaaaaaaaaaaaaaaaaaa=a\n;+c=a\n;"
+    );
+    Ok(())
+}
+
+fn ask_words(
+    alloc: Global,
+    stored: &StoredAction,
+    files: &[(&str, &str)],
+    standing: &[(&str, &str)],
+    changes: &[(char, &str)],
+) -> Result<String, Fail> {
+    ask(alloc, stored, Form::Dir, &[], files, standing, changes)
+}
+
+/// The three trees of the full requests, by what changed from one to the next.
+#[test]
+fn words_follow_the_changes(rt: HostRuntime) -> Result<(), Fail> {
+    let alloc = rt.alloc();
+    let run: Run = Box::new(alloc, word_index)?;
+    let stored = StoredAction::new(WORD_INDEX, 1, word_index_shape(alloc)?, run);
+    let files: &[(&str, &str)] = &[("a", "green"), ("b", "blue")];
+    let standing: &[(&str, &str)] = &[("blue", "a\nb\n"), ("red", "a\n")];
+    let shown = ask_words(alloc, &stored, files, standing, &[('M', "a")])?;
+    assert_eq!(rt; shown.as_str(), "-red;+blue=b\n;+green=a\n;>MODIFIED a;");
+    let standing: &[(&str, &str)] = &[("blue", "b\n"), ("green", "a\n")];
+    let shown = ask_words(alloc, &stored, &[("a", "green")], standing, &[('R', "b")])?;
+    assert_eq!(rt; shown.as_str(), "-blue;>REMOVED b;");
+    Ok(())
+}
+
+#[test]
+fn words_stay_where_they_stand(rt: HostRuntime) -> Result<(), Fail> {
+    let alloc = rt.alloc();
+    let run: Run = Box::new(alloc, word_index)?;
+    let stored = StoredAction::new(WORD_INDEX, 1, word_index_shape(alloc)?, run);
+    let one: &[(&str, &str)] = &[("x", "b\n")];
+    let both: &[(&str, &str)] = &[("a", "x"), ("b", "x")];
+    let shown = ask_words(alloc, &stored, both, one, &[('A', "a")])?;
+    assert_eq!(rt; shown.as_str(), "+x=a\nb\n;>ADDED a;");
+    let shown = ask_words(alloc, &stored, &[("b", "X x!")], one, &[('M', "b")])?;
+    assert_eq!(rt; shown.as_str(), ">MODIFIED b;");
+    Ok(())
+}
+
+#[test]
+fn words_follow_all_changes_at_once(rt: HostRuntime) -> Result<(), Fail> {
+    let alloc = rt.alloc();
+    let run: Run = Box::new(alloc, word_index)?;
+    let stored = StoredAction::new(WORD_INDEX, 1, word_index_shape(alloc)?, run);
+    let shown = ask_words(
+        alloc,
+        &stored,
+        &[("a", "x y"), ("b", "z")],
+        &[("w", "c\n"), ("x", "b\nc\n"), ("y", "c\n")],
+        &[('A', "a"), ('M', "b"), ('R', "c")],
+    )?;
+    assert_eq!(rt;
+        shown.as_str(),
+        "-w;+x=a\n;+y=a\n;+z=b\n;>ADDED a;>MODIFIED b;>REMOVED c;"
+    );
+    Ok(())
+}
+
+/// Of a file that did not change the old index tells the words, whatever the file holds: `b` stays
+/// at `w` and gets no other word, while `a` leaves it.
+#[test]
+fn words_of_other_files_are_as_told(rt: HostRuntime) -> Result<(), Fail> {
+    let alloc = rt.alloc();
+    let run: Run = Box::new(alloc, word_index)?;
+    let stored = StoredAction::new(WORD_INDEX, 1, word_index_shape(alloc)?, run);
+    let files: &[(&str, &str)] = &[("a", "x"), ("a-", "y"), ("b", "z")];
+    let standing: &[(&str, &str)] = &[("w", "a\na-\nb\n"), ("x", "a-\n")];
+    let shown = ask_words(alloc, &stored, files, standing, &[('M', "a")])?;
+    assert_eq!(rt; shown.as_str(), "+w=a-\nb\n;+x=a\na-\n;>MODIFIED a;");
+    let shown = ask_words(alloc, &stored, files, standing, &[('M', "a-"), ('M', "b")])?;
+    assert_eq!(rt;
+        shown.as_str(),
+        "-x;+w=a\n;+y=a-\n;+z=b\n;>MODIFIED a-;>MODIFIED b;"
+    );
     Ok(())
 }

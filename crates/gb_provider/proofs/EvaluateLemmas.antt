@@ -11,7 +11,7 @@ use Rattle.gb_provider.specs.declared.reading.State.TheVariants.{New, Open, Know
 use Rattle.gb_provider.specs.Meanings.{Meanings}
 use Rattle.gb_provider.specs.Rounds.{Rule, Answers, Reads, reading, after_operand, and_then}
 use Rattle.gb_provider.specs.Rules.{rule, rules}
-use Rattle.gb_provider.specs.Search.{known, known_answer}
+use Rattle.gb_provider.specs.Search.{IsLook, known, known_answer}
 
 module _ {A : Type 0} (states now : List (State A)) (same : now ≡ states) (found : Reading A) (r : Rule A) (reads : found ≡ reading (known now) r) where
   reads_here : reading (known states) r ≡ found
@@ -22,6 +22,17 @@ module _ {A : Type 0} (states now : List (State A)) (same : now ≡ states) (fou
 
   pub waits_is : (operand : ℕ) → found ≡ Waits operand → reading (known states) r ≡ Waits operand
   waits_is operand is = reads_here ∙ is
+
+module _ {A : Type 0} (rules first : List (Rule A)) (kept : rules ≡ first) (states now : List (State A)) (same : now ≡ states) (at : ℕ) (found : Reading A) (look : IsLook rules (known now) at found) where
+  -- the rule that was looked at
+  pub looked_there : slice_get first at ≡ Some look.0
+  looked_there = ap (λ r. slice_get r at) (sym kept) ∙ look.1
+
+  pub looked_settles : (o : A) → found ≡ Settles o → reading (known states) look.0 ≡ Settles o
+  looked_settles o is = settles_is states now same found look.0 look.2 o is
+
+  pub looked_waits : (operand : ℕ) → found ≡ Waits operand → reading (known states) look.0 ≡ Waits operand
+  looked_waits operand is = waits_is states now same found look.0 look.2 operand is
 
 module _ {M F Z S : Type 0} (meanings : Meanings M F Z S) (nodes : List (expressions.Expression M F Z)) where
   pub length_rules : length (rules meanings nodes) ≡ length nodes

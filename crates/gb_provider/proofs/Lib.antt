@@ -8,3 +8,9 @@ pub mod RecallLemmas
 pub mod NamesLemmas
 pub mod WithinLemmas
 pub mod TestLemmas
+pub mod ProducedLemmas
+pub mod EndlessLemmas
+pub mod PastLemmas
+pub mod ListLemmas
+pub mod IndexLemmas
+pub mod GrowLemmas

@@ -12,7 +12,7 @@ pub record Extends {A : Type 0} (f g : ℕ → Option A) : Type 0 where
   pub keeps : (entry : ℕ) (a : A) → f entry ≡ Some a → g entry ≡ Some a
 
 module _ {A : Type 0} where
-  after_is : (operand : ℕ) (go_on : A → Reading A) (o p : Option A) → o ≡ p → after_operand operand go_on o ≡ after_operand operand go_on p
+  pub after_is : (operand : ℕ) (go_on : A → Reading A) (o p : Option A) → o ≡ p → after_operand operand go_on o ≡ after_operand operand go_on p
   after_is operand go_on o p e = ap (after_operand operand go_on) e
 
   pub settled_is : (r : Reading A) (a : A) → settled r ≡ Some a → r ≡ Settles a
@@ -192,3 +192,11 @@ module _ {A : Type 0} (rules : List (Rule A)) where
                   record { keeps = λ entry a e. on.keeps entry a (back.keeps entry a e) }
             ]
       ]
+
+  none_at : (entry : ℕ) → answer rules entry ≡ None → (n : ℕ) (o : Option A) → answer_after rules n entry ≡ o → o ≡ None
+  none_at entry none n None is = refl
+  none_at entry none n (Some a) is = let found = (answer_found n).keeps entry a is in cc
+
+  -- without an answer by then there never is one
+  pub none_bounded : (entry : ℕ) → answer rules entry ≡ None → (n : ℕ) → answer_after rules n entry ≡ None
+  none_bounded entry none n = none_at entry none n (answer_after rules n entry) refl

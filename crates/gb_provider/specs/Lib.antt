@@ -11,4 +11,7 @@ pub mod Answers
 pub mod Steps
 pub mod Changes
 pub mod Remembered
+pub mod Produced
 pub mod Sample
+pub mod Laws
+pub mod Indexed

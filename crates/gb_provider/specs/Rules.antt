@@ -8,6 +8,7 @@ use Rattle.gb_provider.specs.declared.fault.Refusal.{Refusal}
 use Rattle.gb_provider.specs.declared.fault.Refusal.TheVariants.{WrongValue}
 use Rattle.gb_provider.specs.declared.fault.TransformFault.{TransformFault}
 use Rattle.gb_provider.specs.declared.fault.TransformFault.TheVariants as thrown
+use Rattle.gb_provider.specs.declared.fault.ValueFault.{ValueFault}
 use Rattle.gb_provider.specs.declared.fault.ValueFault.TheVariants as faults
 use Rattle.gb_provider.specs.declared.expression.Node.{Node}
 use Rattle.gb_provider.specs.declared.expression.Setting.{Setting}
@@ -27,10 +28,10 @@ numbers_of nodes = map (λ node. node.number) nodes
 abbrev pub refused : List ℕ → Refusal → Outcome
 refused function refusal = Refused (faults.Refused function refusal)
 
--- a function's fault as an outcome
-abbrev pub RefusedAs : List ℕ → TransformFault → Outcome → Type 0
-RefusedAs function (thrown.Refused refusal) outcome = outcome ≡ refused function refusal
-RefusedAs function thrown.OutOfMemory outcome = ⊥
+-- a function's fault, under the name of the function
+abbrev pub RefusedAs : List ℕ → TransformFault → ValueFault → Type 0
+RefusedAs function (thrown.Refused refusal) fault = fault ≡ faults.Refused function refusal
+RefusedAs function thrown.OutOfMemory fault = ⊥
 
 -- the answer of another expression
 abbrev pub follow : ℕ → Rule Outcome

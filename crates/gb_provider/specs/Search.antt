@@ -1,5 +1,10 @@
 -- A search for the answer of one entry.
-use Rattle.std.specs.Prelude.{◌≡◌, ◌≢◌, ℕ, ◌+◌, ◌<◌, List, length, Option, Some, None, Result, Ok, Err, Vec, slice_get, slice_index, sum_by}
+use Rattle.std.specs.Prelude.{◌≡◌, ◌≢◌, ℕ, ◌+◌, ◌<◌, List, length, Option, Some, None, Result, Ok, Err, Vec, slice_get, slice_index, sum_by, Bool, true, false, IsTrue}
+use Rattle.gb_core.specs.declared.value.Value.TheVariants as values
+use Rattle.gb_provider.specs.declared.expression.Outcome.{Outcome}
+use Rattle.gb_provider.specs.declared.expression.Outcome.TheVariants.{Given, Absent, Refused}
+use Rattle.gb_provider.specs.declared.produced.Produced.{Produced}
+use Rattle.gb_provider.specs.declared.produced.Produced.TheVariants as produced
 use Rattle.std.specs.declared.alloc.Global.{Global}
 use Rattle.std.specs.declared.alloc.AllocError.{AllocError}
 use Rattle.gb_provider.specs.Circle.{IsCircle}
@@ -7,7 +12,8 @@ use Rattle.gb_provider.specs.declared.reading.State.{State}
 use Rattle.gb_provider.specs.declared.reading.State.TheVariants.{New, Open, Known}
 use Rattle.gb_provider.specs.declared.reading.Reading.{Reading}
 use Rattle.gb_provider.specs.declared.reading.Reading.TheVariants.{Settles, Waits}
-use Rattle.gb_provider.specs.Rounds.{Rule, reading, answer, and_then}
+use Rattle.std.proofs.Common.{zero, suc}
+use Rattle.gb_provider.specs.Rounds.{Rule, Answers, Reads, reading, answer, and_then}
 
 -- the answer of an entry, where it is known
 abbrev pub known_answer : {A : Type 0} → State A → Option A
@@ -28,6 +34,10 @@ pub record WaitsFor {A : Type 0} (rules : List (Rule A)) (f : ℕ → Option A) 
   pub rule : Rule A
   pub there : slice_get rules entry ≡ Some rule
   pub waits : reading f rule ≡ Waits operand
+
+-- what one look at an entry comes to, with the answers f
+abbrev pub IsLook : {A : Type 0} → List (Rule A) → (ℕ → Option A) → ℕ → Reading A → Type 0
+IsLook {A} rules f entry found = (rule : Rule A) × (slice_get rules entry ≡ Some rule) × (found ≡ reading f rule)
 
 -- what is known is right, and the open entries are a path on which each waits for the next
 pub record IsSearch {A : Type 0} (rules : List (Rule A)) (entry : ℕ) (states : List (State A)) (path : List ℕ) : Type 0 where
@@ -59,3 +69,40 @@ left_at (Known a) = 0
 
 abbrev pub left : {A : Type 0} → List (State A) → ℕ
 left states = sum_by left_at states
+
+-- after n operands that are known, a rule reads this one
+abbrev pub ReadsAfter : {A : Type 0} → (ℕ → Option A) → ℕ → ℕ → Rule A → Type 0
+ReadsAfter f operand n (Answers a) = ⊥
+ReadsAfter f operand zero (Reads next_operand next) = next_operand ≡ operand
+ReadsAfter {A} f operand (suc n) (Reads next_operand next) = (a : A) × (f next_operand ≡ Some a) × ReadsAfter f operand n (next a)
+
+-- the first n operands of a rule are known, and say nothing yet
+abbrev pub IsPast : {A : Type 0} → (ℕ → Option A) → ℕ → Rule A → Type 0
+IsPast f zero rule = Unit {0}
+IsPast f (suc n) rule = (operand : ℕ) × ReadsAfter f operand (suc n) rule
+
+-- the same of the rule of an entry
+abbrev pub IsPastAt : {A : Type 0} → List (Rule A) → (ℕ → Option A) → ℕ → ℕ → Type 0
+IsPastAt {A} rules f entry n = (rule : Rule A) → slice_get rules entry ≡ Some rule → IsPast f n rule
+
+-- the first n operands pass
+abbrev pub AreBefore : (ℕ → Bool) → List ℕ → ℕ → Type 0
+AreBefore passes operands n = (i : ℕ) → i < n → i < length operands → IsTrue (passes (slice_index operands i))
+
+-- an answer that is a text
+abbrev pub is_text : Option Outcome → Bool
+is_text (Some (Given (values.Text text))) = true
+is_text (Some (Given (values.Flag flag))) = false
+is_text (Some (Given (values.List texts))) = false
+is_text (Some (Given (values.Place place))) = false
+is_text (Some (Given (values.Task task))) = false
+is_text (Some Absent) = false
+is_text (Some (Refused fault)) = false
+is_text None = false
+
+-- an answer that has tasks
+abbrev pub has_tasks : Option Produced → Bool
+has_tasks (Some (produced.Tasks tasks)) = true
+has_tasks (Some (produced.Refused fault)) = false
+has_tasks (Some (produced.Endless chooser)) = false
+has_tasks None = false

@@ -1,19 +1,23 @@
 //! One look at an expression, where some answers are known.
 ghost use Rattle.std.specs.Prelude.{◌≡◌, ◌<◌, ℕ, [], length, IfOk, All, codes, Ok};
 ghost use Rattle.std.specs.Option.{option_copied};
+ghost use Rattle.gb_provider.specs.Indexed.{IsIndexed};
 ghost use Rattle.gb_provider.specs.Meanings.{meaning_of};
 ghost use Rattle.gb_provider.specs.Rounds.{reading, Reads};
-ghost use Rattle.gb_provider.specs.Rules.{PlaceWithin, OperandsWithin, rule, follow, or_else, property_rule, SettingWithin, output_rule, output_place, is_output, is_chosen, mapped, zipped, chosen_rule, map_rule, flat_map_rule, zip_rule, list_rule, refused, RefusedAs};
-ghost use Rattle.gb_provider.specs.Search.{known, WaitsWithin};
+ghost use Rattle.gb_provider.specs.Rules.{PlaceWithin, OperandsWithin, rule, follow, or_else, property_rule, SettingWithin, output_rule, mapped, zipped, chosen_rule, map_rule, flat_map_rule, zip_rule, list_rule, refused, RefusedAs};
+ghost use Rattle.gb_provider.specs.Search.{AreBefore, IsPast, is_text, known, WaitsWithin};
 ghost use Rattle.gb_provider.specs.declared.fault.Refusal.TheVariants.{WrongValue};
 
 use crate::expression::{Call, Expression, Outcome, Property, Setting};
+use crate::expressions::{Outputs, place_of};
 use crate::fault::{Chosen, Refusal, TransformFault, ValueFault};
-use crate::reading::{Reading, State};
+use crate::reading::{Look, Reading, State};
+use crate::search::Entries;
 use crate::transforms::Transforms;
 use gb_core::text::{Text, Texts};
 use gb_core::value::Value;
 use std::alloc::{AllocError, Global};
+use std::marker::Model;
 
 // The answer of an entry, where it is known.
 pub(crate) fn known_at<A>(states: &[State<A>], at: usize) -> Option<&A>
@@ -100,16 +104,13 @@ fn read_output(
     }
 }
 
-// That a function refuses; or that memory ran out.
-fn refuse(function: &Text, fault: TransformFault) -> Result<Outcome, AllocError>
-    ensures { IfOk result (λ outcome. RefusedAs function.now fault outcome) }
+// The fault of a function that refuses; or that memory ran out.
+pub(crate) fn refused_by(function: &Text, fault: TransformFault) -> Result<ValueFault, AllocError>
+    ensures { IfOk result (λ refused. RefusedAs function.now fault refused) }
 {
     match fault {
         TransformFault::OutOfMemory => Err(AllocError),
-        TransformFault::Refused(refusal) => Ok(Outcome::Refused(ValueFault::Refused(
-            function.copy()?,
-            refusal,
-        ))),
+        TransformFault::Refused(refusal) => Ok(ValueFault::Refused(function.copy()?, refusal)),
     }
 }
 
@@ -123,7 +124,7 @@ fn apply_map<T: Transforms>(
     match T::map(call.function, alloc, value, call.arguments.as_slice()) {
         Ok(Some(value)) => Ok(Outcome::Given(value)),
         Ok(None) => Ok(Outcome::Absent),
-        Err(fault) => refuse(&call.name, fault),
+        Err(fault) => Ok(Outcome::Refused(refused_by(&call.name, fault)?)),
     }
 }
 
@@ -154,7 +155,7 @@ fn apply_zip<T: Transforms>(
 {
     match T::zip(call.function, alloc, left, right, call.arguments.as_slice()) {
         Ok(value) => Ok(Outcome::Given(value)),
-        Err(fault) => refuse(&call.name, fault),
+        Err(fault) => Ok(Outcome::Refused(refused_by(&call.name, fault)?)),
     }
 }
 
@@ -183,41 +184,22 @@ fn read_zip<T: Transforms>(
     }
 }
 
-// Whether an expression is this output.
-fn is_output<M, F, Z>(node: &Expression<M, F, Z>, chosen: &Chosen) -> bool
-    ensures { result ≡ is_output chosen.now node.now }
-{
-    match node {
-        Expression::OfOutput(output) => {
-            output.chosen.task.as_str() == chosen.task.as_str()
-                && output.chosen.output.as_str() == chosen.output.as_str()
-        }
-        _ => false,
-    }
-}
-
-// Where an output stands.
-pub(crate) fn output_place<M, F, Z>(nodes: &[Expression<M, F, Z>], chosen: &Chosen) -> Option<usize>
-    ensures place { result ≡ output_place nodes.now chosen.now }
-    ensures within { PlaceWithin (length nodes.now) result }
-{
-    nodes.iter().position(|node| is_output(node, chosen))
-}
-
 // What an output comes to that was chosen, or that none was.
 fn read_chosen<M, F, Z>(
     alloc: Global,
     nodes: &[Expression<M, F, Z>],
+    outputs: &Outputs,
     states: &[State<Outcome>],
     reply: Option<Chosen>,
 ) -> Result<Reading<Outcome>, AllocError>
+    requires index { IsIndexed nodes.now outputs.now }
     requires states { length states.now ≡ length nodes.now }
     ensures reads { IfOk result (λ found. found ≡ reading (known states.now) (chosen_rule nodes.now [] (Ok reply))) }
     ensures within { IfOk result (λ found. WaitsWithin (length states.now) found) }
 {
     match reply {
         Some(chosen) => {
-            let place = output_place(nodes, &chosen);
+            let place = place_of(nodes, outputs, &chosen);
             let reading = read_output(alloc, states, &chosen, place)?;
             Ok(reading)
         }
@@ -228,30 +210,34 @@ fn read_chosen<M, F, Z>(
 fn apply_flat_map<T: Transforms>(
     alloc: Global,
     nodes: &[Expression<T::Map, T::FlatMap, T::Zip>],
+    outputs: &Outputs,
     states: &[State<Outcome>],
     call: &Call<T::FlatMap>,
     value: &Value,
 ) -> Result<Reading<Outcome>, AllocError>
+    requires index { IsIndexed nodes.now outputs.now }
     requires states { length states.now ≡ length nodes.now }
     ensures reads { IfOk result (λ found. found ≡ reading (known states.now) (chosen_rule nodes.now call.now.name (meaning_of T.meanings.flat_map call.now.function value.now call.now.arguments))) }
     ensures within { IfOk result (λ found. WaitsWithin (length states.now) found) }
 {
     match T::flat_map(call.function, alloc, value, call.arguments.as_slice()) {
         Ok(reply) => {
-            let reading = read_chosen(alloc, nodes, states, reply)?;
+            let reading = read_chosen(alloc, nodes, outputs, states, reply)?;
             Ok(reading)
         }
-        Err(fault) => Ok(Reading::Settles(refuse(&call.name, fault)?)),
+        Err(fault) => Ok(Reading::Settles(Outcome::Refused(refused_by(&call.name, fault)?))),
     }
 }
 
 fn read_flat_map<T: Transforms>(
     alloc: Global,
     nodes: &[Expression<T::Map, T::FlatMap, T::Zip>],
+    outputs: &Outputs,
     states: &[State<Outcome>],
     source: usize,
     call: &Call<T::FlatMap>,
 ) -> Result<Reading<Outcome>, AllocError>
+    requires index { IsIndexed nodes.now outputs.now }
     requires states { length states.now ≡ length nodes.now }
     requires source { source < length states.now }
     ensures reads { IfOk result (λ found. found ≡ reading (known states.now) (flat_map_rule T.meanings nodes.now source call.now)) }
@@ -259,7 +245,9 @@ fn read_flat_map<T: Transforms>(
 {
     match known_at(states, source) {
         None => Ok(Reading::Waits(source)),
-        Some(Outcome::Given(value)) => apply_flat_map::<T>(alloc, nodes, states, call, value),
+        Some(Outcome::Given(value)) => apply_flat_map::<T>(
+            alloc, nodes, outputs, states, call, value,
+        ),
         Some(outcome) => Ok(Reading::Settles(outcome.copy(alloc)?)),
     }
 }
@@ -293,13 +281,125 @@ fn read_list(
     Ok(Reading::Settles(Outcome::Given(Value::List(texts))))
 }
 
-/// One look at an expression.
-pub(crate) fn read<T: Transforms>(
+// Whether an operand is known to be a text.
+fn is_text(states: &[State<Outcome>], operand: usize) -> bool
+    requires { operand < length states.now }
+    ensures { result ≡ is_text (known states.now operand) }
+{
+    match known_at(states, operand) {
+        Some(Outcome::Given(Value::Text(_))) => true,
+        _ => false,
+    }
+}
+
+// The first operand from here on that is not known to be a text.
+fn past_texts(states: &[State<Outcome>], operands: &[usize], from: usize) -> usize
+    requires operands { All (λ operand. operand < length states.now) operands.now }
+    requires before { AreBefore (λ operand. is_text (known states.now operand)) operands.now from }
+    ensures { AreBefore (λ operand. is_text (known states.now operand)) operands.now result }
+{
+    let mut at = from;
+    while at < operands.len() && is_text(states, operands[at]) {
+        at += 1;
+    }
+    at
+}
+
+// One look at a list, whose first elements are known to be texts.
+fn look_list(
+    alloc: Global,
+    states: &[State<Outcome>],
+    operands: &[usize],
+    past: usize,
+) -> Result<Look<Outcome>, AllocError>
+    requires operands { All (λ operand. operand < length states.now) operands.now }
+    requires past { IsPast (known states.now) past (list_rule [] operands.now) }
+    ensures reads { IfOk result (λ found. found.reading ≡ reading (known states.now) (list_rule [] operands.now)) }
+    ensures within { IfOk result (λ found. WaitsWithin (length states.now) found.reading) }
+    ensures past { IfOk result (λ found. IsPast (known states.now) found.past (list_rule [] operands.now)) }
+{
+    let at = past_texts(states, operands, past);
+    if at < operands.len() {
+        let operand = operands[at];
+        if known_at(states, operand).is_none() {
+            let reading = Reading::Waits(operand);
+            return Ok(Look { reading, past: at });
+        }
+    }
+    Ok(Look::whole(read_list(alloc, states, operands)?))
+}
+
+// One look at an expression, from behind its first operands on.
+fn look_at<T: Transforms>(
     alloc: Global,
     nodes: &[Expression<T::Map, T::FlatMap, T::Zip>],
+    outputs: &Outputs,
+    states: &[State<Outcome>],
+    node: &Expression<T::Map, T::FlatMap, T::Zip>,
+    past: usize,
+) -> Result<Look<Outcome>, AllocError>
+    requires index { IsIndexed nodes.now outputs.now }
+    requires states { length states.now ≡ length nodes.now }
+    requires within { OperandsWithin (length nodes.now) node.now }
+    requires past { IsPast (known states.now) past (rule T.meanings nodes.now node.now) }
+    ensures reads { IfOk result (λ found. found.reading ≡ reading (known states.now) (rule T.meanings nodes.now node.now)) }
+    ensures within { IfOk result (λ found. WaitsWithin (length states.now) found.reading) }
+    ensures past { IfOk result (λ found. IsPast (known states.now) found.past (rule T.meanings nodes.now node.now)) }
+{
+    match node {
+        Expression::Listed(operands) => look_list(alloc, states, operands.as_slice(), past),
+        _ => Ok(Look::whole(read::<T>(alloc, nodes, outputs, states, node)?)),
+    }
+}
+
+/// Expressions, to be read for their values.
+#[derive(Drop)]
+pub(crate) struct ValueReader<'b, 'a, T: Transforms> {
+    pub alloc: Global,
+    pub nodes: &'b [Expression<'a, T::Map, T::FlatMap, T::Zip>],
+    pub outputs: &'b Outputs,
+}
+
+impl<'b, 'a, T: Transforms> Model for ValueReader<'b, 'a, T> {
+    ghost use Rattle.std.specs.Prelude.{List};
+    ghost use Rattle.gb_provider.specs.declared.expression.Expression as expressions;
+    ghost use Rattle.gb_provider.specs.Indexed.{IsIndexed};
+    ghost use Rattle.gb_provider.specs.Remembered.{AreWithin};
+
+    ghost Value = { List (expressions.Expression T.Map T.FlatMap T.Zip) };
+
+    ghost view = { λ r. r.nodes.now };
+
+    ghost invariant = { λ r. AreWithin r.nodes.now × IsIndexed r.nodes.now r.outputs.now };
+}
+
+impl<'b, 'a, T: Transforms> Entries for ValueReader<'b, 'a, T> {
+    ghost use Rattle.gb_provider.specs.Rules.{rules};
+
+    type Answer = Outcome;
+
+    ghost rules = { λ nodes. rules T.meanings nodes };
+
+    fn look(
+        &mut self,
+        states: &[State<Outcome>],
+        at: usize,
+        past: usize,
+    ) -> Result<Look<Outcome>, AllocError> {
+        let nodes = self.nodes;
+        look_at::<T>(self.alloc, nodes, self.outputs, states, &nodes[at], past)
+    }
+}
+
+/// One look at an expression.
+fn read<T: Transforms>(
+    alloc: Global,
+    nodes: &[Expression<T::Map, T::FlatMap, T::Zip>],
+    outputs: &Outputs,
     states: &[State<Outcome>],
     node: &Expression<T::Map, T::FlatMap, T::Zip>,
 ) -> Result<Reading<Outcome>, AllocError>
+    requires index { IsIndexed nodes.now outputs.now }
     requires states { length states.now ≡ length nodes.now }
     requires within { OperandsWithin (length nodes.now) node.now }
     ensures reads { IfOk result (λ found. found ≡ reading (known states.now) (rule T.meanings nodes.now node.now)) }
@@ -314,7 +414,7 @@ pub(crate) fn read<T: Transforms>(
         Expression::Listed(operands) => read_list(alloc, states, operands.as_slice()),
         Expression::Mapped(source, call) => read_map::<T>(alloc, states, *source, call),
         Expression::FlatMapped(source, call) => {
-            read_flat_map::<T>(alloc, nodes, states, *source, call)
+            read_flat_map::<T>(alloc, nodes, outputs, states, *source, call)
         }
         Expression::Zipped(left, right, call) => {
             read_zip::<T>(alloc, states, *left, *right, call)

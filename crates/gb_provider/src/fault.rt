@@ -51,7 +51,7 @@ impl From<AllocError> for TransformFault {
 }
 
 /// An output of a task, by its name.
-#[derive(Debug, Drop)]
+#[derive(Debug, Drop, PartialEq, Eq, PartialOrd, Ord)]
 pub struct Chosen {
     pub task: TaskPath,
     pub output: Text,

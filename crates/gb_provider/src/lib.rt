@@ -1,11 +1,18 @@
 //! Lazy values: properties, outputs of tasks, and what is made of them.
 #![tactic(auto)]
 
+#[cfg(test)]
+mod asking;
+mod carriers;
 pub mod change;
 mod evaluate;
 pub mod expression;
+mod expressions;
 pub mod fault;
+pub mod laws;
 mod names;
+pub mod produced;
+mod producing;
 pub mod providers;
 pub mod reading;
 mod recall;

@@ -1,16 +1,20 @@
 //! Providers.
-ghost use Rattle.std.specs.Prelude.{◌≡◌, ◌<◌, ◌++◌, [], ◌∷◌, length, All, IfOk, OnErr, None, false};
+ghost use Rattle.std.specs.Prelude.{◌≡◌, ◌↔◌, ◌<◌, ◌++◌, [], ◌∷◌, length, All, IfOk, IsTrue, OnErr, None, false};
 ghost use Rattle.gb_provider.specs.Answers.{IsGot, IsRequired, IsTested, IsTestedBy, IsAsked};
 ghost use Rattle.gb_provider.specs.Meanings.{meaning_of};
+ghost use Rattle.gb_provider.specs.Produced.{AreProducers};
 ghost use Rattle.gb_provider.specs.Changes.{ChangeWithin, IsChanged, IsOutput, IsDeclared};
 ghost use Rattle.gb_provider.specs.Table.{map_named, flat_map_named, zip_named, test_named};
-ghost use Rattle.gb_provider.specs.Rules.{numbers_of, OperandsWithin, output_place};
+ghost use Rattle.gb_provider.specs.Indexed.{IsNoOutput};
+ghost use Rattle.gb_provider.specs.Rules.{numbers_of, OperandsWithin, PlaceWithin, output_place};
 ghost use Rattle.gb_provider.specs.Steps.{IsAdded, IsStep};
 
-use crate::change::{Change, change_property, put};
-use crate::evaluate::output_place;
-use crate::expression::{Call, Expression, Node, Operands, Outcome, Output, Property};
+use crate::change::Change;
+use crate::expression::{Call, Expression, Node, Operands, Outcome, Property};
+use crate::expressions::Expressions;
 use crate::fault::{Chosen, Final, ProviderFault, StepFault, TransformFault, ValueFault};
+use crate::produced::{Produced, TaskPaths};
+use crate::producing::recall_producers;
 use crate::reading::State;
 use crate::recall::recall;
 use crate::table::TransformTable;
@@ -28,20 +32,20 @@ use std::marker::Model;
 pub struct Providers<'a, T: Transforms> {
     alloc: Global,
     table: &'a TransformTable<T::Map, T::FlatMap, T::Zip, T::Test>,
-    nodes: Vec<Expression<'a, T::Map, T::FlatMap, T::Zip>>,
-    states: Vec<State<Outcome>>,
+    nodes: Expressions<'a, T::Map, T::FlatMap, T::Zip>,
+    values: Vec<State<Outcome>>,
+    producers: Vec<State<Produced>>,
 }
 
 impl<'a, T: Transforms> Model for Providers<'a, T> {
     ghost use Rattle.gb_provider.specs.Answers.{Held};
-    ghost use Rattle.gb_provider.specs.Remembered.{AreWithin, IsRemembered};
-    ghost use Rattle.gb_provider.specs.Rules.{rules};
+    ghost use Rattle.gb_provider.specs.Produced.{AreKept};
 
     ghost Value = { Held T.Map T.FlatMap T.Zip T.Test };
 
-    ghost view = { λ p. record { table = p.table.now; nodes = p.nodes.items } };
+    ghost view = { λ p. record { table = p.table.now; nodes = p.nodes } };
 
-    ghost invariant = { λ p. AreWithin p.nodes.items × IsRemembered (rules T.meanings p.nodes.items) p.states.items };
+    ghost invariant = { λ p. AreKept T.meanings p.nodes p.values.items p.producers.items };
 }
 
 impl<'a, T: Transforms> Providers<'a, T> {
@@ -55,23 +59,31 @@ impl<'a, T: Transforms> Providers<'a, T> {
         Providers {
             alloc,
             table,
-            nodes: Vec::new(alloc),
-            states: Vec::new(alloc),
+            nodes: Expressions::new(alloc),
+            values: Vec::new(alloc),
+            producers: Vec::new(alloc),
         }
     }
 
-    // Puts an expression behind the others. Nothing is remembered after it.
+    /// Whether a node is one of these providers, as each call that takes one asks.
+    pub fn has(&self, node: Node) -> bool
+        ensures { IsTrue result ↔ (node.number < length self.now.nodes) }
+    {
+        node.number < self.nodes.len()
+    }
+
+    // Puts an expression that is no output behind the others. What is remembered stays right.
     fn add(
         &mut self,
         expression: Expression<'a, T::Map, T::FlatMap, T::Zip>,
     ) -> Result<Node, AllocError>
-        requires { OperandsWithin (length self.old.nodes) expression }
+        requires within { OperandsWithin (length self.old.nodes) expression }
+        requires plain { IsNoOutput expression }
         ensures ok { IfOk result (λ node. IsAdded self.old expression.entry self.new node) }
         ensures err { OnErr result (self.new ≡ self.old) }
     {
         let number = self.nodes.len();
         self.nodes.push(expression)?;
-        self.states.clear();
         Ok(Node { number })
     }
 
@@ -117,18 +129,29 @@ impl<'a, T: Transforms> Providers<'a, T> {
         self.add(Expression::OrElse(left.number, right.number))
     }
 
+    // Puts an output that does not stand yet behind the others. Nothing is remembered after it.
+    fn add_output(&mut self, chosen: Chosen, declared: Option<usize>) -> Result<Node, AllocError>
+        requires within { PlaceWithin (length self.old.nodes) declared }
+        requires new { output_place self.old.nodes chosen ≡ None }
+        ensures ok { IfOk result (λ node. IsAdded self.old (Expression.OfOutput (record { chosen = chosen; declared = declared })) self.new node) }
+        ensures err { OnErr result (self.new ≡ self.old) }
+    {
+        let number = self.nodes.len();
+        self.nodes.push_output(chosen, declared)?;
+        self.values.clear();
+        self.producers.clear();
+        Ok(Node { number })
+    }
+
     /// The output of a task, which stands once; 36 until it is declared.
     pub fn output(&mut self, task: TaskPath, name: Text) -> Result<Node, AllocError>
         ensures ok { IfOk result (λ node. IsOutput self.old (record { task = task; output = name }) (output_place self.old.nodes (record { task = task; output = name })) self.new node) }
         ensures err { OnErr result (self.new ≡ self.old) }
     {
         let chosen = Chosen { task, output: name };
-        match output_place(&self.nodes, &chosen) {
+        match self.nodes.place(&chosen) {
             Some(number) => Ok(Node { number }),
-            None => self.add(Expression::OfOutput(Output {
-                chosen,
-                declared: None,
-            })),
+            None => self.add_output(chosen, None),
         }
     }
 
@@ -144,18 +167,14 @@ impl<'a, T: Transforms> Providers<'a, T> {
         ensures err { OnErr result (self.new ≡ self.old) }
     {
         let chosen = Chosen { task, output: name };
-        let place = output_place(&self.nodes, &chosen);
-        let declared = Expression::OfOutput(Output {
-            chosen,
-            declared: Some(source.number),
-        });
-        match place {
+        match self.nodes.place(&chosen) {
             Some(number) => {
-                put(&mut self.nodes, number, declared);
-                self.states.clear();
+                self.nodes.declare(number, chosen, source.number);
+                self.values.clear();
+                self.producers.clear();
                 Ok(Node { number })
             }
-            None => self.add(declared),
+            None => self.add_output(chosen, Some(source.number)),
         }
     }
 
@@ -250,8 +269,9 @@ impl<'a, T: Transforms> Providers<'a, T> {
         requires change { ChangeWithin (length self.old.nodes) change }
         ensures { IsChanged change self.old node.number self.new result }
     {
-        change_property(&mut self.nodes, node.number, change)?;
-        self.states.clear();
+        self.nodes.change(node.number, change)?;
+        self.values.clear();
+        self.producers.clear();
         Ok(())
     }
 
@@ -304,7 +324,13 @@ impl<'a, T: Transforms> Providers<'a, T> {
         ensures got { IsGot T.meanings self.old.nodes node.number result }
         ensures kept { self.new ≡ self.old }
     {
-        recall::<T>(self.alloc, &self.nodes, &mut self.states, node.number)
+        recall::<T>(
+            self.alloc,
+            self.nodes.as_slice(),
+            self.nodes.outputs(),
+            &mut self.values,
+            node.number,
+        )
     }
 
     /// The value of an expression; 33 where it is absent.
@@ -318,6 +344,24 @@ impl<'a, T: Transforms> Providers<'a, T> {
             Ok(None) => Err(ProviderFault::NoValue),
             Err(fault) => Err(fault),
         }
+    }
+
+    /// The tasks that produce what an expression gives, each once, in the order of their paths by
+    /// bytes: those of the values that it is made of, and of an output its own task. Values are
+    /// read only where they choose; their faults are those of `get`.
+    pub fn producers(&mut self, node: Node) -> Result<TaskPaths, ProviderFault>
+        requires { node.number < length self.old.nodes }
+        ensures producers { AreProducers T.meanings self.old.nodes node.number result }
+        ensures kept { self.new ≡ self.old }
+    {
+        recall_producers::<T>(
+            self.alloc,
+            self.nodes.as_slice(),
+            self.nodes.outputs(),
+            &mut self.values,
+            &mut self.producers,
+            node.number,
+        )
     }
 
     /// Whether a test passes of the value of an expression: never where it is absent.

@@ -1,4 +1,5 @@
 //! What is known of expressions as one is evaluated.
+ghost use Rattle.std.specs.Prelude.{◌≡◌};
 
 /// What is known of an expression.
 #[derive(Drop)]
@@ -14,4 +15,22 @@ pub enum State<A> {
 pub enum Reading<A> {
     Settles(A),
     Waits(usize),
+}
+
+/// What one look at an expression finds.
+#[derive(Drop)]
+pub struct Look<A> {
+    pub reading: Reading<A>,
+    /// How many operands need no other look, where it waits for one behind them.
+    pub past: usize,
+}
+
+impl<A: Drop> Look<A> {
+    /// A look that begins with the first operand whenever it is repeated.
+    pub fn whole(reading: Reading<A>) -> Look<A>
+        ensures reading { result.reading ≡ reading }
+        ensures past { result.past ≡ 0 }
+    {
+        Look { reading, past: 0 }
+    }
 }

@@ -1,12 +1,14 @@
 //! Answers that are remembered.
-ghost use Rattle.std.specs.Prelude.{◌≡◌, ◌≢◌, ◌<◌, ◌≤◌, ℕ, length, OnOk, None, Some, slice_get};
-ghost use Rattle.gb_provider.specs.Answers.{IsGot};
+ghost use Rattle.std.specs.Prelude.{◌≡◌, ◌≢◌, ◌<◌, ◌≤◌, ℕ, length, IfOk, OnOk, None, Some, slice_get};
+ghost use Rattle.gb_provider.specs.Answers.{IsGot, value_of};
+ghost use Rattle.gb_provider.specs.Indexed.{IsIndexed};
 ghost use Rattle.gb_provider.specs.Remembered.{AreWithin, IsRemembered, IsTold};
 ghost use Rattle.gb_provider.specs.Rules.{rules};
-ghost use Rattle.gb_provider.specs.Search.{known};
+ghost use Rattle.gb_provider.specs.Search.{IsEvaluated, known};
 
-use crate::evaluate::known_at;
+use crate::evaluate::{ValueReader, known_at};
 use crate::expression::{Expression, Outcome};
+use crate::expressions::Outputs;
 use crate::fault::ProviderFault;
 use crate::names::circle_names;
 use crate::reading::State;
@@ -16,7 +18,7 @@ use gb_core::value::Value;
 use std::alloc::{AllocError, Global};
 
 // Gives each expression a state.
-fn extend<A: Drop>(states: &mut Vec<State<A>>, count: usize) -> Result<(), AllocError>
+pub(crate) fn extend<A: Drop>(states: &mut Vec<State<A>>, count: usize) -> Result<(), AllocError>
     requires { length states.old.items ≤ count }
     ensures known { (e : ℕ) → known states.new.items e ≡ known states.old.items e }
     ensures closed { (e : ℕ) → slice_get states.old.items e ≢ Some State.Open → slice_get states.new.items e ≢ Some State.Open }
@@ -48,21 +50,45 @@ fn tell(
     }
 }
 
+// Evaluates an expression: afterwards its value is known, unless it runs into a circle.
+fn evaluate_value<T: Transforms>(
+    alloc: Global,
+    nodes: &[Expression<T::Map, T::FlatMap, T::Zip>],
+    outputs: &Outputs,
+    states: &mut Vec<State<Outcome>>,
+    number: usize,
+) -> Result<Option<Vec<usize>>, AllocError>
+    requires index { IsIndexed nodes.now outputs.now }
+    requires number { number < length nodes.now }
+    requires within { AreWithin nodes.now }
+    requires remembered { IsRemembered (rules T.meanings nodes.now) states.old.items }
+    ensures { IsEvaluated (rules T.meanings nodes.now) number states.new.items result }
+{
+    extend(states, nodes.len())?;
+    let mut reader = ValueReader::<T> {
+        alloc,
+        nodes,
+        outputs,
+    };
+    evaluate(alloc, &mut reader, states, number)
+}
+
 /// The value of an expression, which is remembered.
 pub(crate) fn recall<T: Transforms>(
     alloc: Global,
     nodes: &[Expression<T::Map, T::FlatMap, T::Zip>],
+    outputs: &Outputs,
     states: &mut Vec<State<Outcome>>,
     number: usize,
 ) -> Result<Option<Value>, ProviderFault>
+    requires index { IsIndexed nodes.now outputs.now }
     requires number { number < length nodes.now }
     requires within { AreWithin nodes.now }
     requires remembered { IsRemembered (rules T.meanings nodes.now) states.old.items }
     ensures remembered { IsRemembered (rules T.meanings nodes.now) states.new.items }
     ensures got { IsGot T.meanings nodes.now number result }
 {
-    extend(states, nodes.len())?;
-    match evaluate::<T>(alloc, nodes, states, number) {
+    match evaluate_value::<T>(alloc, nodes, outputs, states, number) {
         Ok(None) => tell(alloc, states, number),
         Ok(Some(circle)) => {
             states.clear();
@@ -71,6 +97,37 @@ pub(crate) fn recall<T: Transforms>(
         Err(AllocError) => {
             states.clear();
             Err(ProviderFault::OutOfMemory)
+        }
+    }
+}
+
+/// What an expression comes to, which is remembered; nothing where it runs into a circle.
+pub(crate) fn recall_outcome<T: Transforms>(
+    alloc: Global,
+    nodes: &[Expression<T::Map, T::FlatMap, T::Zip>],
+    outputs: &Outputs,
+    states: &mut Vec<State<Outcome>>,
+    number: usize,
+) -> Result<Option<Outcome>, AllocError>
+    requires index { IsIndexed nodes.now outputs.now }
+    requires number { number < length nodes.now }
+    requires within { AreWithin nodes.now }
+    requires remembered { IsRemembered (rules T.meanings nodes.now) states.old.items }
+    ensures remembered { IsRemembered (rules T.meanings nodes.now) states.new.items }
+    ensures value { IfOk result (λ found. found ≡ value_of T.meanings nodes.now number) }
+{
+    match evaluate_value::<T>(alloc, nodes, outputs, states, number) {
+        Ok(None) => match known_at(states, number) {
+            Some(outcome) => Ok(Some(outcome.copy(alloc)?)),
+            None => unreachable!(),
+        },
+        Ok(Some(_)) => {
+            states.clear();
+            Ok(None)
+        }
+        Err(AllocError) => {
+            states.clear();
+            Err(AllocError)
         }
     }
 }

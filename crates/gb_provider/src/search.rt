@@ -1,14 +1,33 @@
 //! The search for the answer of one expression: a work list, so that no chain is too long.
-ghost use Rattle.std.specs.Prelude.{◌≡◌, ◌<◌, ℕ, length, IfOk, All, Some, None, drop, slice_index, slice_set, slice_get, ◌≢◌};
+ghost use Rattle.std.specs.Prelude.{◌≡◌, ◌<◌, ℕ, List, length, IfOk, Some, None, drop, slice_index, slice_set, slice_get, ◌≢◌};
 ghost use Rattle.std.specs.Bool.{OnTrue, OnFalse};
-ghost use Rattle.gb_provider.specs.Rules.{OperandsWithin, rules};
-ghost use Rattle.gb_provider.specs.Search.{IsSound, IsEvaluated, known};
+ghost use Rattle.gb_provider.specs.Rounds.{Rule};
+ghost use Rattle.gb_provider.specs.Search.{IsLook, IsPastAt, IsSound, IsEvaluated, WaitsWithin, known};
 
-use crate::evaluate::read;
-use crate::expression::{Expression, Outcome};
-use crate::reading::{Reading, State};
-use crate::transforms::Transforms;
+use crate::reading::{Look, Reading, State};
 use std::alloc::{AllocError, Global};
+
+/// Entries of which each has a rule that reads others.
+pub(crate) trait Entries {
+    type Answer: Drop;
+
+    ghost rules: { Self → List (Rule Self.Answer) };
+
+    /// One look at an entry, where some answers are known, from behind its first operands on.
+    fn look(
+        &mut self,
+        states: &[State<Self::Answer>],
+        at: usize,
+        past: usize,
+    ) -> Result<Look<Self::Answer>, AllocError>
+        requires states { length states.now ≡ length (rules self.old) }
+        requires at { at < length (rules self.old) }
+        requires past { IsPastAt (rules self.old) (known states.now) at past }
+        ensures look { IfOk result (λ found. IsLook (rules self.old) (known states.now) at found.reading) }
+        ensures within { IfOk result (λ found. WaitsWithin (length states.now) found.reading) }
+        ensures past { IfOk result (λ found. IsPastAt (rules self.old) (known states.now) at found.past) }
+        ensures kept { self.new ≡ self.old };
+}
 
 // The end of a path, from an entry of it on.
 fn circle_from(alloc: Global, path: &[usize], operand: usize) -> Result<Vec<usize>, AllocError>
@@ -53,35 +72,44 @@ fn is_known<A>(states: &Vec<State<A>>, at: usize) -> bool
     }
 }
 
-/// Evaluates an expression: afterwards its answer is known, unless it runs into a circle.
-pub(crate) fn evaluate<T: Transforms>(
+/// Evaluates an entry: afterwards its answer is known, unless it runs into a circle.
+pub(crate) fn evaluate<E: Entries>(
     alloc: Global,
-    nodes: &[Expression<T::Map, T::FlatMap, T::Zip>],
-    states: &mut Vec<State<Outcome>>,
+    entries: &mut E,
+    states: &mut Vec<State<E::Answer>>,
     entry: usize,
 ) -> Result<Option<Vec<usize>>, AllocError>
-    requires entry { entry < length nodes.now }
-    requires within { All (λ node. OperandsWithin (length nodes.now) node) nodes.now }
-    requires same { length states.old.items ≡ length nodes.now }
-    requires sound { IsSound (rules T.meanings nodes.now) states.old.items }
-    ensures { IsEvaluated (rules T.meanings nodes.now) entry states.new.items result }
+    requires entry { entry < length (E.rules entries.old) }
+    requires same { length states.old.items ≡ length (E.rules entries.old) }
+    requires sound { IsSound (E.rules entries.old) states.old.items }
+    ensures evaluated { IsEvaluated (E.rules entries.old) entry states.new.items result }
+    ensures kept { entries.new ≡ entries.old }
 {
     if is_known(states, entry) {
         return Ok(None);
     }
     let mut path = Vec::new(alloc);
+    let mut pasts = Vec::new(alloc);
     path.push(entry)?;
+    pasts.push(0)?;
     put(states, entry, State::Open);
     while let Some(at) = path.pop() {
-        match read::<T>(alloc, nodes, states, &nodes[at])? {
-            Reading::Settles(outcome) => put(states, at, State::Known(outcome)),
+        let Some(past) = pasts.pop() else {
+            unreachable!()
+        };
+        let look = entries.look(states, at, past)?;
+        let Look { reading, past } = look;
+        match reading {
+            Reading::Settles(answer) => put(states, at, State::Known(answer)),
             Reading::Waits(operand) => {
                 path.push(at)?;
                 if is_open(states, operand) {
                     let circle = circle_from(alloc, &path, operand)?;
                     return Ok(Some(circle));
                 }
+                pasts.push(past)?;
                 path.push(operand)?;
+                pasts.push(0)?;
                 put(states, operand, State::Open);
             }
         }

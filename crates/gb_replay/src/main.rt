@@ -8,9 +8,9 @@
 
 use crate::replay::replay;
 use crate::stop::Stop;
-use gb_action::table::ActionTable;
-use gb_kinds::builtin::{Builtin, Run};
-use gb_kinds::table::add_text_kinds;
+use gb_kinds::builtin::Builtin;
+use gb_kinds::files::{add_file, concat, copy_files, keep_lines, replace_tokens, sums, word_index};
+use gb_kinds::table::{Runs, builtin_table};
 use gb_kinds::texts::{fail, print_line, write_text};
 use gb_project::tables::Tables;
 use std::io::{self, BufWriter};
@@ -26,11 +26,19 @@ mod texts;
 
 fn main(rt: HostRuntime) -> Result<ExitCode, Stop> {
     let alloc = rt.alloc();
-    let mut actions = ActionTable::new(alloc);
-    let print_line: Run = Box::new(alloc, print_line)?;
-    let write_text: Run = Box::new(alloc, write_text)?;
-    let fail: Run = Box::new(alloc, fail)?;
-    add_text_kinds(alloc, &mut actions, print_line, write_text, fail)?;
+    let runs = Runs {
+        print_line: Box::new(alloc, print_line)?,
+        write_text: Box::new(alloc, write_text)?,
+        fail: Box::new(alloc, fail)?,
+        copy_files: Box::new(alloc, copy_files)?,
+        replace_tokens: Box::new(alloc, replace_tokens)?,
+        keep_lines: Box::new(alloc, keep_lines)?,
+        sums: Box::new(alloc, sums)?,
+        word_index: Box::new(alloc, word_index)?,
+        concat: Box::new(alloc, concat)?,
+        add_file: Box::new(alloc, add_file)?,
+    };
+    let actions = builtin_table(alloc, runs)?;
     let tables = Tables { actions };
     let mut writer = BufWriter::new(alloc, io::writer(&rt))?;
     let status = replay::<Builtin, _, _>(alloc, &mut rt.reader(), &mut writer, &tables);

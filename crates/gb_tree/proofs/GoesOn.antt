@@ -1,6 +1,6 @@
 -- One pass along a pattern keeps which texts are matched.
 use Rattle.std.proofs.Common.{arith, zero, suc, replicate, ◌≡◌, ◌≤◌, ◌<◌, ◌+◌, ◌-◌, ◌*◌, ℕ, Bool, true, false, cond, ◌&&◌, ◌||◌, List, [], ◌∷◌, ◌++◌, length, get_or, take, drop, slice_set, append_assoc, refl, sym, ◌∙◌, ap, subst}
-use Rattle.std.proofs.lemmas.List.{at_drop_more, at_drop_all, take_more_set, drop-set-lt}
+use Rattle.std.proofs.lemmas.List.{at_drop_more, take_more_set, drop-set-lt}
 use Rattle.std.specs.Str.{chars, chars_after, continuation_len, lead_bits}
 use Rattle.std.specs.List.{list_any, AllByRecursion}
 use Rattle.gb_tree.specs.Pattern.{matches_by, ends_of}

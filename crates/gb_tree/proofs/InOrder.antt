@@ -1,24 +1,23 @@
 -- Files are read place by place, and stand in the order of their paths.
-use Rattle.std.proofs.Common.{arith, ◌≡◌, ◌≢◌, ◌⊎◌, ◌<◌, ◌+◌, inl, inr, ℕ, zero, suc, Bool, true, false, cond, ◌&&◌, IsTrue, List, [], ◌∷◌, ◌++◌, map, length, get_or, take, drop, Option, Some, None, refl, sym, ◌∙◌, ap, subst}
+use Rattle.std.proofs.Common.{arith, add-one, ◌≡◌, ◌<◌, ◌+◌, inl, inr, ℕ, zero, suc, Bool, true, false, cond, ◌&&◌, List, [], ◌∷◌, ◌++◌, map, length, get_or, take, drop, Option, Some, None, refl, sym, ◌∙◌, ap}
 use Rattle.std.proofs.lemmas.Bool.{and_parts, false≢true}
 use Rattle.std.proofs.lemmas.List.{drop-drop, drop_all, drop_at}
-use Rattle.std.proofs.lemmas.List.Elements.{recursion_from_All}
 use Rattle.std.proofs.lemmas.List.Folds.{list_all-append}
 use Rattle.std.specs.Cmp.{tied_itself}
 use Rattle.std.proofs.lemmas.Cmp.{nat_cmp_total}
-use Rattle.std.specs.Cmp.Lexicographic.{slice_cmp, nat_list_cmp_total}
-use Rattle.std.specs.List.{AllByRecursion, AllPass, filter, list_all}
+use Rattle.std.specs.Cmp.Lexicographic.{nat_list_cmp_total}
+use Rattle.std.specs.List.{AllByRecursion, filter, list_all}
 use Rattle.std.specs.List.Sorted.{IsStrictlySortedBy}
-use Rattle.std.specs.Ordering.{nat_cmp, ordering_then, ordering_reverse, is_eq}
+use Rattle.std.specs.Ordering.{nat_cmp, ordering_then, ordering_reverse, is_eq, is_lt}
 use Rattle.std.specs.Prelude.{IsSome}
 use Rattle.std.specs.declared.cmp.Ordering.{Ordering}
 use Rattle.std.specs.declared.cmp.Ordering.TheVariants.{Less, Equal, Greater}
-use Rattle.std.specs.FinMap.Entries.{put, by_order}
+use Rattle.std.specs.FinMap.Entries.{put, by_order, below_all, is_sorted}
 use Rattle.gb_core.proofs.BySegments.{segments-joined}
 use Rattle.gb_core.specs.Place.{is_place, is_segment, is_under, segments}
-use Rattle.gb_folder.specs.Files.{Place, Files, byte_order, file_at, first_of, places_under}
+use Rattle.gb_folder.specs.Files.{Place, Files, byte_order, file_at, places_under}
 use Rattle.gb_action.proofs.Found.{same_tied}
-use Rattle.gb_tree.specs.Tree.{bytes_at, files_at, is_large, path_from}
+use Rattle.gb_tree.specs.Tree.{Entries, bytes_at, contents_at, entries_from, path_from}
 use Rattle.gb_tree.proofs.Under.{IsUnder, under_parts}
 
 reversed : (x y : List ℕ) (o : Ordering) → byte_order x y ≡ o → byte_order y x ≡ ordering_reverse o
@@ -46,10 +45,10 @@ no_slash_last root good =
     nothing true = refl
     nothing false = refl
 
-past_root : (root rest : List ℕ) → path_from root (root ++ 47 ∷ rest) ≡ rest
+pub past_root : (root rest : List ℕ) → path_from root (root ++ 47 ∷ rest) ≡ rest
 past_root root rest = sym (drop-drop 1 (length root) (root ++ 47 ∷ rest)) ∙ ap (drop 1) (drop_at root (47 ∷ rest) (length root) refl)
 
-at_root : (root : List ℕ) → path_from root root ≡ []
+pub at_root : (root : List ℕ) → path_from root root ≡ []
 at_root root = drop_all (length root + 1) root (omega arith)
 
 two_orders : (a b : List ℕ) → byte_order a b ≡ Less → byte_order b a ≡ Less → ⊥
@@ -78,52 +77,70 @@ paths_ordered root q p (inr before) (inr more) good less =
     ∙ ap (byte_order more.0) (past_root root before.0)
     ∙ reversed before.0 more.0 Less rests
 
-put_last : (k v : List ℕ) (es : Files) → AllByRecursion (λ e. byte_order k e.0 ≡ Greater) es → put byte_order k v es ≡ es ++ (k, v) ∷ []
-put_last k v [] after = refl
-put_last k v (e ∷ es) after = ap (λ o. by_order o ((k, v) ∷ e ∷ es) ((e.0, v) ∷ es) (e ∷ put byte_order k v es)) after.0 ∙ ap (λ es. e ∷ es) (put_last k v es after.1)
+abbrev first_or : {X : Type 0} → List X → X → X
+first_or [] d = d
+first_or (x ∷ xs) d = x
 
-pub all_at : {X : Type 0} (P : X → Type 0) (xs : List X) (i : ℕ) (x : X) → i < length xs → x ≡ get_or xs i x → AllByRecursion P xs → P x
-all_at P [] i x within is all = absurd (omega (arith, within))
-all_at P (y ∷ xs) zero x within is all = subst P (sym is) all.0
-all_at P (y ∷ xs) (suc i) x within is all = all_at P xs i x (omega (arith, within)) is all.1
+below_root : (root p : Place) (places : List Place) → AllByRecursion (λ q. byte_order p q ≡ Less) places → IsUnder p root → AllByRecursion (λ q. is_under q root ≡ true) places → AllByRecursion (λ q. is_place q ≡ true) places
+    → below_all byte_order (path_from root p) (entries_from root places) ≡ true
+below_root root p [] less mine under placed = refl
+below_root root p (q ∷ places) less mine under placed =
+    ap (λ o. is_lt o && below_all byte_order (path_from root p) (entries_from root places)) (reversed (path_from root q) (path_from root p) Greater (paths_ordered root p q mine (under_parts q root under.0) placed.0 less.0))
+    ∙ below_root root p places less.1 mine under.1 placed.1
 
-all_take : {X : Type 0} (P : X → Type 0) (xs : List X) (i : ℕ) → AllByRecursion P xs → AllByRecursion P (take i xs)
-all_take P [] i all = take_none i
-  where
-    take_none : (i : ℕ) → AllByRecursion P (take i [])
-    take_none zero = tt
-    take_none (suc i) = tt
-all_take P (x ∷ xs) zero all = tt
-all_take P (x ∷ xs) (suc i) all = (all.0, all_take P xs i all.1)
-
--- the places so far stand before this one
-earlier : (places : List Place) (i : ℕ) (p : Place) → i < length places → p ≡ get_or places i p → IsStrictlySortedBy byte_order places → AllByRecursion (λ q. byte_order q p ≡ Less) (take i places)
+-- places in order give paths in order
+pub entries_ordered : (root : Place) (places : List Place) → IsStrictlySortedBy byte_order places → AllByRecursion (λ q. is_under q root ≡ true) places → AllByRecursion (λ q. is_place q ≡ true) places
+    → is_sorted byte_order (entries_from root places) ≡ true
 unfolding IsStrictlySortedBy
-earlier [] i p within is sorted = absurd (omega (arith, within))
-earlier (x ∷ places) zero p within is sorted = tt
-earlier (x ∷ places) (suc i) p within is sorted = (all_at (λ q. byte_order x q ≡ Less) places i p (omega (arith, within)) is sorted.0, earlier places i p (omega (arith, within)) is sorted.1)
+entries_ordered root [] sorted under placed = refl
+entries_ordered root (p ∷ places) sorted under placed =
+    ap (λ b. b && is_sorted byte_order (entries_from root places)) (below_root root p places sorted.0 (under_parts p root under.0) under.1 placed.1)
+    ∙ entries_ordered root places sorted.1 under.1 placed.1
 
-after_all : (files : Files) (root p : Place) (qs : List Place) → AllByRecursion (λ q. is_under q root ≡ true) qs → IsUnder p root → is_place p ≡ true → AllByRecursion (λ q. byte_order q p ≡ Less) qs
-    → AllByRecursion (λ e. byte_order (path_from root p) e.0 ≡ Greater) (files_at files root qs)
-after_all files root p [] under mine good less = tt
-after_all files root p (q ∷ qs) under mine good less = (paths_ordered root q p (under_parts q root under.0) mine good less.0, after_all files root p qs under.1 mine good less.1)
+-- ---- One entry more
 
--- one file more
-pub file_more : (files : Files) (root : Place) (places : List Place) (i : ℕ) (p : Place) → i < length places → p ≡ get_or places i p → AllPass (λ at. is_under at root) places → IsStrictlySortedBy byte_order places → is_place p ≡ true
-    → put byte_order (path_from root p) (bytes_at files p) (files_at files root (take i places)) ≡ files_at files root (take i places) ++ (path_from root p, bytes_at files p) ∷ []
-file_more files root places i p within is under sorted good =
-    let unders = recursion_from_All (λ at. is_under at root ≡ true) places under in
-    put_last (path_from root p) (bytes_at files p) (files_at files root (take i places))
-    (after_all files root p (take i places) (all_take (λ at. is_under at root ≡ true) places i unders) (under_parts p root (all_at (λ at. is_under at root ≡ true) places i p within is unders)) good (earlier places i p within is sorted))
+is_less : (o : Ordering) → is_lt o ≡ true → o ≡ Less
+is_less Less h = refl
+is_less Equal h = absurd (cc)
+is_less Greater h = absurd (cc)
 
-pub files_at-append : (files : Files) (root : Place) (qs : List Place) (p : Place) → files_at files root (qs ++ p ∷ []) ≡ files_at files root qs ++ (path_from root p, bytes_at files p) ∷ []
-files_at-append files root [] p = refl
-files_at-append files root (q ∷ qs) p = ap (λ es. (path_from root q, bytes_at files q) ∷ es) (files_at-append files root qs p)
+before_at : (k : List ℕ) (entries : Entries) (i : ℕ) (e : List ℕ × Place) → i < length entries → e ≡ get_or entries i e → below_all byte_order k entries ≡ true → byte_order k e.0 ≡ Less
+before_at k [] i e within is below = absurd (omega (arith, within))
+before_at k (x ∷ entries) zero e within is below = ap (λ y. byte_order k y.0) is ∙ is_less (byte_order k x.0) (and_parts _ _ below).0
+before_at k (x ∷ entries) (suc i) e within is below = before_at k entries i e (omega (arith, within)) is (and_parts _ _ below).1
 
--- nothing is first of nothing alone
-pub none_first : {X : Type 0} (xs : List X) → first_of xs ≡ None → xs ≡ []
-none_first [] e = refl
-none_first (x ∷ xs) e = absurd (cc)
+put_next : (files : Files) (entries : Entries) (i : ℕ) (e : List ℕ × Place) → i < length entries → e ≡ get_or entries i e → is_sorted byte_order entries ≡ true
+    → put byte_order e.0 (bytes_at files e.1) (contents_at files (take i entries)) ≡ contents_at files (take (suc i) entries)
+put_next files [] i e within is sorted = absurd (omega (arith, within))
+put_next files (x ∷ entries) zero e within is sorted = ap (λ y. (y.0, bytes_at files y.1) ∷ []) is
+put_next files (x ∷ entries) (suc i) e within is sorted =
+    let parts = and_parts _ _ sorted in
+    let more = (x.0, bytes_at files x.1) ∷ contents_at files (take i entries) in
+    ap (λ o. by_order o ((e.0, bytes_at files e.1) ∷ more) ((x.0, bytes_at files e.1) ∷ contents_at files (take i entries)) ((x.0, bytes_at files x.1) ∷ put byte_order e.0 (bytes_at files e.1) (contents_at files (take i entries))))
+    (reversed x.0 e.0 Less (before_at x.0 entries i e (omega (arith, within)) is parts.0))
+    ∙ ap (λ es. (x.0, bytes_at files x.1) ∷ es) (put_next files entries i e (omega (arith, within)) is parts.1)
+
+pub file_more : (files : Files) (entries : Entries) (i : ℕ) (e : List ℕ × Place) → i < length entries → e ≡ get_or entries i e → is_sorted byte_order entries ≡ true
+    → put byte_order e.0 (bytes_at files e.1) (contents_at files (take i entries)) ≡ contents_at files (take (i + 1) entries)
+file_more files entries i e within is sorted = rw add-one (put_next files entries i e within is sorted)
+
+-- ---- Entries whose paths are the same, by the values too, are in order alike
+
+below_alike : {X Y : Type 0} (k : List ℕ) (xs : List (List ℕ × X)) (ys : List (List ℕ × Y)) → map (λ x. x.0) xs ≡ map (λ y. y.0) ys → below_all byte_order k xs ≡ below_all byte_order k ys
+below_alike k [] [] same = refl
+below_alike k [] (y ∷ ys) same = absurd (cc)
+below_alike k (x ∷ xs) [] same = absurd (cc)
+below_alike {X} {Y} k (x ∷ xs) (y ∷ ys) same =
+    ap (λ path. is_lt (byte_order k path) && below_all byte_order k xs) (ap (λ paths. first_or paths x.0) same)
+    ∙ ap (λ b. is_lt (byte_order k y.0) && b) (below_alike k xs ys (ap (λ paths. drop 1 paths) same))
+
+pub sorted_alike : {X Y : Type 0} (xs : List (List ℕ × X)) (ys : List (List ℕ × Y)) → map (λ x. x.0) xs ≡ map (λ y. y.0) ys → is_sorted byte_order xs ≡ is_sorted byte_order ys
+sorted_alike [] [] same = refl
+sorted_alike [] (y ∷ ys) same = absurd (cc)
+sorted_alike (x ∷ xs) [] same = absurd (cc)
+sorted_alike (x ∷ xs) (y ∷ ys) same =
+    ap (λ b. b && is_sorted byte_order xs) (ap (λ path. below_all byte_order path xs) (ap (λ paths. first_or paths x.0) same) ∙ below_alike y.0 xs ys (ap (λ paths. drop 1 paths) same))
+    ∙ ap (λ b. below_all byte_order y.0 ys && b) (sorted_alike xs ys (ap (λ paths. drop 1 paths) same))
 
 -- ---- the places that are listed have files
 
@@ -146,7 +163,7 @@ each_stands (e ∷ es) = (ap (λ o. is_some_of (cond (is_eq o) (Some e.1) (file_
     is_some_of None = false
     is_some_of (Some bytes) = true
 
-all_filter : {X : Type 0} (P : X → Type 0) (test : X → Bool) (xs : List X) → AllByRecursion P xs → AllByRecursion P (filter test xs)
+pub all_filter : {X : Type 0} (P : X → Type 0) (test : X → Bool) (xs : List X) → AllByRecursion P xs → AllByRecursion P (filter test xs)
 all_filter P test [] all = tt
 all_filter P test (x ∷ xs) all = elim (test x) as (λ b. AllByRecursion P (cond b (x ∷ filter test xs) (filter test xs))) [
   | true ↦ (all.0, all_filter P test xs all.1)

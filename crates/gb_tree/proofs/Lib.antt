@@ -6,3 +6,9 @@ pub mod Loops
 pub mod Refused
 pub mod Under
 pub mod InOrder
+pub mod Sorting
+pub mod Pieces
+pub mod Told
+pub mod Doubles
+pub mod Found
+pub mod Rest

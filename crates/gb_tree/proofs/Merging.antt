@@ -1,12 +1,12 @@
 -- Two trees are gone through together, least path first.
-use Rattle.std.proofs.Common.{arith, ◌≡◌, ◌≤◌, ◌<◌, ◌+◌, ◌-◌, ◌⊎◌, inl, inr, ℕ, length, get_or, take, Bool, true, false, ◌&&◌, T, IsTrue, List, [], ◌∷◌, ◌++◌, map, Option, Some, None, drop, refl, sym, ◌∙◌, ap, subst}
+use Rattle.std.proofs.Common.{arith, ◌≡◌, ◌≤◌, ◌<◌, ◌+◌, ◌-◌, ◌⊎◌, inl, inr, ℕ, length, get_or, take, Bool, true, false, ◌&&◌, IsTrue, List, [], ◌∷◌, ◌++◌, map, Some, None, drop, refl, sym, ◌∙◌, ap, subst}
 use Rattle.std.proofs.lemmas.List.{drop-drop, drop_all, length-drop, take_all}
 use Rattle.std.specs.List.{AllByRecursion, flat_map}
 use Rattle.std.specs.Ordering.{is_lt, ordering_reverse}
 use Rattle.std.specs.Cmp.Lexicographic.{nat_list_cmp_total}
 use Rattle.std.specs.declared.cmp.Ordering.{Ordering}
 use Rattle.std.specs.declared.cmp.Ordering.TheVariants.{Less, Equal, Greater}
-use Rattle.std.specs.FinMap.Entries.{find, put, below_all, is_sorted, by_order}
+use Rattle.std.specs.FinMap.Entries.{put, below_all, is_sorted, by_order}
 use Rattle.gb_action.specs.Changes.{change_at, changes_between, in_order}
 use Rattle.gb_action.specs.Files.{Tree, byte_order, file_at}
 use Rattle.gb_action.specs.declared.change.Change.{Change}

@@ -1,14 +1,13 @@
 -- Why a file that stands is not read.
-use Rattle.std.proofs.Common.{◌≡◌, ◌≢◌, ◌⊎◌, ◌<◌, ◌≤◌, ◌++◌, map, Result, Ok, Err, arith, inl, inr, ℕ, Bool, true, false, cond, not, List, [], ◌∷◌, length, Option, Some, None, refl, sym, ◌∙◌, ap, subst, IsTrue}
+use Rattle.std.proofs.Common.{◌≡◌, ◌⊎◌, ◌<◌, ◌≤◌, ◌++◌, Result, Err, arith, inl, inr, ℕ, Bool, true, false, cond, not, List, [], ◌∷◌, length, Option, Some, None, refl, sym, ◌∙◌, ap, subst}
 use Rattle.std.proofs.lemmas.Bool.Decides.{nat_tests}
 use Rattle.std.proofs.lemmas.Bool.{and_parts, not-true, false≢true}
 use Rattle.std.proofs.lemmas.Option.{none-some}
 use Rattle.std.specs.Cmp.Lexicographic.{slice_cmp}
-use Rattle.std.specs.List.{filter, list_all}
-use Rattle.std.specs.Option.{option_map}
+use Rattle.std.specs.List.{list_all}
 use Rattle.std.specs.Ordering.{nat_cmp, is_eq}
 use Rattle.std.specs.Prelude.{IsSome, IsSomeAnd, nat_lt, unwrap_or}
-use Rattle.gb_folder.specs.Files.{Place, Files, Contents, IsFolder, HasRisen, file_at, first_of, is_blocked, is_odd_under, places_under}
+use Rattle.gb_folder.specs.Files.{Place, Files, IsFolder, HasRisen, file_at, first_of, is_blocked}
 use Rattle.gb_folder.proofs.Changes.{HasRisen-before}
 use Rattle.gb_folder.proofs.Held.{equal_from}
 use Rattle.gb_folder.proofs.Sound.{same_from}
@@ -16,7 +15,7 @@ use Rattle.gb_folder.specs.declared.folder.FolderFault.{FolderFault}
 use Rattle.gb_folder.specs.declared.folder.FolderFault.TheVariants as folders
 use Rattle.gb_tree.specs.declared.fault.TreeFault.{TreeFault}
 use Rattle.gb_tree.specs.declared.fault.TreeFault.TheVariants as faults
-use Rattle.gb_tree.specs.Tree.{IsOfMachine, told_at, is_large, max_file, max_files, output_faults}
+use Rattle.gb_tree.specs.Tree.{IsOfMachine, told_at, is_large, max_file}
 
 free_among : (all files : Files) (place bytes : List ℕ) → list_all (λ (file : List ℕ × List ℕ). not (is_blocked all file.0)) files ≡ true → file_at files place ≡ Some bytes → is_blocked all place ≡ false
 free_among all [] place bytes sound stands = absurd (none-some bytes stands)
@@ -62,18 +61,15 @@ machine_before first second third fault le more (inr device) = inr (device.0, de
 pub at_err : {A E : Type 0} (P : Result A E → Type 0) (r : Result A E) (y z : E) → r ≡ Err y → y ≡ z → P (Err z) → P r
 at_err P r y z is same holds = subst P (sym (is ∙ ap Err same)) holds
 
-few : (n : ℕ) → n ≤ max_files → nat_lt max_files n ≡ false
-few n le = grind (arith, nat_tests)
+-- nothing is first of nothing alone
+pub none_first : {X : Type 0} (xs : List X) → first_of xs ≡ None → xs ≡ []
+none_first [] e = refl
+none_first (x ∷ xs) e = absurd (cc)
 
-first_mapped : {X Y : Type 0} (f : X → Y) (xs : List X) (x : X) → first_of xs ≡ Some x → first_of (map f xs) ≡ Some (f x)
-first_mapped f [] x e = absurd (cc)
-first_mapped f (y ∷ xs) x e = ap (option_map f) e
+-- the first of two lists in turn
+pub front_first : {X : Type 0} (xs ys : List X) (x : X) → first_of xs ≡ Some x → first_of (xs ++ ys) ≡ Some x
+front_first [] ys x e = absurd (cc)
+front_first (y ∷ xs) ys x e = e
 
--- the first file that is too large is the fault where nothing else hinders
-pub first_large : (name : List ℕ) (root : Place) (contents : Contents) (at : Place) → is_odd_under contents root ≡ false → length (places_under contents.files root) ≤ max_files
-    → first_of (filter (is_large contents.files) (places_under contents.files root)) ≡ Some at → first_of (output_faults name root contents) ≡ Some (faults.TooLarge at)
-first_large name root contents at even count first =
-    let larges = map faults.TooLarge (filter (is_large contents.files) (places_under contents.files root)) in
-    ap (λ b. first_of ((cond b (faults.BadFileName root ∷ []) [] ++ cond (nat_lt max_files (length (places_under contents.files root))) (faults.TooManyFiles name ∷ []) []) ++ larges)) even
-    ∙ ap (λ b. first_of (cond b (faults.TooManyFiles name ∷ []) [] ++ larges)) (few (length (places_under contents.files root)) count)
-    ∙ first_mapped faults.TooLarge (filter (is_large contents.files) (places_under contents.files root)) at first
+pub back_first : {X : Type 0} (xs ys : List X) → xs ≡ [] → first_of (xs ++ ys) ≡ first_of ys
+back_first xs ys none = ap (λ zs. first_of (zs ++ ys)) none

@@ -16,4 +16,5 @@ tree_fault_number (trees.Missing place) = 11
 tree_fault_number (trees.Blocked place) = 12
 tree_fault_number (trees.TooLarge place) = 13
 tree_fault_number (trees.BadFileName place) = 14
+tree_fault_number (trees.DuplicateInput name path) = 71
 tree_fault_number (trees.TooManyFiles name) = 72

@@ -4,3 +4,5 @@ pub mod Faults
 pub mod Prints
 pub mod Merge
 pub mod Tree
+pub mod Property
+pub mod Rising

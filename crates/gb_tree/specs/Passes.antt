@@ -1,5 +1,5 @@
 -- How a match goes on along a pattern: before which of its items a match can stand once a text has been read.
-use Rattle.std.specs.Prelude.{ℕ, Bool, true, false, ◌&&◌, ◌||◌, List, [], ◌∷◌, if◌then◌else◌, ◌==◌, Option, None, Some}
+use Rattle.std.specs.Prelude.{Bool, true, false, ◌&&◌, ◌||◌, List, [], ◌∷◌, if◌then◌else◌, Option, None, Some}
 use Rattle.gb_tree.specs.Pattern.{matches_by}
 
 -- One more thing is read, which fits some items of the pattern. `entered`: a match comes to stand before the first item;

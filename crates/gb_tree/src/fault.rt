@@ -3,7 +3,7 @@ ghost use Rattle.std.specs.Prelude.{◌≡◌, ◌⊎◌};
 ghost use Rattle.gb_tree.specs.Tree.{told_at};
 
 use gb_core::name::Name;
-use gb_core::place::Place;
+use gb_core::place::{Place, RelPath};
 use gb_folder::folder::FolderFault;
 use std::alloc::{AllocError, AllocFailed};
 use thiserror::Error;
@@ -29,6 +29,9 @@ pub enum TreeFault {
     /// There are more than 65,536.
     #[error("too many files {0}")]
     TooManyFiles(Name),
+    /// Two files would stand at this path, or one at a folder of it.
+    #[error("duplicate input {0} {1}")]
+    DuplicateInput(Name, RelPath),
 }
 
 impl TreeFault {
@@ -45,6 +48,7 @@ impl TreeFault {
             TreeFault::Blocked(_) => 12,
             TreeFault::TooLarge(_) => 13,
             TreeFault::BadFileName(_) => 14,
+            TreeFault::DuplicateInput(_, _) => 71,
             TreeFault::TooManyFiles(_) => 72,
         }
     }

@@ -1,11 +1,16 @@
-//! Which files a pattern lets in, which files stand at an output, what is remembered of them, and
-//! how two states of them differ.
+//! Which files a pattern lets in, which files a property or an output has, what is remembered of
+//! them, and how two states of them differ.
 //!
 //! A pattern is matched against the segments of a path, in steps that grow with the product of the
-//! two lengths and without memory ([`Pattern`](pattern::Pattern)). [`outputs`](output::outputs)
-//! reads the files at a place. Of such files the digests are remembered
-//! ([`prints`](digest::prints)), and [`compare`](changes::compare) tells what was added, modified
-//! or removed between two such states.
+//! two lengths and without memory ([`Pattern`](pattern::Pattern)).
+//! [`snapshot`](property::snapshot) reads the files of a property: those beneath its roots that its
+//! patterns let in. Their paths are sorted and compared before any content is read, in steps that
+//! grow as n log n. [`outputs`](output::outputs) reads the files at a place.
+//!
+//! Of such files the digests are remembered: [`prints`](digest::prints) takes them from contents,
+//! [`prints_of`](property::prints_of) and [`output_prints`](output::output_prints) from the folder,
+//! of which they hold 65,536 bytes at a time. [`compare`](changes::compare) tells what was added,
+//! modified or removed between two such states.
 //!
 //! Set aside: regular expressions, character classes and negation in patterns, and one digest for a
 //! whole tree, which could not tell which file changed.
@@ -13,10 +18,14 @@
 
 pub mod changes;
 pub mod digest;
+mod entries;
 pub mod fault;
 mod matching;
 pub mod output;
+mod path;
 pub mod pattern;
 pub mod prints;
+pub mod property;
+mod reading;
 #[cfg(test)]
 mod tests;

@@ -79,7 +79,14 @@ impl Pattern {
     pub fn matches(&self, path: &Place) -> bool
         ensures { result ≡ path_matches self.now path.now }
     {
-        path_matches(self.text.as_str(), path.as_str())
+        self.matches_text(path.as_str())
+    }
+
+    /// Whether the path of this text matches.
+    pub(crate) fn matches_text(&self, path: &str) -> bool
+        ensures { result ≡ path_matches self.now path.now }
+    {
+        path_matches(self.text.as_str(), path)
     }
 
     /// The pattern, with `/**` where it was written `/`.

@@ -1,9 +1,11 @@
 //! Vectors from outside, and each call that takes memory once.
 use crate::changes::compare;
 use crate::digest::prints;
-use crate::output::outputs;
+use crate::fault::TreeFault;
+use crate::output::{output_prints, outputs};
 use crate::pattern::{Pattern, PatternFault};
 use crate::prints::Prints;
+use crate::property::{Naming, prints_of, snapshot};
 use gb_action::change::Change;
 use gb_action::files::Files;
 use gb_action::snapshot::Snapshot;
@@ -99,7 +101,7 @@ fn patterns_are_read(rt: HostRuntime) -> Result<(), Fail> {
 }
 
 /// The prints of a property `src` with these files.
-fn prints_of(alloc: Global, contents: &[(&str, &[u8])]) -> Result<Prints, Fail> {
+fn prints_over(alloc: Global, contents: &[(&str, &[u8])]) -> Result<Prints, Fail> {
     let mut files = Files::new(alloc);
     for (path, bytes) in contents {
         files.insert(
@@ -124,7 +126,7 @@ fn shown_prints(alloc: Global, prints: &Prints) -> Result<String, Fail> {
 #[test]
 fn digests_are_those_of_the_standard(rt: HostRuntime) -> Result<(), Fail> {
     let alloc = rt.alloc();
-    let prints = prints_of(alloc, &[("b", b"".as_slice()), ("a", b"abc".as_slice())])?;
+    let prints = prints_over(alloc, &[("b", b"".as_slice()), ("a", b"abc".as_slice())])?;
     assert_eq!(rt; prints.name().as_str(), "src");
     assert_eq!(rt;
         shown_prints(alloc, &prints)?.as_str(),
@@ -150,8 +152,8 @@ fn shown_changes(alloc: Global, old: &Prints, new: &Prints) -> Result<String, Fa
 
 /// What changed between these files and those.
 fn told(alloc: Global, before: &[(&str, &[u8])], after: &[(&str, &[u8])]) -> Result<String, Fail> {
-    let old = prints_of(alloc, before)?;
-    let new = prints_of(alloc, after)?;
+    let old = prints_over(alloc, before)?;
+    let new = prints_over(alloc, after)?;
     shown_changes(alloc, &old, &new)
 }
 
@@ -177,11 +179,10 @@ fn folder_of(alloc: Global, contents: &[(&str, &[u8])]) -> Result<MemoryFolder, 
     Ok(folder)
 }
 
-/// The outputs through the bound alone: a line for each, with its path and how many bytes it has.
-fn shown_outputs<F: Folder>(alloc: Global, folder: &mut F, place: &str) -> Result<String, Fail> {
-    let name = Name::read(alloc, "out")?;
+/// A line for each file with its path and how many bytes it has, or one for the fault.
+fn shown_files(alloc: Global, files: Result<Snapshot, TreeFault>) -> Result<String, Fail> {
     let mut lines = String::new(alloc);
-    match outputs(alloc, folder, &name, &Place::read(alloc, place)?) {
+    match files {
         Ok(snapshot) => {
             for (path, bytes) in snapshot.files().as_slice() {
                 let count = bytes.as_slice().len();
@@ -196,6 +197,24 @@ fn shown_outputs<F: Folder>(alloc: Global, folder: &mut F, place: &str) -> Resul
         }
     }
     Ok(lines)
+}
+
+/// The outputs through the bound alone.
+fn shown_outputs<F: Folder>(alloc: Global, folder: &mut F, place: &str) -> Result<String, Fail> {
+    let name = Name::read(alloc, "out")?;
+    let files = outputs(alloc, folder, &name, &Place::read(alloc, place)?);
+    shown_files(alloc, files)
+}
+
+/// A line for each path with its digest, or one for the fault.
+fn shown_digests(alloc: Global, prints: Result<Prints, TreeFault>) -> Result<String, Fail> {
+    match prints {
+        Ok(prints) => shown_prints(alloc, &prints),
+        Err(fault) => {
+            let number = fault.number();
+            Ok(format!(in alloc; "{number} {fault}\n")?)
+        }
+    }
 }
 
 #[test]
@@ -243,6 +262,283 @@ fn eight_mebibytes_are_read(rt: HostRuntime) -> Result<(), Fail> {
     assert_eq!(rt;
         shown_outputs(alloc, &mut folder, "out")?.as_str(),
         "13 too large out/a\n"
+    );
+    Ok(())
+}
+
+/// The place of each text.
+fn places(alloc: Global, texts: &[&str]) -> Result<Vec<Place>, Fail> {
+    let mut places = Vec::new(alloc);
+    for text in texts {
+        places.push(Place::read(alloc, text)?)?;
+    }
+    Ok(places)
+}
+
+/// The patterns, which stand between spaces.
+fn patterns(alloc: Global, texts: &str) -> Result<Vec<Pattern>, Fail> {
+    let mut patterns = Vec::new(alloc);
+    for text in texts.split_whitespace() {
+        patterns.push(Pattern::read(alloc, text)?)?;
+    }
+    Ok(patterns)
+}
+
+/// The files of a property `src` with these roots.
+fn shown_roots(alloc: Global, files: &[(&str, &[u8])], roots: &[&str]) -> Result<String, Fail> {
+    let mut folder = folder_of(alloc, files)?;
+    let roots = places(alloc, roots)?;
+    shown_property(alloc, &mut folder, Naming::Relative, roots.as_slice())
+}
+
+/// The files of a property `src` with no patterns, through the bound alone.
+fn shown_property<F: Folder>(
+    alloc: Global,
+    folder: &mut F,
+    naming: Naming,
+    roots: &[Place],
+) -> Result<String, Fail> {
+    let name = Name::read(alloc, "src")?;
+    let files = snapshot(alloc, folder, &name, naming, roots, &[], &[]);
+    shown_files(alloc, files)
+}
+
+#[test]
+fn roots_give_their_files(rt: HostRuntime) -> Result<(), Fail> {
+    let alloc = rt.alloc();
+    let files = [
+        ("m/a", b"1".as_slice()),
+        ("m/sub/b", b"12".as_slice()),
+        ("m-x", b"123".as_slice()),
+        ("n/a", b"1234".as_slice()),
+    ];
+    for (roots, shown) in [
+        (["m", "m"].as_slice(), "a 1\nsub/b 2\n"),
+        (&["m", "m/sub"], "a 1\nb 2\nsub/b 2\n"),
+        (&["m/sub/b"], "b 2\n"),
+        (&["m-x", "m/sub"], "b 2\nm-x 3\n"),
+        (&["m", "n"], "71 duplicate input src a\n"),
+        (&["none"], ""),
+    ] {
+        assert_eq!(rt; shown_roots(alloc, &files, roots)?.as_str(), shown);
+    }
+    Ok(())
+}
+
+#[test]
+fn a_folder_does_not_stand_where_a_file_does(rt: HostRuntime) -> Result<(), Fail> {
+    let alloc = rt.alloc();
+    let files = [
+        ("x/m", b"".as_slice()),
+        ("y/m-n", b"".as_slice()),
+        ("z/m/c", b"".as_slice()),
+        ("z/m/b", b"".as_slice()),
+    ];
+    assert_eq!(rt;
+        shown_roots(alloc, &files, &["x", "y", "z"])?.as_str(),
+        "71 duplicate input src m/b\n"
+    );
+    assert_eq!(rt;
+        shown_roots(alloc, &files, &["y", "z"])?.as_str(),
+        "m-n 0\nm/b 0\nm/c 0\n"
+    );
+    Ok(())
+}
+
+#[test]
+fn the_tools_own_folder_does_not_count(rt: HostRuntime) -> Result<(), Fail> {
+    let alloc = rt.alloc();
+    let files = [
+        (".gb/state/a", b"".as_slice()),
+        (".gbx/b", b"".as_slice()),
+        ("m/.gb/c", b"".as_slice()),
+    ];
+    assert_eq!(rt;
+        shown_roots(alloc, &files, &[".gb", ".gb/state", ".gbx", "m"])?.as_str(),
+        ".gb/c 0\nb 0\n"
+    );
+    Ok(())
+}
+
+/// The files beneath `m` that stand by their names.
+fn shown_names(alloc: Global, files: &[(&str, &[u8])]) -> Result<String, Fail> {
+    let mut folder = folder_of(alloc, files)?;
+    let roots = places(alloc, &["m"])?;
+    shown_property(alloc, &mut folder, Naming::NameOnly, roots.as_slice())
+}
+
+#[test]
+fn files_stand_by_their_names(rt: HostRuntime) -> Result<(), Fail> {
+    let alloc = rt.alloc();
+    assert_eq!(rt;
+        shown_names(
+            alloc,
+            &[("m/d/a", b"1".as_slice()), ("m/b", b"12".as_slice())]
+        )?
+        .as_str(),
+        "a 1\nb 2\n"
+    );
+    assert_eq!(rt;
+        shown_names(
+            alloc,
+            &[("m/d/a", b"1".as_slice()), ("m/a", b"12".as_slice())]
+        )?
+        .as_str(),
+        "71 duplicate input src a\n"
+    );
+    Ok(())
+}
+
+/// The files beneath `m` that the patterns let in, by their names.
+fn shown_let_in(alloc: Global, include: &str, exclude: &str) -> Result<String, Fail> {
+    let mut folder = folder_of(
+        alloc,
+        &[
+            ("m/a.txt", b"".as_slice()),
+            ("m/d/b.txt", b"".as_slice()),
+            ("m/d/c", b"".as_slice()),
+        ],
+    )?;
+    let roots = places(alloc, &["m"])?;
+    let include = patterns(alloc, include)?;
+    let exclude = patterns(alloc, exclude)?;
+    let name = Name::read(alloc, "src")?;
+    let files = snapshot(
+        alloc,
+        &mut folder,
+        &name,
+        Naming::NameOnly,
+        roots.as_slice(),
+        include.as_slice(),
+        exclude.as_slice(),
+    );
+    shown_files(alloc, files)
+}
+
+#[test]
+fn patterns_let_files_in(rt: HostRuntime) -> Result<(), Fail> {
+    let alloc = rt.alloc();
+    for (include, exclude, shown) in [
+        ("", "", "a.txt 0\nb.txt 0\nc 0\n"),
+        ("**/*.txt", "", "a.txt 0\nb.txt 0\n"),
+        ("d/", "", "b.txt 0\nc 0\n"),
+        ("*.txt d/c", "", "a.txt 0\nc 0\n"),
+        ("**/*.txt", "d/", "a.txt 0\n"),
+        ("", "d/b.txt", "a.txt 0\nc 0\n"),
+    ] {
+        assert_eq!(rt; shown_let_in(alloc, include, exclude)?.as_str(), shown);
+    }
+    Ok(())
+}
+
+/// So many bytes, which tell where they stand.
+fn bytes_of(alloc: Global, count: usize) -> Result<Vec<u8>, Fail> {
+    let mut bytes = Vec::with_capacity(alloc, count)?;
+    for index in 0..count {
+        bytes.push((index % 251) as u8)?;
+    }
+    Ok(bytes)
+}
+
+/// A folder with one file `m/a`.
+fn one_file(alloc: Global, bytes: &[u8]) -> Result<MemoryFolder, Fail> {
+    let mut folder = MemoryFolder::new(alloc);
+    folder.write(&Place::read(alloc, "m/a")?, bytes, u64::MAX)?;
+    Ok(folder)
+}
+
+/// The digests of the property with the root `m`, through the bound alone.
+fn property_digests<F: Folder>(alloc: Global, folder: &mut F) -> Result<String, Fail> {
+    let name = Name::read(alloc, "src")?;
+    let roots = places(alloc, &["m"])?;
+    let prints = prints_of(
+        alloc,
+        folder,
+        &name,
+        Naming::Relative,
+        roots.as_slice(),
+        &[],
+        &[],
+    );
+    shown_digests(alloc, prints)
+}
+
+/// The digests of the output at `m`, through the bound alone.
+fn output_digests<F: Folder>(alloc: Global, folder: &mut F) -> Result<String, Fail> {
+    let name = Name::read(alloc, "src")?;
+    let prints = output_prints(alloc, folder, &name, &Place::read(alloc, "m")?);
+    shown_digests(alloc, prints)
+}
+
+#[test]
+fn pieces_make_up_the_file(rt: HostRuntime) -> Result<(), Fail> {
+    let alloc = rt.alloc();
+    for (count, shown) in [
+        (
+            0,
+            "a e3b0c44298fc1c149afbf4c8996fb92427ae41e4649b934ca495991b7852b855\n",
+        ),
+        (
+            65535,
+            "a dda402a2c028f0cbbdbc5c6ebae965eed9c75f71236e7022b0386d3455d5ae2f\n",
+        ),
+        (
+            65536,
+            "a 4b640d85ab3ba30fd02c9fc9db4a8928f416322ad27022ea58a65aaee68a4df2\n",
+        ),
+        (
+            65537,
+            "a 237356e18b503616912abb8ffaed3a72591e397d4ac294c4637917d48a3f529d\n",
+        ),
+        (
+            131072,
+            "a feb1e4409d009e0ec502eaabe321f86b5197a881e9b765252ec8a75d6957596d\n",
+        ),
+    ] {
+        let bytes = bytes_of(alloc, count)?;
+        let mut folder = one_file(alloc, bytes.as_slice())?;
+        assert_eq!(rt; property_digests(alloc, &mut folder)?.as_str(), shown);
+        assert_eq!(rt; output_digests(alloc, &mut folder)?.as_str(), shown);
+    }
+    Ok(())
+}
+
+#[test]
+fn eight_mebibytes_are_digested(rt: HostRuntime) -> Result<(), Fail> {
+    let alloc = rt.alloc();
+    for (count, shown) in [
+        (
+            8 * 1024 * 1024,
+            "a bdf23837181f5808331800c1ae2b4f7d7a839536b10d58491471c50dde23833a\n",
+        ),
+        (8 * 1024 * 1024 + 1, "13 too large m/a\n"),
+    ] {
+        let bytes = bytes_of(alloc, count)?;
+        let mut folder = one_file(alloc, bytes.as_slice())?;
+        assert_eq!(rt; property_digests(alloc, &mut folder)?.as_str(), shown);
+        assert_eq!(rt; output_digests(alloc, &mut folder)?.as_str(), shown);
+    }
+    Ok(())
+}
+
+/// The property `m` of so many empty files.
+fn shown_many(alloc: Global, count: usize) -> Result<String, Fail> {
+    let mut folder = MemoryFolder::new(alloc);
+    for index in 0..count {
+        let place = format!(in alloc; "m/{index}")?;
+        folder.write(&Place::read(alloc, place.as_str())?, b"", 0)?;
+    }
+    let roots = places(alloc, &["m"])?;
+    shown_property(alloc, &mut folder, Naming::Relative, roots.as_slice())
+}
+
+#[test]
+fn many_files_are_read(rt: HostRuntime) -> Result<(), Fail> {
+    let alloc = rt.alloc();
+    assert_eq!(rt; shown_many(alloc, 65_536)?.as_str().lines().count(), 65_536);
+    assert_eq!(rt;
+        shown_many(alloc, 65_537)?.as_str(),
+        "72 too many files src\n"
     );
     Ok(())
 }

@@ -1,4 +1,4 @@
-use Rattle.std.proofs.Common.{◌≡◌, ◌≤◌, ◌++◌, List, ℕ, IsTrue, arith, length, sym, subst, ◌∙◌, ap, refl}
+use Rattle.std.proofs.Common.{◌≡◌, List, IsTrue, arith, sym, subst, ◌∙◌, ap, refl}
 use Rattle.std.specs.FinMap.Entries.{is_sorted}
 use Rattle.gb_action.specs.Files.{byte_order}
 use Rattle.gb_tree.specs.Prints.{digests_of}

@@ -1,4 +1,4 @@
-use Rattle.std.proofs.Common.{arith, lit<, ◌≡◌, ◌≤◌, ◌+◌, ℕ, length, false, true, List, [], ◌∷◌, ◌++◌, replicate, subst, Some, None, refl, sym, ap, ◌∙◌, drop, ◌&&◌}
+use Rattle.std.proofs.Common.{arith, lit<, ◌≤◌, length, false, true, [], ◌∷◌, ◌++◌, replicate, subst, Some, None, sym, ap, ◌∙◌, drop}
 use Rattle.std.proofs.lemmas.Iterator.Splits.{YieldsList-from_str_split}
 use Rattle.std.proofs.lemmas.Iterator.Consumers.{YieldsList-at, YieldsList-turn, YieldsList-end}
 use Rattle.std.proofs.lemmas.List.{at_drop_all, length_push, length-replicate}

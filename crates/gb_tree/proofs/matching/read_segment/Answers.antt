@@ -1,4 +1,4 @@
-use Rattle.std.proofs.Common.{arith, lit<, ◌≡◌, ◌<◌, ◌+◌, ◌++◌, ℕ, length, false, List, [], refl, sym, ap, ◌∙◌, drop, take, get_or, ◌||◌, ◌&&◌}
+use Rattle.std.proofs.Common.{arith, lit<, ◌≡◌, ◌++◌, sym, ap, ◌∙◌, drop, take, get_or, ◌&&◌}
 use Rattle.std.proofs.lemmas.Iterator.Splits.{YieldsList-from_str_split}
 use Rattle.std.proofs.lemmas.Iterator.Consumers.{YieldsList-at, YieldsList-turn, YieldsList-end}
 use Rattle.std.proofs.lemmas.List.{at_drop_all, length-set, length_push, take-append-drop}

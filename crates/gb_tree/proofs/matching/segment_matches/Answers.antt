@@ -1,4 +1,4 @@
-use Rattle.std.proofs.Common.{arith, ◌≡◌, ◌≤◌, ◌+◌, ℕ, length, false, true, List, [], ◌∷◌, ◌++◌, replicate, subst, Some, None, refl, sym, ap, ◌∙◌, drop, ◌&&◌}
+use Rattle.std.proofs.Common.{arith, ◌≤◌, length, false, true, [], ◌∷◌, ◌++◌, replicate, subst, Some, None, sym, ap, ◌∙◌, drop}
 use Rattle.std.proofs.lemmas.Iterator.{YieldsList-from_chars}
 use Rattle.std.proofs.lemmas.Iterator.Consumers.{YieldsList-turn, YieldsList-end}
 use Rattle.std.proofs.lemmas.List.{at_drop_all, length_push, length-replicate}

@@ -1,0 +1,30 @@
+#!/usr/bin/env bash
+# kinds.sh PROGRAM: times a built gb_bench on its jobs over kinds, each with N and 2N: what comes before the kind
+# is asked (times 0), and one asking, which is the rest of the time divided by the times it was asked.
+set -eu
+program=${1:?usage: kinds.sh PROGRAM}
+best() { # best ARGS..: the best of five runs, in us
+  local best= begin took
+  for _ in 1 2 3 4 5; do
+    begin=$(date +%s%N)
+    "$program" "$@"
+    took=$((($(date +%s%N) - begin) / 1000))
+    if [ -z "$best" ] || [ "$took" -lt "$best" ]; then best=$took; fi
+  done
+  echo "$best"
+}
+while read -r name count times; do
+  for count in "$count" $((2 * count)); do
+    before=$(best "$name" "$count" 0)
+    all=$(best "$name" "$count" "$times")
+    echo "$name $count: $before us before, $(((all - before) * 1000 / times)) ns to ask once"
+  done
+done <<'END'
+copy_full 10000 20
+copy_one 10000 100000
+sums_full 10000 20
+sums_one 10000 100000
+words_full 10000 1
+words_one 10000 1
+tokens 8388608 20
+END

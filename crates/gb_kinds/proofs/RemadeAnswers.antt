@@ -1,0 +1,141 @@
+-- The answers of kinds that know all the files that they make.
+use Rattle.std.proofs.Common.{◌≡◌, ℕ, Bool, true, false, ◌&&◌, ◌||◌, if◌then◌else◌, List, [], ◌∷◌, map, Ok, Option, Some, None, is_some, not, refl, sym, ap, subst, ◌∙◌, bytes_eq, IsTrue, T}
+use Rattle.std.proofs.lemmas.List.Folds.{list_all-append}
+use Rattle.std.specs.List.{filter, list_any}
+use Rattle.std.specs.Option.{option_map, option_or}
+use Rattle.std.specs.Cmp.Lexicographic.{bytes_decides}
+use Rattle.std.specs.FinMap.Entries.{is_sorted}
+use Rattle.gb_action.specs.Files.{byte_order, Tree, Trees, file_at, tree_at}
+use Rattle.gb_action.specs.Meanings.{Making}
+use Rattle.gb_action.specs.Outputs.{written_at, stands_at, left_at, is_named, is_removed, names_only}
+use Rattle.gb_action.specs.Replies.{Answers, CarriesOver, FollowsOn, made_for}
+use Rattle.gb_action.specs.Shapes.{source, target}
+use Rattle.gb_action.specs.declared.output.OutputFiles.{OutputFiles}
+use Rattle.gb_action.specs.declared.reply.Reply.{Reply}
+use Rattle.gb_action.specs.declared.reply.Written.{Written}
+use Rattle.gb_action.specs.declared.request.Request.{Request}
+use Rattle.gb_kinds.specs.Builtin.{prints_changes}
+use Rattle.gb_kinds.specs.ByFile.{file_of, holds, where_new}
+use Rattle.gb_kinds.specs.Remade.{as_made, outdated_of, renewed, standing, IsRemade}
+use Rattle.gb_kinds.proofs.ByFileAnswers.{all_declared, both, removed_there, same_ok, written_there, is_output}
+use Rattle.gb_kinds.proofs.RemadeLaw.{gone, leaves, names_differences, new_at, stood_at, wrote}
+use Rattle.gb_kinds.proofs.Writing.{written_at-by_file}
+
+true_T : (b : Bool) → IsTrue b → T b
+true_T b e = subst T (sym e) tt
+
+-- ---- The outputs that are named
+
+module _ (outputs : List OutputFiles) (declared : list_any (λ (output : OutputFiles). bytes_eq output.name target) outputs ≡ true) where
+  one_there : (path : List ℕ) (stood : Option (List ℕ)) (bytes : List ℕ) → written_there outputs declared (where_new path stood bytes) ≡ true
+  one_there path stood bytes =
+      elim (holds stood bytes) as (λ b. written_there outputs declared (if b then [] else file_of path bytes ∷ []) ≡ true) [
+        | true ↦ refl
+        | false ↦ both outputs declared (is_output outputs declared target) true declared refl
+      ]
+
+  renewed_there : (made : Tree) → written_there outputs declared (renewed outputs made) ≡ true
+  renewed_there [] = refl
+  renewed_there (file ∷ made) =
+      list_all-append (λ (written : Written). is_output outputs declared written.output) (where_new file.0 (stands_at outputs target file.0) file.1) (renewed outputs made)
+      ∙ both outputs declared _ _ (one_there file.0 (stands_at outputs target file.0) file.1) (renewed_there made)
+
+  outdated_there : (made files : Tree) → removed_there outputs declared (outdated_of made files) ≡ true
+  outdated_there made [] = refl
+  outdated_there made (file ∷ files) = by (not (is_some (file_at made file.0))) (outdated_there made files)
+    where
+      by : (b : Bool) → removed_there outputs declared (outdated_of made files) ≡ true
+          → removed_there outputs declared (map (λ (f : List ℕ × List ℕ). record { output = target; path = f.0 }) (if b then file ∷ filter (λ (f : List ℕ × List ℕ). not (is_some (file_at made f.0))) files else filter (λ (f : List ℕ × List ℕ). not (is_some (file_at made f.0))) files)) ≡ true
+      by true later = both outputs declared _ _ declared later
+      by false later = later
+
+-- ---- Answers
+
+module _ (make : Tree → Tree) (sorted : (tree : Tree) → IsTrue (is_sorted byte_order (make tree))) where
+  abbrev makes : Making
+  makes arguments values trees = Ok (as_made (make (tree_at trees source)))
+
+  module _ (request : Request) (reply : Reply) (remade : Tree) (is_remade : IsRemade remade request reply)
+      (made_in_full : request.changes.incremental ≡ false → remade ≡ make (tree_at request.files source))
+      (made_of_changes : request.changes.incremental ≡ true → (old : Trees) → FollowsOn makes request old → remade ≡ make (tree_at request.files source)) where
+    abbrev now : Tree
+    now = make (tree_at request.files source)
+
+    made_at : (tree : Tree) (output path : List ℕ) → written_at (as_made (make tree)) output path ≡ (if bytes_eq target output then file_at (make tree) path else None)
+    made_at tree output path = written_at-by_file (λ bytes. bytes) output path (make tree) (sorted tree) ∙ ap (λ o. if bytes_eq target output then o else None) (same (file_at (make tree) path))
+      where
+        same : (o : Option (List ℕ)) → option_map (λ bytes. bytes) o ≡ o
+        same None = refl
+        same (Some x) = refl
+
+    module _ (changed : request.changes.incremental ≡ true) (old : Trees) (follows : FollowsOn makes request old) (after : List Written) (makes_after : made_for makes request ≡ Ok after) (output path : List ℕ) where
+      is : IsRemade now request reply
+      is = subst (λ (made : Tree). IsRemade made request reply) (made_of_changes changed old follows) is_remade
+
+      abbrev stood : Option (List ℕ)
+      stood = stands_at request.outputs target path
+
+      same : bytes_eq target output ≡ true → stands_at request.outputs output path ≡ stood
+      same e = ap (λ name. stands_at request.outputs name path) (sym ((bytes_decides target output).0 e))
+
+      alone : bytes_eq target output ≡ false → stands_at request.outputs output path ≡ None
+      alone e =
+          follows.stands output path
+          ∙ ap (λ files. written_at files output path) (sym (same_ok follows.was_made))
+          ∙ made_at (tree_at old source) output path
+          ∙ ap (λ b. if b then file_at (make (tree_at old source)) path else None) e
+
+      written : written_at reply.writes output path ≡ (if bytes_eq target output then new_at stood (file_at now path) else None)
+      written = ap (λ writes. written_at writes output path) (is.writes changed) ∙ wrote request.outputs output path now (true_T _ (sorted (tree_at request.files source)))
+
+      removed : is_removed reply.removes output path ≡ (bytes_eq target output && (is_some stood && not (is_some (file_at now path))))
+      removed =
+          ap (λ removes. is_removed removes output path) (is.removes changed)
+          ∙ gone request.outputs output path now (standing request.outputs)
+          ∙ ap (λ o. bytes_eq target output && (is_some o && not (is_some (file_at now path)))) (sym (stood_at request.outputs output path))
+
+      after_is : (if bytes_eq target output then file_at now path else None) ≡ written_at after output path
+      after_is = sym (made_at (tree_at request.files source) output path) ∙ ap (λ files. written_at files output path) (same_ok makes_after)
+
+      carried : left_at reply request.outputs output path ≡ written_at after output path
+      carried =
+          ap (λ w. option_or w (if is_removed reply.removes output path then None else stands_at request.outputs output path)) written
+          ∙ ap (λ b. option_or (if bytes_eq target output then new_at stood (file_at now path) else None) (if b then None else stands_at request.outputs output path)) removed
+          ∙ leaves (bytes_eq target output) stood (stands_at request.outputs output path) (file_at now path) same alone
+          ∙ after_is
+
+      frugal : is_named reply output path ≡ true → stands_at request.outputs output path ≡ written_at after output path → ⊥
+      frugal named equal =
+          names_differences (bytes_eq target output) stood (stands_at request.outputs output path) (file_at now path) same alone
+          (subst (λ b. (is_some (if bytes_eq target output then new_at stood (file_at now path) else None) || b) ≡ true) removed (subst (λ w. (is_some w || is_removed reply.removes output path) ≡ true) written named))
+          (equal ∙ sym after_is)
+
+    carries_over : request.changes.incremental ≡ true → CarriesOver makes request reply
+    carries_over changed = record {
+      carried = λ old follows after makes_after output path. carried changed old follows after makes_after output path;
+      frugal = λ old follows after makes_after output path named equal. frugal changed old follows after makes_after output path named equal;
+    }
+
+    named : list_any (λ (output : OutputFiles). bytes_eq output.name target) request.outputs ≡ true → names_only request.outputs reply ≡ true
+    named declared = by request.changes.incremental refl
+      where
+        by : (b : Bool) → request.changes.incremental ≡ b → names_only request.outputs reply ≡ true
+        by true e =
+            both request.outputs declared _ _
+            (subst (λ writes. written_there request.outputs declared writes ≡ true) (sym (is_remade.writes e)) (renewed_there request.outputs declared remade))
+            (subst (λ removes. removed_there request.outputs declared removes ≡ true) (sym (is_remade.removes e)) (outdated_there request.outputs declared remade (standing request.outputs)))
+        by false e =
+            both request.outputs declared _ _
+            (subst (λ writes. written_there request.outputs declared writes ≡ true) (sym (is_remade.in_full e)) (all_declared request.outputs declared (λ bytes. bytes) remade))
+            (subst (λ removes. removed_there request.outputs declared removes ≡ true) (sym (is_remade.keeps e)) refl)
+
+    pub remade-answers : list_any (λ (output : OutputFiles). bytes_eq output.name target) request.outputs ≡ true → Answers makes prints_changes request (Ok reply)
+    remade-answers declared = record {
+      succeeds = λ r e. refl;
+      removes_nothing = λ r e full. ap (λ x. x.removes) (sym (same_ok e)) ∙ is_remade.keeps full;
+      in_full = λ r e full. ap Ok (ap as_made (sym (made_in_full full)) ∙ sym (is_remade.in_full full) ∙ ap (λ x. x.writes) (same_ok e));
+      by_changes = λ r e changed. subst (CarriesOver makes request) (same_ok e) (carries_over changed);
+      declared = λ r e. subst (λ x. names_only request.outputs x ≡ true) (same_ok e) (named declared);
+      prints_lines = λ r e. ap (λ x. x.lines) (sym (same_ok e)) ∙ is_remade.lines;
+      failed = λ text e. absurd cc;
+    }

@@ -1,0 +1,8 @@
+use Rattle.std.proofs.Common.{◌≡◌, rules}
+use Rattle.gb_kinds.proofs.FunctionNamed.{only_memory}
+use Rattle.gb_kinds.proofs.function_table.add_flat.Goals as goal
+
+pub returns-clause-err : goal.returns-clause-err
+returns-clause-err g c =
+    let is : c.in_ok-name.name ≡ c.args.name.now = search rules in
+    only_memory (λ f. f.kind) (λ f. f.kind) (λ f. f.kind) (λ f. f.kind) c.in_ok-name.name c.args.name.now c.args.table.now c.add_flat.result c.requires.other is c.add_flat.ensures.duplicate.0

@@ -1,0 +1,128 @@
+-- Lists of operands, the first of which are known.
+use Rattle.std.proofs.Common.{◌≡◌, ℕ, zero, suc, ◌<◌, ◌+◌, List, [], ◌∷◌, ◌++◌, length, refl, ap, ◌∙◌, arith, inl, inr, Bool, false, IsTrue}
+use Rattle.std.specs.Borrow.{Bor}
+use Rattle.std.specs.Option.{is_some, option_copied}
+use Rattle.std.proofs.lemmas.Bool.{cases_lt}
+use Rattle.std.specs.Prelude.{Option, Some, None, codes, slice_index}
+use Rattle.gb_core.specs.declared.value.Value.TheVariants as values
+use Rattle.gb_provider.specs.declared.expression.Outcome.{Outcome}
+use Rattle.gb_provider.specs.declared.expression.Outcome.TheVariants.{Given, Absent, Refused}
+use Rattle.gb_provider.specs.declared.produced.Produced.{Produced}
+use Rattle.gb_provider.specs.declared.produced.Produced.TheVariants as produced
+use Rattle.gb_provider.specs.declared.reading.Reading.TheVariants.{Waits}
+use Rattle.gb_provider.specs.Produced.{carry_all, on_tasks, with_tasks}
+use Rattle.gb_provider.specs.Rounds.{Rule, Answers, Reads, reading}
+use Rattle.gb_provider.specs.Rules.{list_rule, on_text, on_value, refused}
+use Rattle.gb_provider.specs.declared.fault.Refusal.TheVariants.{WrongValue}
+use Rattle.gb_provider.specs.Search.{AreBefore, ReadsAfter, IsPast, has_tasks, is_text}
+use Rattle.gb_provider.proofs.RoundsLemmas.{after_is}
+
+module _ {A : Type 0} (f : ℕ → Option A) (operand : ℕ) where
+  no_reads : (n : ℕ) (a : A) → ReadsAfter f operand n (Answers a) → ⊥
+  no_reads zero a reads = reads
+  no_reads (suc n) a reads = reads
+
+  -- a rule waits for an operand that it reads and that is not known
+  pub reads_wait : (n : ℕ) (rule : Rule A) → ReadsAfter f operand n rule → f operand ≡ None → reading f rule ≡ Waits operand
+  reads_wait n (Answers a) reads none = absurd (no_reads n a reads)
+  reads_wait zero (Reads next_operand next) reads none =
+      after_is next_operand (λ a. reading f (next a)) (f next_operand) None (ap f reads ∙ none) ∙ ap Waits reads
+  reads_wait (suc n) (Reads next_operand next) reads none =
+      after_is next_operand (λ a. reading f (next a)) (f next_operand) (Some reads.0) reads.1 ∙ reads_wait n (next reads.0) reads.2 none
+
+  -- and the operands before that one need no other look
+  pub reads_past : (n : ℕ) (rule : Rule A) → ReadsAfter f operand n rule → IsPast f n rule
+  reads_past zero rule reads = tt
+  reads_past (suc n) rule reads = (operand, reads)
+
+pub none_before : (passes : ℕ → Bool) (operands : List ℕ) → AreBefore passes operands 0
+none_before passes operands i less below = absurd (omega arith)
+
+one_more_before : (passes : ℕ → Bool) (operand : ℕ) (operands : List ℕ) (n : ℕ) → IsTrue (passes operand) → AreBefore passes operands n → AreBefore passes (operand ∷ operands) (suc n)
+one_more_before passes operand operands n first rest zero less below = first
+one_more_before passes operand operands n first rest (suc i) less below = rest i (omega arith) (omega arith)
+
+rest_before : (passes : ℕ → Bool) (operand : ℕ) (operands : List ℕ) (n : ℕ) → AreBefore passes (operand ∷ operands) (suc n) → AreBefore passes operands n
+rest_before passes operand operands n all i less below = all (suc i) (omega arith) (omega arith)
+
+module _ (f : ℕ → Option Outcome) where
+  text_of : (o : Option Outcome) → IsTrue (is_text o) → (text : List ℕ) × (o ≡ Some (Given (values.Text text)))
+  text_of (Some (Given (values.Text text))) is = (text, refl)
+  text_of (Some (Given (values.Flag flag))) is = cc
+  text_of (Some (Given (values.List texts))) is = cc
+  text_of (Some (Given (values.Place place))) is = cc
+  text_of (Some (Given (values.Task task))) is = cc
+  text_of (Some Absent) is = cc
+  text_of (Some (Refused fault)) is = cc
+  text_of None is = cc
+
+  -- behind elements that are texts a list reads the next
+  pub texts_read : (operands : List ℕ) (texts : List (List ℕ)) (n : ℕ) → AreBefore (λ o. is_text (f o)) operands n → n < length operands → ReadsAfter f (slice_index operands n) n (list_rule texts operands)
+  texts_read [] texts n all below = absurd (omega arith)
+  texts_read (operand ∷ operands) texts zero all below = refl
+  texts_read (operand ∷ operands) texts (suc n) all below =
+      let first = text_of (f operand) (all 0 (omega arith) (omega arith)) in
+      (Given (values.Text first.0), first.1, texts_read operands (texts ++ first.0 ∷ []) n (rest_before (λ o. is_text (f o)) operand operands n all) (omega arith))
+
+  reads_texts : (operands : List ℕ) (texts : List (List ℕ)) (operand n : ℕ) → ReadsAfter f operand n (list_rule texts operands) → AreBefore (λ o. is_text (f o)) operands n
+  reads_texts [] texts operand n reads = absurd (no_reads f operand n (Given (values.List texts)) reads)
+  reads_texts (first ∷ operands) texts operand zero reads = none_before (λ o. is_text (f o)) (first ∷ operands)
+  reads_texts (first ∷ operands) texts operand (suc n) reads =
+      (elim reads.0 as (λ a. f first ≡ Some a → ReadsAfter f operand n (on_value (on_text (λ text. list_rule (texts ++ text ∷ []) operands)) a) → AreBefore (λ o. is_text (f o)) (first ∷ operands) (suc n)) [
+        | Given value ↦
+            elim value as (λ v. f first ≡ Some (Given v) → ReadsAfter f operand n (on_text (λ text. list_rule (texts ++ text ∷ []) operands) v) → AreBefore (λ o. is_text (f o)) (first ∷ operands) (suc n)) [
+              | values.Text text ↦ λ is rest. one_more_before (λ o. is_text (f o)) first operands n (ap is_text is) (reads_texts operands (texts ++ text ∷ []) operand n rest)
+              | values.Flag flag ↦ λ is rest. absurd (no_reads f operand n (refused (codes "list") WrongValue) rest)
+              | values.List more ↦ λ is rest. absurd (no_reads f operand n (refused (codes "list") WrongValue) rest)
+              | values.Place place ↦ λ is rest. absurd (no_reads f operand n (refused (codes "list") WrongValue) rest)
+              | values.Task task ↦ λ is rest. absurd (no_reads f operand n (refused (codes "list") WrongValue) rest)
+            ]
+        | Absent ↦ λ is rest. absurd (no_reads f operand n Absent rest)
+        | Refused fault ↦ λ is rest. absurd (no_reads f operand n (Refused fault) rest)
+      ]) reads.1 reads.2
+
+  -- the elements that need no other look are texts
+  pub past_texts : (operands : List ℕ) (n : ℕ) → IsPast f n (list_rule [] operands) → AreBefore (λ o. is_text (f o)) operands n
+  past_texts operands zero past = none_before (λ o. is_text (f o)) operands
+  past_texts operands (suc n) past = reads_texts operands [] past.0 (suc n) past.1
+
+module _ (f : ℕ → Option Produced) where
+  tasks_of : (o : Option Produced) → IsTrue (has_tasks o) → (tasks : List (List ℕ)) × (o ≡ Some (produced.Tasks tasks))
+  tasks_of (Some (produced.Tasks tasks)) is = (tasks, refl)
+  tasks_of (Some (produced.Refused fault)) is = cc
+  tasks_of (Some (produced.Endless chooser)) is = cc
+  tasks_of None is = cc
+
+  -- behind operands whose tasks are known the next is read
+  pub tasks_read : (operands : List ℕ) (tasks : List (List ℕ)) (n : ℕ) → AreBefore (λ o. has_tasks (f o)) operands n → n < length operands → ReadsAfter f (slice_index operands n) n (carry_all tasks operands)
+  tasks_read [] tasks n all below = absurd (omega arith)
+  tasks_read (operand ∷ operands) tasks zero all below = refl
+  tasks_read (operand ∷ operands) tasks (suc n) all below =
+      let first = tasks_of (f operand) (all 0 (omega arith) (omega arith)) in
+      (produced.Tasks first.0, first.1, tasks_read operands (with_tasks tasks first.0) n (rest_before (λ o. has_tasks (f o)) operand operands n all) (omega arith))
+
+  reads_tasks : (operands : List ℕ) (tasks : List (List ℕ)) (operand n : ℕ) → ReadsAfter f operand n (carry_all tasks operands) → AreBefore (λ o. has_tasks (f o)) operands n
+  reads_tasks [] tasks operand n reads = absurd (no_reads f operand n (produced.Tasks tasks) reads)
+  reads_tasks (first ∷ operands) tasks operand zero reads = none_before (λ o. has_tasks (f o)) (first ∷ operands)
+  reads_tasks (first ∷ operands) tasks operand (suc n) reads =
+      (elim reads.0 as (λ a. f first ≡ Some a → ReadsAfter f operand n (on_tasks (λ more. carry_all (with_tasks tasks more) operands) a) → AreBefore (λ o. has_tasks (f o)) (first ∷ operands) (suc n)) [
+        | produced.Tasks more ↦ λ is rest. one_more_before (λ o. has_tasks (f o)) first operands n (ap has_tasks is) (reads_tasks operands (with_tasks tasks more) operand n rest)
+        | produced.Refused fault ↦ λ is rest. absurd (no_reads f operand n (produced.Refused fault) rest)
+        | produced.Endless chooser ↦ λ is rest. absurd (no_reads f operand n (produced.Endless chooser) rest)
+      ]) reads.1 reads.2
+
+  pub past_tasks : (operands : List ℕ) (n : ℕ) → IsPast f n (carry_all [] operands) → AreBefore (λ o. has_tasks (f o)) operands n
+  past_tasks operands zero past = none_before (λ o. has_tasks (f o)) operands
+  past_tasks operands (suc n) past = reads_tasks operands [] past.0 (suc n) past.1
+
+-- one more operand that passes
+pub before_grown : (passes : ℕ → Bool) (operands : List ℕ) (n m : ℕ) → m ≡ n + 1 → AreBefore passes operands n → IsTrue (passes (slice_index operands n)) → AreBefore passes operands m
+before_grown passes operands n m next all last i less below =
+    elim (cases_lt i n) [
+      | inl old ↦ all i old below
+      | inr past ↦ let same : i ≡ n = omega arith in rw same last
+    ]
+
+pub none_copied : {A : Type 0} (o : Option (Bor A)) → is_some o ≡ false → option_copied o ≡ None
+none_copied None none = refl
+none_copied (Some a) none = cc

@@ -1,0 +1,9 @@
+use Rattle.std.proofs.Common.{◌-◌, length}
+use Rattle.gb_provider.specs.Search.{AreBefore, has_tasks, known}
+use Rattle.gb_provider.proofs.carriers.past_tasks.Given as goal
+
+abbrev pub invariant-loop-at : goal.invariant-loop-at
+invariant-loop-at l = AreBefore (λ operand. has_tasks (known l.states operand)) l.operands l.at
+
+abbrev pub decreases-loop-at : goal.decreases-loop-at
+decreases-loop-at l = length l.operands - l.at

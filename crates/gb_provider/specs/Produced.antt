@@ -1,0 +1,133 @@
+-- Which tasks produce what an expression gives.
+use Rattle.std.specs.Prelude.{◌≡◌, ◌⊎◌, ℕ, List, [], ◌∷◌, Option, Some, None, Result, Ok, Err, map}
+use Rattle.std.specs.BTreeSet.{insert_key}
+use Rattle.gb_core.specs.declared.value.Value.{Value}
+use Rattle.gb_core.specs.declared.value.Value.TheVariants as values
+use Rattle.gb_provider.specs.declared.fault.Chosen.{Chosen}
+use Rattle.gb_provider.specs.declared.fault.Refusal.{Refusal}
+use Rattle.gb_provider.specs.declared.fault.ValueFault.TheVariants as faults
+use Rattle.gb_provider.specs.declared.fault.ProviderFault.{ProviderFault}
+use Rattle.gb_provider.specs.declared.fault.ProviderFault.TheVariants as providers
+use Rattle.gb_provider.specs.declared.expression.Setting.{Setting}
+use Rattle.gb_provider.specs.declared.expression.Setting.TheVariants.{Held, Followed}
+use Rattle.gb_provider.specs.declared.expression.Expression.{Expression}
+use Rattle.gb_provider.specs.declared.expression.Expression.TheVariants.{Constant, OfProperty, OfOutput, Listed, Mapped, FlatMapped, Zipped, OrElse}
+use Rattle.gb_provider.specs.declared.expression.Outcome.{Outcome}
+use Rattle.gb_provider.specs.declared.expression.Outcome.TheVariants as outcomes
+use Rattle.gb_provider.specs.declared.produced.Produced.{Produced}
+use Rattle.gb_provider.specs.declared.produced.Produced.TheVariants.{Tasks, Refused, Endless}
+use Rattle.gb_provider.specs.Answers.{IsFault, value_of}
+use Rattle.gb_provider.specs.Called.{Called}
+use Rattle.gb_provider.specs.Circle.{IsCircle}
+use Rattle.gb_provider.specs.Meanings.{Meanings, meaning_of}
+use Rattle.gb_provider.specs.Names.{IsFromLeast, names_on}
+use Rattle.gb_provider.specs.Remembered.{AreWithin, IsRemembered}
+use Rattle.gb_provider.specs.Rounds.{Rule, Answers, Reads, answer}
+use Rattle.gb_provider.specs.Rules.{rules}
+use Rattle.gb_provider.specs.declared.reading.State.{State}
+use Rattle.gb_provider.specs.Table.{byte_order}
+
+-- tasks in the order of their paths by bytes, with these, each once
+abbrev pub with_tasks : List (List ℕ) → List (List ℕ) → List (List ℕ)
+with_tasks tasks [] = tasks
+with_tasks tasks (task ∷ more) = with_tasks (insert_key byte_order tasks task) more
+
+-- a value that is a task is produced by it, and another by none
+abbrev pub tasks_of : Value → List (List ℕ)
+tasks_of (values.Text text) = []
+tasks_of (values.Flag flag) = []
+tasks_of (values.List texts) = []
+tasks_of (values.Place place) = []
+tasks_of (values.Task task) = task ∷ []
+
+-- those of another expression
+abbrev pub carry : ℕ → Rule Produced
+carry operand = Reads operand Answers
+
+-- what follows where the operand has tasks; else the operand is the answer
+abbrev pub on_tasks : (List (List ℕ) → Rule Produced) → Produced → Rule Produced
+on_tasks go_on (Tasks tasks) = go_on tasks
+on_tasks go_on (Refused fault) = Answers (Refused fault)
+on_tasks go_on (Endless chooser) = Answers (Endless chooser)
+
+-- those of all operands, beside those already there
+abbrev pub carry_all : List (List ℕ) → List ℕ → Rule Produced
+carry_all tasks [] = Answers (Tasks tasks)
+carry_all tasks (operand ∷ operands) = Reads operand (on_tasks (λ more. carry_all (with_tasks tasks more) operands))
+
+-- A property: those of what it is set to, else of its convention, else none.
+abbrev pub carry_property : Option Setting → Option ℕ → Rule Produced
+carry_property (Some (Held value)) convention = Answers (Tasks (tasks_of value))
+carry_property (Some (Followed source)) convention = carry source
+carry_property None (Some source) = carry source
+carry_property None None = Answers (Tasks [])
+
+-- `orElse`: those of the side that the value of the left takes
+abbrev pub carry_side : ℕ → ℕ → Option Outcome → Rule Produced
+carry_side left right (Some (outcomes.Given value)) = carry left
+carry_side left right (Some outcomes.Absent) = carry right
+carry_side left right (Some (outcomes.Refused fault)) = Answers (Refused fault)
+carry_side left right None = Answers (Endless left)
+
+-- the task of the chosen output; none where none is chosen
+abbrev pub chosen_tasks : List ℕ → Result (Option Chosen) Refusal → Produced
+chosen_tasks function (Ok (Some chosen)) = Tasks (chosen.task ∷ [])
+chosen_tasks function (Ok None) = Tasks []
+chosen_tasks function (Err refusal) = Refused (faults.Refused function refusal)
+
+module _ {M F Z S : Type 0} (meanings : Meanings M F Z S) where
+  -- `flatMap`: the task of the output that the value of the source chooses
+  abbrev pub choose_tasks : ℕ → Called F → Option Outcome → Produced
+  choose_tasks source call (Some (outcomes.Given value)) = chosen_tasks call.name (meaning_of meanings.flat_map call.function value call.arguments)
+  choose_tasks source call (Some outcomes.Absent) = Tasks []
+  choose_tasks source call (Some (outcomes.Refused fault)) = Refused fault
+  choose_tasks source call None = Endless source
+
+  module _ (nodes : List (Expression M F Z)) where
+    -- From which expressions the tasks of one come. Values are read only where they choose.
+    abbrev pub carrier : Expression M F Z → Rule Produced
+    carrier (Constant value) = Answers (Tasks (tasks_of value))
+    carrier (OfProperty property) = carry_property property.setting property.convention
+    carrier (OfOutput output) = Answers (Tasks (output.chosen.task ∷ []))
+    carrier (Listed operands) = carry_all [] operands
+    carrier (Mapped source call) = carry source
+    carrier (FlatMapped source call) = Answers (choose_tasks source call (value_of meanings nodes source))
+    carrier (Zipped left right call) = carry_all [] (left ∷ right ∷ [])
+    carrier (OrElse left right) = carry_side left right (value_of meanings nodes left)
+
+    abbrev pub carriers : List (Rule Produced)
+    carriers = map carrier nodes
+
+    module _ (entry : ℕ) where
+      -- The tasks that produce what an expression gives.
+      abbrev pub produced_by : Option Produced
+      produced_by = answer carriers entry
+
+      -- the expression has them from itself, or from one that is chosen by a value without end
+      abbrev pub IsEndless : List (List ℕ) → Type 0
+      IsEndless names =
+          ((produced_by ≡ None) × ((circle : List ℕ) × IsCircle carriers entry circle × IsFromLeast (names_on nodes circle) names))
+          ⊎ ((chooser : ℕ) × (produced_by ≡ Some (Endless chooser)) × IsFault meanings nodes chooser (providers.Circular names))
+
+      -- `producers`: the tasks, or the fault of a value that has to choose
+      abbrev pub AreProducers : Result (List (List ℕ)) ProviderFault → Type 0
+      AreProducers (Ok tasks) = produced_by ≡ Some (Tasks tasks)
+      AreProducers (Err (providers.Circular names)) = IsEndless names
+      AreProducers (Err (providers.Step fault)) = ⊥
+      AreProducers (Err providers.NoValue) = ⊥
+      AreProducers (Err (providers.Value fault)) = produced_by ≡ Some (Refused fault)
+      AreProducers (Err providers.OutOfMemory) = Unit {0}
+
+-- how it is told that the value of an expression never comes
+abbrev pub IsEndlessTold : {M F Z S : Type 0} → Meanings M F Z S → List (Expression M F Z) → ℕ → ProviderFault → Type 0
+IsEndlessTold meanings nodes chooser (providers.Circular names) = IsFault meanings nodes chooser (providers.Circular names)
+IsEndlessTold meanings nodes chooser (providers.Step fault) = ⊥
+IsEndlessTold meanings nodes chooser providers.NoValue = ⊥
+IsEndlessTold meanings nodes chooser (providers.Value fault) = ⊥
+IsEndlessTold meanings nodes chooser providers.OutOfMemory = Unit {0}
+
+-- what providers hold: operands that are expressions of the table, and answers that are right
+pub record AreKept {M F Z S : Type 0} (meanings : Meanings M F Z S) (nodes : List (Expression M F Z)) (known_values : List (State Outcome)) (known_producers : List (State Produced)) : Type 0 where
+  pub within : AreWithin nodes
+  pub values : IsRemembered (rules meanings nodes) known_values
+  pub producers : IsRemembered (carriers meanings nodes) known_producers

@@ -1,0 +1,305 @@
+//! Where the tasks of expressions come from.
+ghost use Rattle.std.specs.Prelude.{◌≡◌, ◌<◌, [], ◌∷◌, length, IfOk, All};
+ghost use Rattle.gb_provider.specs.Answers.{value_of};
+ghost use Rattle.gb_provider.specs.Meanings.{meaning_of};
+ghost use Rattle.gb_provider.specs.Produced.{carry, carry_all, carry_property, carry_side, carrier, choose_tasks, chosen_tasks, tasks_of};
+ghost use Rattle.gb_provider.specs.Rounds.{reading};
+ghost use Rattle.gb_provider.specs.Rules.{OperandsWithin, PlaceWithin, SettingWithin};
+ghost use Rattle.gb_provider.specs.Search.{AreBefore, IsPast, has_tasks, known, WaitsWithin};
+
+use crate::evaluate::{known_at, refused_by};
+use crate::expression::{Call, Expression, Outcome, Property, Setting};
+use crate::expressions::Outputs;
+use crate::fault::{Chosen, TransformFault};
+use crate::produced::{Produced, TaskPaths};
+use crate::reading::{Look, Reading, State};
+use crate::recall::recall_outcome;
+use crate::search::Entries;
+use crate::transforms::Transforms;
+use gb_core::path::TaskPath;
+use gb_core::value::Value;
+use std::alloc::{AllocError, Global};
+use std::marker::Model;
+
+// One task alone.
+fn one_task(alloc: Global, task: &TaskPath) -> Result<Produced, AllocError>
+    ensures { IfOk result (λ found. found ≡ Produced.Tasks (task.now ∷ [])) }
+{
+    let mut tasks = TaskPaths::new(alloc);
+    tasks.insert(task.copy()?)?;
+    Ok(Produced::Tasks(tasks))
+}
+
+fn tasks_of(alloc: Global, value: &Value) -> Result<Produced, AllocError>
+    ensures { IfOk result (λ found. found ≡ Produced.Tasks (tasks_of value.now)) }
+{
+    match value {
+        Value::Task(task) => one_task(alloc, task),
+        _ => Ok(Produced::Tasks(TaskPaths::new(alloc))),
+    }
+}
+
+// Those of another expression.
+fn carry(
+    alloc: Global,
+    states: &[State<Produced>],
+    operand: usize,
+) -> Result<Reading<Produced>, AllocError>
+    requires { operand < length states.now }
+    ensures reads { IfOk result (λ found. found ≡ reading (known states.now) (carry operand)) }
+    ensures within { IfOk result (λ found. WaitsWithin (length states.now) found) }
+{
+    match known_at(states, operand) {
+        None => Ok(Reading::Waits(operand)),
+        Some(produced) => Ok(Reading::Settles(produced.copy(alloc)?)),
+    }
+}
+
+fn carry_all(
+    alloc: Global,
+    states: &[State<Produced>],
+    operands: &[usize],
+) -> Result<Reading<Produced>, AllocError>
+    requires { All (λ operand. operand < length states.now) operands.now }
+    ensures reads { IfOk result (λ found. found ≡ reading (known states.now) (carry_all [] operands.now)) }
+    ensures within { IfOk result (λ found. WaitsWithin (length states.now) found) }
+{
+    let mut tasks = TaskPaths::new(alloc);
+    for operand in operands {
+        match known_at(states, *operand) {
+            None => return Ok(Reading::Waits(*operand)),
+            Some(Produced::Tasks(more)) => tasks.extend(more)?,
+            Some(other) => return Ok(Reading::Settles(other.copy(alloc)?)),
+        }
+    }
+    Ok(Reading::Settles(Produced::Tasks(tasks)))
+}
+
+// Whether the tasks of an operand are known.
+fn has_tasks(states: &[State<Produced>], operand: usize) -> bool
+    requires { operand < length states.now }
+    ensures { result ≡ has_tasks (known states.now operand) }
+{
+    match known_at(states, operand) {
+        Some(Produced::Tasks(_)) => true,
+        _ => false,
+    }
+}
+
+// The first operand from here on whose tasks are not known.
+fn past_tasks(states: &[State<Produced>], operands: &[usize], from: usize) -> usize
+    requires operands { All (λ operand. operand < length states.now) operands.now }
+    requires before { AreBefore (λ operand. has_tasks (known states.now operand)) operands.now from }
+    ensures { AreBefore (λ operand. has_tasks (known states.now operand)) operands.now result }
+{
+    let mut at = from;
+    while at < operands.len() && has_tasks(states, operands[at]) {
+        at += 1;
+    }
+    at
+}
+
+// One look at operands, the tasks of whose first ones are known.
+fn look_all(
+    alloc: Global,
+    states: &[State<Produced>],
+    operands: &[usize],
+    past: usize,
+) -> Result<Look<Produced>, AllocError>
+    requires operands { All (λ operand. operand < length states.now) operands.now }
+    requires past { IsPast (known states.now) past (carry_all [] operands.now) }
+    ensures reads { IfOk result (λ found. found.reading ≡ reading (known states.now) (carry_all [] operands.now)) }
+    ensures within { IfOk result (λ found. WaitsWithin (length states.now) found.reading) }
+    ensures past { IfOk result (λ found. IsPast (known states.now) found.past (carry_all [] operands.now)) }
+{
+    let at = past_tasks(states, operands, past);
+    if at < operands.len() {
+        let operand = operands[at];
+        if known_at(states, operand).is_none() {
+            let reading = Reading::Waits(operand);
+            return Ok(Look { reading, past: at });
+        }
+    }
+    Ok(Look::whole(carry_all(alloc, states, operands)?))
+}
+
+fn carry_property(
+    alloc: Global,
+    states: &[State<Produced>],
+    property: &Property,
+) -> Result<Reading<Produced>, AllocError>
+    requires setting { SettingWithin (length states.now) property.now.setting }
+    requires convention { PlaceWithin (length states.now) property.now.convention }
+    ensures reads { IfOk result (λ found. found ≡ reading (known states.now) (carry_property property.now.setting property.now.convention)) }
+    ensures within { IfOk result (λ found. WaitsWithin (length states.now) found) }
+{
+    match &property.setting {
+        Some(Setting::Held(value)) => Ok(Reading::Settles(tasks_of(alloc, value)?)),
+        Some(Setting::Followed(source)) => carry(alloc, states, *source),
+        None => match property.convention {
+            Some(source) => carry(alloc, states, source),
+            None => Ok(Reading::Settles(Produced::Tasks(TaskPaths::new(alloc)))),
+        },
+    }
+}
+
+// Those of the side that the outcome of the left takes.
+fn carry_side(
+    alloc: Global,
+    states: &[State<Produced>],
+    left: usize,
+    right: usize,
+    chooser: Option<Outcome>,
+) -> Result<Reading<Produced>, AllocError>
+    requires left { left < length states.now }
+    requires right { right < length states.now }
+    ensures reads { IfOk result (λ found. found ≡ reading (known states.now) (carry_side left right chooser)) }
+    ensures within { IfOk result (λ found. WaitsWithin (length states.now) found) }
+{
+    match chooser {
+        Some(Outcome::Given(_)) => carry(alloc, states, left),
+        Some(Outcome::Absent) => carry(alloc, states, right),
+        Some(Outcome::Refused(fault)) => Ok(Reading::Settles(Produced::Refused(fault))),
+        None => Ok(Reading::Settles(Produced::Endless(left))),
+    }
+}
+
+// The task of the output that a function chooses.
+fn apply<T: Transforms>(
+    alloc: Global,
+    call: &Call<T::FlatMap>,
+    value: &Value,
+) -> Result<Produced, AllocError>
+    ensures { IfOk result (λ found. found ≡ chosen_tasks call.now.name (meaning_of T.meanings.flat_map call.now.function value.now call.now.arguments)) }
+{
+    match T::flat_map(call.function, alloc, value, call.arguments.as_slice()) {
+        Ok(Some(chosen)) => one_task(alloc, &chosen.task),
+        Ok(None) => Ok(Produced::Tasks(TaskPaths::new(alloc))),
+        Err(fault) => Ok(Produced::Refused(refused_by(&call.name, fault)?)),
+    }
+}
+
+fn choose_tasks<T: Transforms>(
+    alloc: Global,
+    source: usize,
+    call: &Call<T::FlatMap>,
+    chooser: Option<Outcome>,
+) -> Result<Produced, AllocError>
+    ensures { IfOk result (λ found. found ≡ choose_tasks T.meanings source call.now chooser) }
+{
+    match chooser {
+        Some(Outcome::Given(value)) => apply::<T>(alloc, call, &value),
+        Some(Outcome::Absent) => Ok(Produced::Tasks(TaskPaths::new(alloc))),
+        Some(Outcome::Refused(fault)) => Ok(Produced::Refused(fault)),
+        None => Ok(Produced::Endless(source)),
+    }
+}
+
+/// Expressions, to be read for their tasks, with what is remembered of their values.
+#[derive(Drop)]
+pub(crate) struct TaskReader<'b, 'a, T: Transforms> {
+    pub alloc: Global,
+    pub nodes: &'b [Expression<'a, T::Map, T::FlatMap, T::Zip>],
+    pub outputs: &'b Outputs,
+    pub values: Vec<State<Outcome>>,
+}
+
+impl<'b, 'a, T: Transforms> Model for TaskReader<'b, 'a, T> {
+    ghost use Rattle.std.specs.Prelude.{List};
+    ghost use Rattle.gb_provider.specs.declared.expression.Expression as expressions;
+    ghost use Rattle.gb_provider.specs.Indexed.{IsIndexed};
+    ghost use Rattle.gb_provider.specs.Remembered.{AreWithin, IsRemembered};
+    ghost use Rattle.gb_provider.specs.Rules.{rules};
+
+    ghost Value = { List (expressions.Expression T.Map T.FlatMap T.Zip) };
+
+    ghost view = { λ r. r.nodes.now };
+
+    ghost invariant = { λ r. AreWithin r.nodes.now × IsRemembered (rules T.meanings r.nodes.now) r.values.items × IsIndexed r.nodes.now r.outputs.now };
+}
+
+impl<'b, 'a, T: Transforms> TaskReader<'b, 'a, T> {
+    // What an expression comes to that has to choose; nothing where it runs into a circle.
+    fn value_of(&mut self, at: usize) -> Result<Option<Outcome>, AllocError>
+        requires { at < length self.old }
+        ensures value { IfOk result (λ found. found ≡ value_of T.meanings self.old at) }
+        ensures kept { self.new ≡ self.old }
+    {
+        let nodes = self.nodes;
+        recall_outcome::<T>(self.alloc, nodes, self.outputs, &mut self.values, at)
+    }
+
+    // One look at an expression whose operands are not many.
+    fn read(
+        &mut self,
+        states: &[State<Produced>],
+        node: &Expression<'a, T::Map, T::FlatMap, T::Zip>,
+    ) -> Result<Reading<Produced>, AllocError>
+        requires states { length states.now ≡ length self.old }
+        requires within { OperandsWithin (length self.old) node.now }
+        ensures reads { IfOk result (λ found. found ≡ reading (known states.now) (carrier T.meanings self.old node.now)) }
+        ensures within { IfOk result (λ found. WaitsWithin (length states.now) found) }
+        ensures kept { self.new ≡ self.old }
+    {
+        let alloc = self.alloc;
+        match node {
+            Expression::Constant(value) => Ok(Reading::Settles(tasks_of(alloc, value)?)),
+            Expression::OfProperty(property) => carry_property(alloc, states, property),
+            Expression::OfOutput(output) => {
+                Ok(Reading::Settles(one_task(alloc, &output.chosen.task)?))
+            }
+            Expression::Listed(operands) => carry_all(alloc, states, operands.as_slice()),
+            Expression::Mapped(source, _) => carry(alloc, states, *source),
+            Expression::FlatMapped(source, call) => {
+                let chooser = self.value_of(*source)?;
+                Ok(Reading::Settles(choose_tasks::<T>(alloc, *source, call, chooser)?))
+            }
+            Expression::Zipped(left, right, _) => carry_all(alloc, states, &[*left, *right]),
+            Expression::OrElse(left, right) => {
+                let chooser = self.value_of(*left)?;
+                carry_side(alloc, states, *left, *right, chooser)
+            }
+        }
+    }
+
+    // One look at an expression, from behind its first operands on.
+    fn look_at(
+        &mut self,
+        states: &[State<Produced>],
+        node: &Expression<'a, T::Map, T::FlatMap, T::Zip>,
+        past: usize,
+    ) -> Result<Look<Produced>, AllocError>
+        requires states { length states.now ≡ length self.old }
+        requires within { OperandsWithin (length self.old) node.now }
+        requires past { IsPast (known states.now) past (carrier T.meanings self.old node.now) }
+        ensures reads { IfOk result (λ found. found.reading ≡ reading (known states.now) (carrier T.meanings self.old node.now)) }
+        ensures within { IfOk result (λ found. WaitsWithin (length states.now) found.reading) }
+        ensures past { IfOk result (λ found. IsPast (known states.now) found.past (carrier T.meanings self.old node.now)) }
+        ensures kept { self.new ≡ self.old }
+    {
+        match node {
+            Expression::Listed(operands) => {
+                look_all(self.alloc, states, operands.as_slice(), past)
+            }
+            _ => Ok(Look::whole(self.read(states, node)?)),
+        }
+    }
+}
+
+impl<'b, 'a, T: Transforms> Entries for TaskReader<'b, 'a, T> {
+    ghost use Rattle.gb_provider.specs.Produced.{carriers};
+
+    type Answer = Produced;
+
+    ghost rules = { λ nodes. carriers T.meanings nodes };
+
+    fn look(
+        &mut self,
+        states: &[State<Produced>],
+        at: usize,
+        past: usize,
+    ) -> Result<Look<Produced>, AllocError> {
+        let nodes = self.nodes;
+        self.look_at(states, &nodes[at], past)
+    }
+}

@@ -1,0 +1,140 @@
+//! All expressions by number, and where each output stands.
+ghost use Rattle.std.specs.Prelude.{◌≡◌, ◌<◌, ◌++◌, [], ◌∷◌, length, None, Some, OnErr, OnOk, Ok, slice_get, slice_set};
+ghost use Rattle.gb_provider.specs.Changes.{AreChanged};
+ghost use Rattle.gb_provider.specs.Indexed.{IsIndexed, IsNoOutput};
+ghost use Rattle.gb_provider.specs.Rules.{PlaceWithin, output_place};
+
+use crate::change::{Change, change_property, put};
+use crate::expression::{Expression, Output};
+use crate::fault::{Chosen, Final};
+use std::alloc::{AllocError, Global};
+use std::collections::BTreeMap;
+use std::marker::Model;
+
+/// Where each output stands.
+pub(crate) type Outputs = BTreeMap<Chosen, usize>;
+
+/// Where an output stands among these expressions.
+pub(crate) fn place_of<M, F, Z>(
+    nodes: &[Expression<M, F, Z>],
+    outputs: &Outputs,
+    chosen: &Chosen,
+) -> Option<usize>
+    requires { IsIndexed nodes.now outputs.now }
+    ensures place { result ≡ output_place nodes.now chosen.now }
+    ensures within { PlaceWithin (length nodes.now) result }
+{
+    let _ = nodes;
+    outputs.get(chosen).copied()
+}
+
+/// All expressions by number.
+#[derive(Drop)]
+pub(crate) struct Expressions<'a, M, F, Z> {
+    nodes: Vec<Expression<'a, M, F, Z>>,
+    outputs: Outputs,
+}
+
+impl<'a, M, F, Z> Model for Expressions<'a, M, F, Z> {
+    ghost use Rattle.std.specs.Prelude.{List};
+    ghost use Rattle.gb_provider.specs.declared.expression.Expression as expressions;
+    ghost use Rattle.gb_provider.specs.Indexed.{IsIndexed};
+
+    ghost Value = { List (expressions.Expression M F Z) };
+
+    ghost view = { λ e. e.nodes.items };
+
+    ghost invariant = { λ e. IsIndexed e.nodes.items e.outputs };
+}
+
+impl<'a, M, F, Z> Expressions<'a, M, F, Z> {
+    /// No expression yet.
+    pub fn new(alloc: Global) -> Self
+        ensures { result ≡ [] }
+    {
+        Expressions {
+            nodes: Vec::new(alloc),
+            outputs: BTreeMap::new(alloc),
+        }
+    }
+
+    pub fn len(&self) -> usize
+        ensures { result ≡ length self.now }
+    {
+        self.nodes.len()
+    }
+
+    pub fn as_slice(&self) -> &[Expression<'a, M, F, Z>]
+        ensures { result.now ≡ self.now }
+    {
+        self.nodes.as_slice()
+    }
+
+    /// Where each output stands.
+    pub fn outputs(&self) -> &Outputs
+        ensures { IsIndexed self.now result.now }
+    {
+        &self.outputs
+    }
+
+    /// Where an output stands.
+    pub fn place(&self, chosen: &Chosen) -> Option<usize>
+        ensures place { result ≡ output_place self.now chosen.now }
+        ensures within { PlaceWithin (length self.now) result }
+    {
+        place_of(&self.nodes, &self.outputs, chosen)
+    }
+}
+
+impl<'a, M: Drop, F: Drop, Z: Drop> Expressions<'a, M, F, Z> {
+    /// Puts an expression that is no output behind the others.
+    pub fn push(&mut self, expression: Expression<'a, M, F, Z>) -> Result<(), AllocError>
+        requires { IsNoOutput expression }
+        ensures ok { OnOk result (self.new ≡ self.old ++ expression.entry ∷ []) }
+        ensures err { OnErr result (self.new ≡ self.old) }
+    {
+        self.nodes.push(expression)?;
+        Ok(())
+    }
+
+    /// Puts an output that does not stand yet behind the others.
+    pub fn push_output(&mut self, chosen: Chosen, declared: Option<usize>) -> Result<(), AllocError>
+        requires { output_place self.old chosen ≡ None }
+        ensures ok { OnOk result (self.new ≡ self.old ++ Expression.OfOutput (record { chosen = chosen; declared = declared }) ∷ []) }
+        ensures err { OnErr result (self.new ≡ self.old) }
+    {
+        let number = self.nodes.len();
+        let key = chosen.copy()?;
+        self.nodes.reserve(1)?;
+        self.outputs.insert(key, number)?;
+        match self
+            .nodes
+            .push(Expression::OfOutput(Output { chosen, declared }))
+        {
+            Ok(()) => Ok(()),
+            Err(_) => unreachable!(),
+        }
+    }
+
+    /// Declares an output that stands here as an expression.
+    pub fn declare(&mut self, number: usize, chosen: Chosen, source: usize)
+        requires within { number < length self.old }
+        requires stands { output_place self.old chosen ≡ Some number }
+        ensures { self.new ≡ slice_set self.old number (Expression.OfOutput (record { chosen = chosen; declared = Some source })) }
+    {
+        let declared = Some(source);
+        put(
+            &mut self.nodes,
+            number,
+            Expression::OfOutput(Output { chosen, declared }),
+        );
+    }
+
+    /// Changes a property that is not final.
+    pub fn change(&mut self, number: usize, change: Change) -> Result<(), Final>
+        requires { number < length self.old }
+        ensures { AreChanged change self.old number self.new result }
+    {
+        change_property(&mut self.nodes, number, change)
+    }
+}

@@ -1,0 +1,16 @@
+//! Facts that follow from the definitions alone.
+ghost use Rattle.gb_provider.specs.Laws.{AnswersStay, RoundsAreBounded};
+ghost use Rattle.gb_provider.specs.declared.expression.Outcome.{Outcome};
+ghost use Rattle.gb_provider.specs.declared.produced.Produced.{Produced};
+
+/// An answer that an expression has after some rounds it has after all later ones.
+pub fn answers_stay()
+    ensures values { AnswersStay Outcome }
+    ensures producers { AnswersStay Produced }
+{}
+
+/// An expression that has no answer after as many rounds as there are expressions never has one.
+pub fn rounds_are_bounded()
+    ensures values { RoundsAreBounded Outcome }
+    ensures producers { RoundsAreBounded Produced }
+{}

@@ -1,0 +1,113 @@
+//! Tasks that produce what an expression gives, which are remembered.
+ghost use Rattle.std.specs.Prelude.{◌≡◌, ◌≢◌, ◌<◌, None, length};
+ghost use Rattle.gb_provider.specs.Answers.{value_of};
+ghost use Rattle.gb_provider.specs.Produced.{AreProducers, IsEndlessTold, carriers};
+ghost use Rattle.gb_provider.specs.Indexed.{IsIndexed};
+ghost use Rattle.gb_provider.specs.Remembered.{AreWithin, IsRemembered};
+ghost use Rattle.gb_provider.specs.Rules.{rules};
+ghost use Rattle.gb_provider.specs.Search.{IsEvaluated, known};
+
+use crate::carriers::TaskReader;
+use crate::evaluate::known_at;
+use crate::expression::{Expression, Outcome};
+use crate::expressions::Outputs;
+use crate::fault::ProviderFault;
+use crate::names::circle_names;
+use crate::produced::{Produced, TaskPaths};
+use crate::reading::State;
+use crate::recall::{extend, recall};
+use crate::search::evaluate;
+use crate::transforms::Transforms;
+use std::alloc::{AllocError, Global};
+use std::mem;
+
+// Looks for the tasks of an expression: afterwards they are known, unless it runs into a circle.
+fn evaluate_producers<T: Transforms>(
+    alloc: Global,
+    nodes: &[Expression<T::Map, T::FlatMap, T::Zip>],
+    outputs: &Outputs,
+    values: &mut Vec<State<Outcome>>,
+    states: &mut Vec<State<Produced>>,
+    number: usize,
+) -> Result<Option<Vec<usize>>, AllocError>
+    requires index { IsIndexed nodes.now outputs.now }
+    requires number { number < length nodes.now }
+    requires within { AreWithin nodes.now }
+    requires values { IsRemembered (rules T.meanings nodes.now) values.old.items }
+    requires remembered { IsRemembered (carriers T.meanings nodes.now) states.old.items }
+    ensures values { IsRemembered (rules T.meanings nodes.now) values.new.items }
+    ensures evaluated { IsEvaluated (carriers T.meanings nodes.now) number states.new.items result }
+{
+    extend(states, nodes.len())?;
+    let held = mem::replace(values, Vec::new(alloc));
+    let mut reader = TaskReader::<T> {
+        alloc,
+        nodes,
+        outputs,
+        values: held,
+    };
+    let found = evaluate(alloc, &mut reader, states, number);
+    let TaskReader { values: held, .. } = reader;
+    *values = held;
+    found
+}
+
+// Tells that the value of an expression, which has to choose, never comes.
+fn tell_endless<T: Transforms>(
+    alloc: Global,
+    nodes: &[Expression<T::Map, T::FlatMap, T::Zip>],
+    outputs: &Outputs,
+    values: &mut Vec<State<Outcome>>,
+    chooser: usize,
+) -> ProviderFault
+    requires index { IsIndexed nodes.now outputs.now }
+    requires chooser { chooser < length nodes.now }
+    requires endless { value_of T.meanings nodes.now chooser ≡ None }
+    requires within { AreWithin nodes.now }
+    requires values { IsRemembered (rules T.meanings nodes.now) values.old.items }
+    ensures values { IsRemembered (rules T.meanings nodes.now) values.new.items }
+    ensures told { IsEndlessTold T.meanings nodes.now chooser result }
+{
+    match recall::<T>(alloc, nodes, outputs, values, chooser) {
+        Ok(_) => unreachable!(),
+        Err(fault) => fault,
+    }
+}
+
+/// The tasks that produce what an expression gives.
+pub(crate) fn recall_producers<T: Transforms>(
+    alloc: Global,
+    nodes: &[Expression<T::Map, T::FlatMap, T::Zip>],
+    outputs: &Outputs,
+    values: &mut Vec<State<Outcome>>,
+    states: &mut Vec<State<Produced>>,
+    number: usize,
+) -> Result<TaskPaths, ProviderFault>
+    requires index { IsIndexed nodes.now outputs.now }
+    requires number { number < length nodes.now }
+    requires within { AreWithin nodes.now }
+    requires values { IsRemembered (rules T.meanings nodes.now) values.old.items }
+    requires remembered { IsRemembered (carriers T.meanings nodes.now) states.old.items }
+    ensures values { IsRemembered (rules T.meanings nodes.now) values.new.items }
+    ensures remembered { IsRemembered (carriers T.meanings nodes.now) states.new.items }
+    ensures producers { AreProducers T.meanings nodes.now number result }
+{
+    match evaluate_producers::<T>(alloc, nodes, outputs, values, states, number) {
+        Ok(None) => match known_at(states, number) {
+            Some(Produced::Tasks(tasks)) => Ok(tasks.copy(alloc)?),
+            Some(Produced::Refused(fault)) => Err(ProviderFault::Value(fault.copy()?)),
+            Some(Produced::Endless(chooser)) => {
+                Err(tell_endless::<T>(alloc, nodes, outputs, values, *chooser))
+            }
+            None => unreachable!(),
+        },
+        Ok(Some(circle)) => {
+            states.clear();
+            Err(ProviderFault::Circular(circle_names(alloc, nodes, &circle)?))
+        }
+        Err(AllocError) => {
+            states.clear();
+            Err(ProviderFault::OutOfMemory)
+        }
+    }
+}

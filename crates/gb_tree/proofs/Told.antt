@@ -1,0 +1,33 @@
+-- Why the files at entries are not read, told of the whole.
+use Rattle.std.proofs.Common.{◌≡◌, ◌⊎◌, ◌≤◌, ◌++◌, ℕ, List, [], ◌∷◌, map, Some, inl, inr, sym, ◌∙◌, subst}
+use Rattle.std.specs.List.{AllByRecursion}
+use Rattle.std.specs.Prelude.{IsSome}
+use Rattle.gb_folder.specs.Files.{Place, Files, Contents, file_at, first_of, places_under}
+use Rattle.gb_tree.specs.declared.fault.TreeFault.{TreeFault}
+use Rattle.gb_tree.specs.Tree.{Entries, IsOfMachine, entries_from, too_large}
+use Rattle.gb_tree.proofs.InOrder.{listed_stand}
+use Rattle.gb_tree.proofs.Refused.{back_first, machine_before}
+
+abbrev pub Stand : Files → Entries → Type 0
+Stand files entries = AllByRecursion (λ entry. IsSome (file_at files entry.1)) entries
+
+abbrev pub IsRefused : ℕ → ℕ → List TreeFault → TreeFault → Type 0
+IsRefused before after faults fault = IsOfMachine before after fault ⊎ (first_of faults ≡ Some fault)
+
+-- nothing hindered listing the entries
+pub refused_reading : (before mid after : ℕ) (old now : Contents) (listing : List TreeFault) (entries read : Entries) (fault : TreeFault) → now ≡ old → read ≡ entries → before ≤ mid → mid ≤ after → listing ≡ []
+    → Stand old.files entries → (Stand now.files read → IsRefused mid after (too_large now.files read) fault) → IsRefused before after (listing ++ too_large old.files entries) fault
+refused_reading before mid after old now listing entries read fault same all le more none stands refused =
+    elim (subst (λ (es : Entries). IsRefused mid after (too_large old.files es) fault) all
+    (subst (λ (contents : Contents). IsRefused mid after (too_large contents.files read) fault) same
+    (refused (subst (λ (es : Entries). Stand now.files es) (sym all) (subst (λ (contents : Contents). Stand contents.files entries) (sym same) stands))))) [
+      | inl machine ↦ inl (machine_before before mid after fault le more machine)
+      | inr first ↦ inr (back_first listing (too_large old.files entries) none ∙ first)
+    ]
+
+pub with_paths : (files : Files) (path : Place → List ℕ) (places : List Place) → AllByRecursion (λ at. IsSome (file_at files at)) places → Stand files (map (λ place. (path place, place)) places)
+with_paths files path [] all = tt
+with_paths files path (place ∷ places) all = (all.0, with_paths files path places all.1)
+
+pub outputs_stand : (files : Files) (root : Place) → Stand files (entries_from root (places_under files root))
+outputs_stand files root = with_paths files _ (places_under files root) (listed_stand files root)

@@ -1,0 +1,18 @@
+use Rattle.std.proofs.Common.{◌≡◌, ◌≤◌, IsTrue, drop, take, map}
+use Rattle.gb_folder.specs.Files.{first_of}
+use Rattle.gb_tree.specs.Prints.{digests_of}
+use Rattle.gb_tree.specs.Property.{paths_of}
+use Rattle.gb_tree.specs.Tree.{contents_at, too_large}
+use Rattle.gb_tree.proofs.reading.digest_all.Given as goal
+
+abbrev pub invariant-loop-path : goal.invariant-loop-path
+invariant-loop-path g l =
+    let contents = g.F.Folder.contents in
+    let old = (contents l.fn.folder).files in
+    record {
+      count : g.F.Folder.failures l.fn.folder ≤ g.F.Folder.failures l.folder;
+      same : IsTrue g.F.Folder.tells → contents l.folder ≡ contents l.fn.folder;
+      paths : map (λ entry. entry.0) l.digests.items ≡ paths_of (take l.path-index l.entries);
+      digested : IsTrue g.F.Folder.tells → l.digests.items ≡ digests_of (contents_at old (take l.path-index l.entries));
+      large : IsTrue g.F.Folder.tells → first_of (too_large old (drop l.path-index l.entries)) ≡ first_of (too_large old l.entries);
+    }

@@ -1,0 +1,34 @@
+use Rattle.std.proofs.Common.{arith, ◌+◌, ◌∷◌, ℕ, List, map, cond, drop, sym, ◌∙◌, ap}
+use Rattle.std.specs.List.{filter}
+use Rattle.std.specs.FinMap.Entries.{put}
+use Rattle.gb_folder.specs.Files.{byte_order, first_of}
+use Rattle.gb_tree.specs.declared.fault.TreeFault.TheVariants as faults
+use Rattle.gb_tree.specs.Tree.{bytes_at, is_large, too_large}
+use Rattle.gb_tree.proofs.Loops.{step_here}
+use Rattle.gb_tree.proofs.InOrder.{file_more}
+use Rattle.gb_tree.proofs.reading.read_all.Goals as goal
+
+pub loop-path-preserved : goal.loop-path-preserved
+loop-path-preserved g c =
+    let contents = g.F.Folder.contents in
+    let files = (contents c.args.folder.now).files in
+    let entries = c.args.entries.now in
+    let old = c.loop-path in
+    let i = old.path-index in
+    let e = c.loop-path-item.result in
+    let within = c.loop-path-test.true in
+    let is = c.loop-path-item.is in
+    record {
+      count = omega (arith, old.invariant.count, c.read_file.ensures.count);
+      same = λ tells. c.read_file.ensures.same tells ∙ old.invariant.same tells;
+      read = λ tells.
+          c.in_ok-insert.ensures.ok
+          ∙ ap (λ path. put byte_order path c.in_ok-bytes.bytes old.files) c.in_ok-copy.ensures
+          ∙ ap (λ bytes. put byte_order e.0 bytes old.files) (c.in_ok-bytes.ensures.read tells ∙ ap (λ now. bytes_at now.files e.1) (old.invariant.same tells))
+          ∙ ap (put byte_order e.0 (bytes_at files e.1)) (old.invariant.read tells)
+          ∙ file_more files entries i e within is c.requires;
+      large = λ tells.
+          let small = ap (λ now. is_large now.files e.1) (sym (old.invariant.same tells)) ∙ c.in_ok-bytes.ensures.small tells in
+          sym (step_here (λ es. first_of (too_large files es)) entries i e within is ∙ ap (λ b. first_of (map (λ (f : List ℕ × List ℕ). faults.TooLarge f.1) (cond b (e ∷ filter (λ f. is_large files f.1) (drop (i + 1) entries)) (filter (λ f. is_large files f.1) (drop (i + 1) entries))))) small)
+          ∙ old.invariant.large tells;
+    }

@@ -1,0 +1,230 @@
+//! The files that belong to a property, in the order of their paths.
+ghost use Rattle.std.specs.Prelude.{◌≡◌, ◌≤◌, ◌⊎◌, ◌++◌, [], ◌∷◌, ℕ, List, length, take, drop, true, None, Some, Err, IsTrue, IfOk, IfErr, OnOk, string_bytes};
+ghost use Rattle.std.specs.List.{AllByRecursion, AllPass, filter};
+ghost use Rattle.std.specs.Option.{option_copied};
+ghost use Rattle.std.specs.Ordering.{is_lt};
+ghost use Rattle.std.specs.FinMap.Entries.{is_sorted};
+ghost use Rattle.gb_core.specs.Place.{is_beneath, is_under};
+ghost use Rattle.gb_folder.specs.Files.{HasRisen, byte_order, first_of, is_own};
+ghost use Rattle.gb_tree.specs.Tree.{IsOfMachine, odd_roots};
+ghost use Rattle.gb_tree.specs.Property.{distinct, doubled, entries_in, entries_of, entry_faults, found, in_order, is_in, lets_in, matches_any, paths_of};
+ghost use Rattle.gb_tree.specs.Rising.{IsFrom, IsRising};
+
+use crate::fault::TreeFault;
+use crate::path::{path_of, seen_from};
+use crate::pattern::Pattern;
+use crate::property::Naming;
+use crate::reading::{MAX_FILES, listed};
+use gb_core::name::Name;
+use gb_core::place::{Place, RelPath, lies_beneath};
+use gb_folder::folder::Folder;
+use std::alloc::{AllocError, Global};
+
+/// The places of the property's files, in the order of their paths, of which each can stand beside
+/// the others. Of no content anything is read.
+pub(crate) fn entries_of<F: Folder>(
+    alloc: Global,
+    folder: &mut F,
+    name: &Name,
+    naming: Naming,
+    roots: &[Place],
+    include: &[Pattern],
+    exclude: &[Pattern],
+) -> Result<Vec<(RelPath, Place)>, TreeFault>
+    ensures count { F.failures folder.old ≤ F.failures folder.new }
+    ensures blame { (at : List ℕ) → result ≡ Err (TreeFault.Device at) → HasRisen (F.failures folder.old) (F.failures folder.new) }
+    ensures ordered { IfOk result (λ entries. IsTrue (is_sorted byte_order entries.items)) }
+    ensures same { IsTrue F.tells → F.contents folder.new ≡ F.contents folder.old }
+    ensures entries { IsTrue F.tells → IfOk result (λ entries. entries.items ≡ entries_of naming roots.now include.now exclude.now (F.contents folder.old).files) }
+    ensures fit { IsTrue F.tells → OnOk result (entry_faults name.now naming roots.now include.now exclude.now (F.contents folder.old) ≡ []) }
+    ensures err { IsTrue F.tells → IfErr result (λ fault. IsOfMachine (F.failures folder.old) (F.failures folder.new) fault
+        ⊎ (first_of (entry_faults name.now naming roots.now include.now exclude.now (F.contents folder.old)) ≡ Some fault)) }
+{
+    let roots = distinct(alloc, roots)?;
+    let mut entries = found(alloc, folder, naming, include, exclude, roots.as_slice())?;
+    sort(&mut entries);
+    if entries.len() > MAX_FILES {
+        return Err(TreeFault::TooManyFiles(name.copy()?));
+    }
+    check_doubled(alloc, name, entries.as_slice())?;
+    Ok(entries)
+}
+
+/// Each place once. Its steps grow with the square of how many places there are: a script writes
+/// them one by one.
+fn distinct(alloc: Global, places: &[Place]) -> Result<Vec<Place>, AllocError>
+    ensures { IfOk result (λ kept. kept.items ≡ distinct places.now) }
+{
+    let mut kept: Vec<Place> = Vec::new(alloc);
+    for place in places.iter() {
+        if !kept.as_slice().contains(place) {
+            kept.push(place.copy()?)?;
+        }
+    }
+    Ok(kept)
+}
+
+/// What each of the roots gives.
+fn found<F: Folder>(
+    alloc: Global,
+    folder: &mut F,
+    naming: Naming,
+    include: &[Pattern],
+    exclude: &[Pattern],
+    roots: &[Place],
+) -> Result<Vec<(RelPath, Place)>, TreeFault>
+    ensures count { F.failures folder.old ≤ F.failures folder.new }
+    ensures blame { (at : List ℕ) → result ≡ Err (TreeFault.Device at) → HasRisen (F.failures folder.old) (F.failures folder.new) }
+    ensures same { IsTrue F.tells → F.contents folder.new ≡ F.contents folder.old }
+    ensures found { IsTrue F.tells → IfOk result (λ entries. entries.items ≡ found naming include.now exclude.now (F.contents folder.old).files roots.now) }
+    ensures none_odd { IsTrue F.tells → OnOk result (odd_roots (F.contents folder.old) roots.now ≡ []) }
+    ensures odd { IsTrue F.tells → IfErr result (λ fault. IsOfMachine (F.failures folder.old) (F.failures folder.new) fault
+        ⊎ (first_of (odd_roots (F.contents folder.old) roots.now) ≡ Some fault)) }
+{
+    let mut entries = Vec::new(alloc);
+    for root in roots.iter() {
+        let places = listed(alloc, folder, root)?;
+        add_entries(
+            alloc,
+            &mut entries,
+            naming,
+            include,
+            exclude,
+            root,
+            places.as_slice(),
+        )?;
+    }
+    Ok(entries)
+}
+
+/// Adds those of the places beneath a root that belong to the property.
+fn add_entries(
+    alloc: Global,
+    entries: &mut Vec<(RelPath, Place)>,
+    naming: Naming,
+    include: &[Pattern],
+    exclude: &[Pattern],
+    root: &Place,
+    places: &[Place],
+) -> Result<(), TreeFault>
+    requires { AllPass (λ at. is_under at root.now) places.now }
+    ensures entries { OnOk result (entries.new.items ≡ entries.old.items ++ entries_in naming include.now exclude.now root.now places.now) }
+    ensures err { IfErr result (λ fault. fault ≡ TreeFault.OutOfMemory) }
+{
+    for place in places.iter() {
+        if is_in(include, exclude, root, place) {
+            entries.push((path_of(alloc, naming, root, place)?, place.copy()?))?;
+        }
+    }
+    Ok(())
+}
+
+/// Whether a place beneath the root belongs to the property.
+fn is_in(include: &[Pattern], exclude: &[Pattern], root: &Place, place: &Place) -> bool
+    requires { IsTrue (is_under place.now root.now) }
+    ensures { result ≡ is_in include.now exclude.now root.now place.now }
+{
+    !is_own(place) && lets_in(include, exclude, seen_from(root.as_str(), place.as_str()))
+}
+
+/// Whether the place is the tool's own folder, or beneath it.
+fn is_own(place: &Place) -> bool
+    ensures { result ≡ is_own place.now }
+{
+    place.as_str() == ".gb" || lies_beneath(place.as_str().as_bytes(), b".gb")
+}
+
+/// Whether some include matches the path, or there is none, and no exclude does.
+fn lets_in(include: &[Pattern], exclude: &[Pattern], path: &str) -> bool
+    ensures { result ≡ lets_in include.now exclude.now path.now }
+{
+    (include.is_empty() || matches_any(include, path)) && !matches_any(exclude, path)
+}
+
+fn matches_any(patterns: &[Pattern], path: &str) -> bool
+    ensures { result ≡ matches_any patterns.now path.now }
+{
+    patterns.iter().any(|pattern| pattern.matches_text(path))
+}
+
+fn sort(entries: &mut Vec<(RelPath, Place)>)
+    ensures sorted { entries.new.items ≡ in_order entries.old.items }
+    ensures rising { IsRising entries.new.items }
+{
+    entries.sort_unstable();
+}
+
+/// Refuses the first path that cannot stand beside one before it.
+fn check_doubled(alloc: Global, name: &Name, entries: &[(RelPath, Place)]) -> Result<(), TreeFault>
+    requires { IsRising entries.now }
+    ensures ordered { OnOk result (IsTrue (is_sorted byte_order entries.now)) }
+    ensures fit { OnOk result (doubled (paths_of entries.now) ≡ []) }
+    ensures err { IfErr result (λ fault. (fault ≡ TreeFault.OutOfMemory)
+        ⊎ ((path : List ℕ) × (first_of (doubled (paths_of entries.now)) ≡ Some path) × (fault ≡ TreeFault.DuplicateInput name.now path))) }
+{
+    for index in 0..entries.len() {
+        if let Some(other) = first_under(alloc, &entries[index].0, &entries[index + 1..])? {
+            return Err(TreeFault::DuplicateInput(name.copy()?, other.copy()?));
+        }
+    }
+    Ok(())
+}
+
+/// The first of later paths, in order, that is the path or lies beneath it.
+fn first_under<'a>(
+    alloc: Global,
+    path: &RelPath,
+    later: &'a [(RelPath, Place)],
+) -> Result<Option<&'a RelPath>, AllocError>
+    requires rising { IsRising later.now }
+    requires from { IsFrom path.now later.now }
+    ensures { IfOk result (λ other. option_copied other ≡ first_of (filter (λ other. is_under other path.now) (paths_of later.now))) }
+{
+    match later.first() {
+        Some((other, _)) if other == path => Ok(Some(other)),
+        _ => first_beneath(alloc, path, later),
+    }
+}
+
+/// The first of paths in order that lies beneath this one. What lies beneath a path stands side by
+/// side, but not always right behind it: `a-b` stands before `a/b`.
+fn first_beneath<'a>(
+    alloc: Global,
+    path: &RelPath,
+    later: &'a [(RelPath, Place)],
+) -> Result<Option<&'a RelPath>, AllocError>
+    requires { IsRising later.now }
+    ensures { IfOk result (λ other. option_copied other ≡ first_of (filter (λ other. is_beneath other path.now) (paths_of later.now))) }
+{
+    let front = with_slash(alloc, path)?;
+    let index = count_before(front.as_str(), later);
+    match later[index..].first() {
+        Some((other, _)) if is_beneath(other, path) => Ok(Some(other)),
+        _ => Ok(None),
+    }
+}
+
+fn is_beneath(path: &RelPath, folder: &RelPath) -> bool
+    ensures { result ≡ is_beneath path.now folder.now }
+{
+    lies_beneath(path.as_str().as_bytes(), folder.as_str().as_bytes())
+}
+
+/// The path and a slash, with which each path beneath it begins.
+fn with_slash(alloc: Global, path: &RelPath) -> Result<String, AllocError>
+    ensures { IfOk result (λ front. string_bytes front ≡ path.now ++ 47 ∷ []) }
+{
+    let mut front = String::from_str(alloc, path.as_str())?;
+    front.push('/')?;
+    Ok(front)
+}
+
+/// How many of the paths, which stand in order, stand before the text.
+fn count_before(text: &str, entries: &[(RelPath, Place)]) -> usize
+    requires { IsRising entries.now }
+    ensures within { result ≤ length entries.now }
+    ensures before { AllByRecursion (λ entry. is_lt (byte_order entry.0 text.now) ≡ true) (take result entries.now) }
+    ensures from { IsFrom text.now (drop result entries.now) }
+{
+    entries.partition_point(|entry| entry.0.as_str() < text)
+}

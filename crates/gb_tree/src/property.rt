@@ -1,0 +1,79 @@
+//! The files of a file property.
+ghost use Rattle.std.specs.Prelude.{◌≡◌, ◌≤◌, ◌⊎◌, [], ℕ, List, Some, Err, IsTrue, IfOk, IfErr, OnOk};
+ghost use Rattle.gb_folder.specs.Files.{HasRisen, first_of};
+ghost use Rattle.gb_tree.specs.Tree.{IsOfMachine};
+ghost use Rattle.gb_tree.specs.Prints.{digests_of};
+ghost use Rattle.gb_tree.specs.Property.{tree_faults, tree_of};
+
+use crate::entries::entries_of;
+use crate::fault::TreeFault;
+use crate::pattern::Pattern;
+use crate::prints::Prints;
+use crate::reading::{digest_all, read_all};
+use gb_action::snapshot::Snapshot;
+use gb_core::name::Name;
+use gb_core::place::Place;
+use gb_folder::folder::Folder;
+use std::alloc::Global;
+
+/// By which part of its path a file stands in a tree.
+#[derive(Clone, Copy, Debug, PartialEq, Eq)]
+pub enum Naming {
+    /// By its path from the root.
+    Relative,
+    /// By the last segment of its place. Patterns still see the path from the root.
+    NameOnly,
+}
+
+/// The files at or beneath the roots that the patterns let in, by their paths. Equal roots count
+/// once, and the tool's own folder `.gb` never does. Nothing is written.
+///
+/// Refused, in this order: something beneath a root that no place can name (14), more than 65,536
+/// files (72), two files at one path or one at a folder of another (71), the first file above 8 MiB
+/// (13). Where the folder does not tell what it holds, also a file that is gone when it is read (11,
+/// 12).
+pub fn snapshot<F: Folder>(
+    alloc: Global,
+    folder: &mut F,
+    name: &Name,
+    naming: Naming,
+    roots: &[Place],
+    include: &[Pattern],
+    exclude: &[Pattern],
+) -> Result<Snapshot, TreeFault>
+    ensures count { F.failures folder.old ≤ F.failures folder.new }
+    ensures blame { (at : List ℕ) → result ≡ Err (TreeFault.Device at) → HasRisen (F.failures folder.old) (F.failures folder.new) }
+    ensures same { IsTrue F.tells → F.contents folder.new ≡ F.contents folder.old }
+    ensures files { IsTrue F.tells → IfOk result (λ snapshot. snapshot ≡ (name.now, tree_of naming roots.now include.now exclude.now (F.contents folder.old).files)) }
+    ensures fit { IsTrue F.tells → OnOk result (tree_faults name.now naming roots.now include.now exclude.now (F.contents folder.old) ≡ []) }
+    ensures err { IsTrue F.tells → IfErr result (λ fault. IsOfMachine (F.failures folder.old) (F.failures folder.new) fault
+        ⊎ (first_of (tree_faults name.now naming roots.now include.now exclude.now (F.contents folder.old)) ≡ Some fault)) }
+{
+    let entries = entries_of(alloc, folder, name, naming, roots, include, exclude)?;
+    let files = read_all(alloc, folder, entries.as_slice())?;
+    Ok(Snapshot::new(name.copy()?, files))
+}
+
+/// The prints of what [`snapshot`] answers, refused as it refuses. Of the contents one piece is held
+/// at a time.
+pub fn prints_of<F: Folder>(
+    alloc: Global,
+    folder: &mut F,
+    name: &Name,
+    naming: Naming,
+    roots: &[Place],
+    include: &[Pattern],
+    exclude: &[Pattern],
+) -> Result<Prints, TreeFault>
+    ensures count { F.failures folder.old ≤ F.failures folder.new }
+    ensures blame { (at : List ℕ) → result ≡ Err (TreeFault.Device at) → HasRisen (F.failures folder.old) (F.failures folder.new) }
+    ensures same { IsTrue F.tells → F.contents folder.new ≡ F.contents folder.old }
+    ensures prints { IsTrue F.tells → IfOk result (λ prints. prints ≡ (name.now, digests_of (tree_of naming roots.now include.now exclude.now (F.contents folder.old).files))) }
+    ensures fit { IsTrue F.tells → OnOk result (tree_faults name.now naming roots.now include.now exclude.now (F.contents folder.old) ≡ []) }
+    ensures err { IsTrue F.tells → IfErr result (λ fault. IsOfMachine (F.failures folder.old) (F.failures folder.new) fault
+        ⊎ (first_of (tree_faults name.now naming roots.now include.now exclude.now (F.contents folder.old)) ≡ Some fault)) }
+{
+    let entries = entries_of(alloc, folder, name, naming, roots, include, exclude)?;
+    let digests = digest_all(alloc, folder, entries.as_slice())?;
+    Ok(Prints::new(name.copy()?, digests))
+}
