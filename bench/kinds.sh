@@ -3,20 +3,11 @@
 # is asked (times 0), and one asking, which is the rest of the time divided by the times it was asked.
 set -eu
 program=${1:?usage: kinds.sh PROGRAM}
-best() { # best ARGS..: the best of five runs, in us
-  local best= begin took
-  for _ in 1 2 3 4 5; do
-    begin=$(date +%s%N)
-    "$program" "$@"
-    took=$((($(date +%s%N) - begin) / 1000))
-    if [ -z "$best" ] || [ "$took" -lt "$best" ]; then best=$took; fi
-  done
-  echo "$best"
-}
+source "$(dirname "$0")/best.sh"
 while read -r name count times; do
   for count in "$count" $((2 * count)); do
-    before=$(best "$name" "$count" 0)
-    all=$(best "$name" "$count" "$times")
+    before=$(best "$program" "$name" "$count" 0)
+    all=$(best "$program" "$name" "$count" "$times")
     echo "$name $count: $before us before, $(((all - before) * 1000 / times)) ns to ask once"
   done
 done <<'END'

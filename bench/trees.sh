@@ -5,16 +5,7 @@ set -eu
 program=${1:?usage: trees.sh PROGRAM}
 files=$(mktemp -d)
 trap 'rm -rf "$files"' EXIT
-best() { # best COMMAND..: the best of five runs, in us
-  local best= begin took
-  for _ in 1 2 3 4 5; do
-    begin=$(date +%s%N)
-    "$@" >/dev/null
-    took=$((($(date +%s%N) - begin) / 1000))
-    if [ -z "$best" ] || [ "$took" -lt "$best" ]; then best=$took; fi
-  done
-  echo "$best"
-}
+source "$(dirname "$0")/best.sh"
 for count in 32768 65536; do
   echo "prints $count: $(best "$program" prints "$count") us"
 done

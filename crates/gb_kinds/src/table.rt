@@ -1,7 +1,7 @@
 //! All built-in actions by name.
 //!
-//! A program fills its table in three steps, so that few boxes are held at a time: each way out of
-//! a function lets go all boxes that it holds.
+//! `builtin_table` gives them all. It adds them in three steps, which can also be called alone, so
+//! that few boxes are held at a time: each way out of a function lets go all boxes that it holds.
 ghost use Rattle.std.specs.Prelude.{◌≡◌, ◌++◌, ◌∷◌, [], ℕ, List, false, bytes_eq, IfErr, IfOk, OnOk, map};
 ghost use Rattle.std.specs.List.{list_any};
 ghost use Rattle.gb_action.specs.declared.table.TableFault.TheVariants.{OutOfMemory};
