@@ -15,7 +15,7 @@ copy_full 10000 20
 copy_one 10000 100000
 sums_full 10000 20
 sums_one 10000 100000
-words_full 10000 1
-words_one 10000 1
+words_full 10000 4
+words_one 10000 10
 tokens 8388608 20
 END

@@ -1,5 +1,5 @@
 -- The lines of an index, and the paths that they tell.
-use Rattle.std.proofs.Common.{arith, ◌≡◌, ◌≢◌, ◌==◌, ℕ, suc, Bool, true, false, true≢false, cond, not, ◌&&◌, ◌||◌, T, if◌then◌else◌, List, [], ◌∷◌, ◌++◌, length, take, drop, nat_le, Option, Some, None, unwrap_or, refl, sym, ap, subst, ◌∙◌, bytes_eq, IsTrue, length-append}
+use Rattle.std.proofs.Common.{arith, ◌≡◌, ◌≢◌, ◌==◌, ℕ, suc, Bool, true, false, true≢false, cond, not, ◌&&◌, ◌||◌, T, if◌then◌else◌, List, [], ◌∷◌, ◌++◌, length, map, take, drop, nat_le, Option, Some, None, refl, sym, ap, subst, ◌∙◌, bytes_eq, length-append}
 use Rattle.std.proofs.Math.Seq.{take-append_seam, drop-append_seam}
 use Rattle.std.proofs.lemmas.Bool.{leb-true, ne_eqb}
 use Rattle.std.specs.Cmp.Lexicographic.{bytes_decides, nat_list_eq_equiv}
@@ -10,10 +10,7 @@ use Rattle.bstr.proofs.lemmas.LineLemmas.{lines-nil, lines-step}
 use Rattle.gb_core.specs.Place.{is_printable, is_rel_path}
 use Rattle.gb_action.specs.Files.{byte_order, Tree, file_at}
 use Rattle.gb_action.proofs.Found.{find-same, find-other}
-use Rattle.gb_action.specs.declared.change.Change.{Change}
-use Rattle.gb_kinds.specs.Carried.{Known, holds_in, is_changed, is_told, knows, lines_where, path_of, still_holds, IsCarried}
 use Rattle.gb_kinds.specs.Words.{path_line}
-use Rattle.gb_kinds.proofs.Known.{known_in, same_line}
 use Rattle.gb_kinds.proofs.LinesWhere.{chosen_lines}
 use Rattle.gb_kinds.proofs.WordSets.{or_false}
 use Rattle.gb_kinds.proofs.Writing.{below, first, second}
@@ -50,13 +47,6 @@ module _ (path : List ℕ) (test : List ℕ → Bool) where
       by false e =
           let other : file.0 ≢ path = λ is. true≢false (sym ((bytes_decides file.0 path).1 is) ∙ e) in
           ap (on test) (sym (find-other path file files other))
-
-pub told_is : (index : Tree) (line word : List ℕ) → T (is_sorted byte_order index) → known_in line word index ≡ is_told index line word
-told_is index line word h = at_path word (λ lines. list_any (bytes_eq line) (lines_of lines)) index h ∙ by (file_at index word)
-  where
-    by : (o : Option (List ℕ)) → on (λ lines. list_any (bytes_eq line) (lines_of lines)) o ≡ list_any (bytes_eq line) (lines_of (unwrap_or o []))
-    by None = ap (list_any (bytes_eq line)) (sym lines-nil)
-    by (Some lines) = refl
 
 -- ---- Lines that paths make
 
@@ -103,11 +93,22 @@ first_line path rest h =
 abbrev pub are_lines : Tree → Bool
 are_lines files = list_all (λ (f : List ℕ × List ℕ). is_one_line f.0) files
 
-module _ (chosen : List ℕ × List ℕ → Bool) (path : List ℕ) where
+module _ (chosen : List ℕ × List ℕ → Bool) where
   -- the lines of chosen files, cut
-  pub lines_tell : (files : Tree) → are_lines files ≡ true → list_any (bytes_eq (path_line path)) (lines_of (chosen_lines chosen files)) ≡ list_any (λ (f : List ℕ × List ℕ). bytes_eq f.0 path && chosen f) files
-  lines_tell [] h = ap (list_any (bytes_eq (path_line path))) lines-nil
-  lines_tell (file ∷ files) h = by (chosen file) ∙ ap (λ b. (bytes_eq file.0 path && chosen file) || b) (lines_tell files (second_is (is_one_line file.0) _ h))
+  pub lines_cut : (files : Tree) → are_lines files ≡ true → lines_of (chosen_lines chosen files) ≡ map (λ (f : List ℕ × List ℕ). path_line f.0) (filter chosen files)
+  lines_cut [] h = lines-nil
+  lines_cut (file ∷ files) h = by (chosen file) (lines_cut files (second_is (is_one_line file.0) _ h))
+    where
+      by : (b : Bool) → lines_of (chosen_lines chosen files) ≡ map (λ (f : List ℕ × List ℕ). path_line f.0) (filter chosen files)
+          → lines_of (flat_map (λ (f : List ℕ × List ℕ). path_line f.0) (if b then file ∷ filter chosen files else filter chosen files))
+          ≡ map (λ (f : List ℕ × List ℕ). path_line f.0) (if b then file ∷ filter chosen files else filter chosen files)
+      by true later = first_line file.0 (chosen_lines chosen files) (first_is (is_one_line file.0) _ h) ∙ ap (λ (lines : List (List ℕ)). path_line file.0 ∷ lines) later
+      by false later = later
+
+  -- a line among them
+  pub tells : (line : List ℕ) (files : Tree) → list_any (bytes_eq line) (map (λ (f : List ℕ × List ℕ). path_line f.0) (filter chosen files)) ≡ list_any (λ (f : List ℕ × List ℕ). bytes_eq (path_line f.0) line && chosen f) files
+  tells line [] = refl
+  tells line (file ∷ files) = by (chosen file) ∙ ap (λ b. (bytes_eq (path_line file.0) line && chosen file) || b) (tells line files)
     where
       none : (b : Bool) → (b && false) ≡ false
       none true = refl
@@ -117,50 +118,7 @@ module _ (chosen : List ℕ × List ℕ → Bool) (path : List ℕ) where
       one true = refl
       one false = refl
 
-      by : (b : Bool) → list_any (bytes_eq (path_line path)) (lines_of (flat_map (λ (f : List ℕ × List ℕ). path_line f.0) (if b then file ∷ filter chosen files else filter chosen files)))
-          ≡ ((bytes_eq file.0 path && b) || list_any (bytes_eq (path_line path)) (lines_of (chosen_lines chosen files)))
-      by true =
-          ap (list_any (bytes_eq (path_line path))) (first_line file.0 (chosen_lines chosen files) (first_is (is_one_line file.0) _ h))
-          ∙ ap (λ b. b || list_any (bytes_eq (path_line path)) (lines_of (chosen_lines chosen files))) (same_line path file.0 ∙ nat_list_eq_equiv.symm path file.0 ∙ sym (one (bytes_eq file.0 path)))
-      by false = ap (λ b. b || list_any (bytes_eq (path_line path)) (lines_of (chosen_lines chosen files))) (sym (none (bytes_eq file.0 path)))
-
--- ---- Choices that agree
-
-module _ (left right : List ℕ × List ℕ → Bool) where
-  -- the two agree on each file
-  abbrev pub Agree : Tree → Type 0
-  Agree [] = Unit {0}
-  Agree (file ∷ files) = (left file ≡ right file) × (Agree files)
-
-  any_same : (files : Tree) → Agree files → list_any left files ≡ list_any right files
-  any_same [] h = refl
-  any_same (file ∷ files) h = ap (λ b. b || list_any left files) h.0 ∙ ap (λ b. right file || b) (any_same files h.1)
-
-  chosen_same : (files : Tree) → Agree files → filter left files ≡ filter right files
-  chosen_same [] h = refl
-  chosen_same (file ∷ files) h = ap (λ b. if b then file ∷ filter left files else filter left files) h.0 ∙ ap (λ (rest : Tree). if right file then file ∷ rest else rest) (chosen_same files h.1)
-
-  pub lines_same : (files : Tree) → Agree files → lines_where left files ≡ lines_where right files
-  lines_same files h =
-      ap (λ b. if b then Some (chosen_lines left files) else None) (any_same files h)
-      ∙ ap (λ (chosen : Tree). if list_any right files then Some (flat_map (λ (f : List ℕ × List ℕ). path_line f.0) chosen) else None) (chosen_same files h)
-
-  pub agree : (files : Tree) → ((file : List ℕ × List ℕ) → left file ≡ right file) → Agree files
-  agree [] h = tt
-  agree (file ∷ files) h = (h file, agree files h)
-
--- ---- What is found, from what is known
-
-module _ (standing : Tree) (changes : List Change) (files index : Tree) (told known : Known) (sorted : IsTrue (is_sorted byte_order standing))
-    (tells : (line word : List ℕ) → knows told line word ≡ known_in line word standing)
-    (learns : (path word : List ℕ) → knows known (path_line path) word ≡ (if is_changed changes path then holds_in (file_at files path) word else knows told (path_line path) word))
-    (entries : (word : List ℕ) → file_at index word ≡ lines_where (λ (f : List ℕ × List ℕ). knows known (path_line f.0) word) files) where
-  pub found : (word : List ℕ) → file_at index word ≡ lines_where (λ (f : List ℕ × List ℕ). still_holds standing changes files word f.0) files
-  found word =
-      entries word
-      ∙ lines_same (λ f. knows known (path_line f.0) word) (λ f. still_holds standing changes files word f.0) files
-      (agree (λ f. knows known (path_line f.0) word) (λ f. still_holds standing changes files word f.0) files
-      (λ f. learns f.0 word ∙ ap (λ b. if is_changed changes f.0 then holds_in (file_at files f.0) word else b) (tells (path_line f.0) word ∙ told_is standing (path_line f.0) word (subst T (sym sorted) tt))))
-
-  pub is_found : IsTrue (is_sorted byte_order index) → IsTrue (is_sorted byte_order files) → IsTrue (list_all (λ (f : List ℕ × List ℕ). is_rel_path f.0) files) → IsTrue (list_all (λ (c : Change). is_rel_path (path_of c)) changes) → IsCarried standing changes files index
-  is_found ordered in_order paths changed_paths = record { ordered = ordered; entries = found; in_order = in_order; paths = paths; changed_paths = changed_paths }
+      by : (b : Bool) → list_any (bytes_eq line) (map (λ (f : List ℕ × List ℕ). path_line f.0) (if b then file ∷ filter chosen files else filter chosen files))
+          ≡ ((bytes_eq (path_line file.0) line && b) || list_any (bytes_eq line) (map (λ (f : List ℕ × List ℕ). path_line f.0) (filter chosen files)))
+      by true = ap (λ b. b || list_any (bytes_eq line) (map (λ (f : List ℕ × List ℕ). path_line f.0) (filter chosen files))) (nat_list_eq_equiv.symm line (path_line file.0) ∙ sym (one (bytes_eq (path_line file.0) line)))
+      by false = ap (λ b. b || list_any (bytes_eq line) (map (λ (f : List ℕ × List ℕ). path_line f.0) (filter chosen files))) (sym (none (bytes_eq (path_line file.0) line)))

@@ -1,8 +1,10 @@
 pub mod ByFileAnswers
+pub mod CarriedFound
 pub mod CarriedLaw
 pub mod CarriedLines
 pub mod FileLaw
-pub mod Known
+pub mod Filtered
+pub mod Carrying
 pub mod LinesWhere
 pub mod OneFile
 pub mod Paths

@@ -1,9 +1,9 @@
 -- The answers of kinds that know all the files that they make.
-use Rattle.std.proofs.Common.{◌≡◌, ℕ, Bool, true, false, ◌&&◌, ◌||◌, if◌then◌else◌, List, [], ◌∷◌, map, Ok, Option, Some, None, is_some, not, refl, sym, ap, subst, ◌∙◌, bytes_eq, IsTrue, T}
+use Rattle.std.proofs.Common.{◌≡◌, ℕ, Bool, true, false, ◌&&◌, ◌||◌, if◌then◌else◌, List, [], ◌∷◌, map, Ok, Option, Some, None, is_some, not, refl, sym, ap, subst, ◌∙◌, ◌⊎◌, inl, inr, bytes_eq, IsTrue, T}
 use Rattle.std.proofs.lemmas.List.Folds.{list_all-append}
 use Rattle.std.specs.List.{filter, list_any}
 use Rattle.std.specs.Option.{option_map, option_or}
-use Rattle.std.specs.Cmp.Lexicographic.{bytes_decides}
+use Rattle.std.specs.Cmp.Lexicographic.{bytes_decides, nat_list_eq_equiv}
 use Rattle.std.specs.FinMap.Entries.{is_sorted}
 use Rattle.gb_action.specs.Files.{byte_order, Tree, Trees, file_at, tree_at}
 use Rattle.gb_action.specs.Meanings.{Making}
@@ -16,8 +16,9 @@ use Rattle.gb_action.specs.declared.reply.Written.{Written}
 use Rattle.gb_action.specs.declared.request.Request.{Request}
 use Rattle.gb_kinds.specs.Builtin.{prints_changes}
 use Rattle.gb_kinds.specs.ByFile.{file_of, holds, where_new}
-use Rattle.gb_kinds.specs.Remade.{as_made, outdated_of, renewed, standing, IsRemade}
+use Rattle.gb_kinds.specs.Remade.{as_made, outdated, renewed, standing, IsRemade}
 use Rattle.gb_kinds.proofs.ByFileAnswers.{all_declared, both, removed_there, same_ok, written_there, is_output}
+use Rattle.gb_kinds.proofs.FileLaw.{itself}
 use Rattle.gb_kinds.proofs.RemadeLaw.{gone, leaves, names_differences, new_at, stood_at, wrote}
 use Rattle.gb_kinds.proofs.Writing.{written_at-by_file}
 
@@ -40,14 +41,53 @@ module _ (outputs : List OutputFiles) (declared : list_any (λ (output : OutputF
       list_all-append (λ (written : Written). is_output outputs declared written.output) (where_new file.0 (stands_at outputs target file.0) file.1) (renewed outputs made)
       ∙ both outputs declared _ _ (one_there file.0 (stands_at outputs target file.0) file.1) (renewed_there made)
 
-  outdated_there : (made files : Tree) → removed_there outputs declared (outdated_of made files) ≡ true
+  outdated_there : (made : Tree) (paths : List (List ℕ)) → removed_there outputs declared (outdated outputs made paths) ≡ true
   outdated_there made [] = refl
-  outdated_there made (file ∷ files) = by (not (is_some (file_at made file.0))) (outdated_there made files)
+  outdated_there made (path ∷ paths) = by (stale path) (outdated_there made paths)
     where
-      by : (b : Bool) → removed_there outputs declared (outdated_of made files) ≡ true
-          → removed_there outputs declared (map (λ (f : List ℕ × List ℕ). record { output = target; path = f.0 }) (if b then file ∷ filter (λ (f : List ℕ × List ℕ). not (is_some (file_at made f.0))) files else filter (λ (f : List ℕ × List ℕ). not (is_some (file_at made f.0))) files)) ≡ true
+      stale : List ℕ → Bool
+      stale p = is_some (stands_at outputs target p) && not (is_some (file_at made p))
+
+      by : (b : Bool) → removed_there outputs declared (outdated outputs made paths) ≡ true
+          → removed_there outputs declared (map (λ (p : List ℕ). record { output = target; path = p }) (if b then path ∷ filter stale paths else filter stale paths)) ≡ true
       by true later = both outputs declared _ _ declared later
       by false later = later
+
+-- ---- What is made at some paths
+
+-- the path was looked at, and what is made there is what is to be made, or it was not, and what stands there is
+abbrev pub IsRightAt : List OutputFiles → Tree → List (List ℕ) → Tree → List ℕ → Type 0
+IsRightAt outputs made looked_at now path =
+    ((list_any (bytes_eq path) looked_at ≡ true) × (file_at made path ≡ file_at now path))
+    ⊎ ((list_any (bytes_eq path) looked_at ≡ false) × (file_at made path ≡ None) × (file_at (standing outputs) path ≡ file_at now path))
+
+module _ (outputs : List OutputFiles) (made : Tree) (looked_at : List (List ℕ)) (now : Tree) (path : List ℕ) where
+  abbrev stood_there : Option (List ℕ)
+  stood_there = stands_at outputs target path
+
+  nothing_new : (o : Option (List ℕ)) → new_at o o ≡ None
+  nothing_new None = refl
+  nothing_new (Some bytes) = ap (λ b. if b then None else Some bytes) (itself bytes)
+
+  right_new : IsRightAt outputs made looked_at now path → new_at stood_there (file_at made path) ≡ new_at stood_there (file_at now path)
+  right_new (inl (there, same)) = ap (new_at stood_there) same
+  right_new (inr (apart, none, same)) = ap (new_at stood_there) none ∙ sym (ap (new_at stood_there) (sym (stood_at outputs target path ∙ same)) ∙ nothing_new stood_there)
+
+  not_gone : (b : Bool) → (b && not b) ≡ false
+  not_gone true = refl
+  not_gone false = refl
+
+  flipped : (paths : List (List ℕ)) → list_any (λ (p : List ℕ). bytes_eq p path) paths ≡ list_any (bytes_eq path) paths
+  flipped [] = refl
+  flipped (p ∷ paths) = ap (λ b. b || list_any (λ (q : List ℕ). bytes_eq q path) paths) (nat_list_eq_equiv.symm p path) ∙ ap (λ b. bytes_eq path p || b) (flipped paths)
+
+  right_gone : IsRightAt outputs made looked_at now path
+      → (list_any (λ (p : List ℕ). bytes_eq p path) looked_at && (is_some stood_there && not (is_some (file_at made path)))) ≡ (is_some stood_there && not (is_some (file_at now path)))
+  right_gone (inl (there, same)) =
+      ap (λ b. b && (is_some stood_there && not (is_some (file_at made path)))) (flipped looked_at ∙ there) ∙ ap (λ o. is_some stood_there && not (is_some o)) same
+  right_gone (inr (apart, none, same)) =
+      ap (λ b. b && (is_some stood_there && not (is_some (file_at made path)))) (flipped looked_at ∙ apart)
+      ∙ sym (ap (λ o. is_some stood_there && not (is_some o)) (sym (stood_at outputs target path ∙ same)) ∙ not_gone (is_some stood_there))
 
 -- ---- Answers
 
@@ -55,9 +95,10 @@ module _ (make : Tree → Tree) (sorted : (tree : Tree) → IsTrue (is_sorted by
   abbrev makes : Making
   makes arguments values trees = Ok (as_made (make (tree_at trees source)))
 
-  module _ (request : Request) (reply : Reply) (remade : Tree) (is_remade : IsRemade remade request reply)
+  module _ (request : Request) (reply : Reply) (remade : Tree) (looked_at : List (List ℕ)) (is_remade : IsRemade remade looked_at request reply)
       (made_in_full : request.changes.incremental ≡ false → remade ≡ make (tree_at request.files source))
-      (made_of_changes : request.changes.incremental ≡ true → (old : Trees) → FollowsOn makes request old → remade ≡ make (tree_at request.files source)) where
+      (in_order : request.changes.incremental ≡ true → IsTrue (is_sorted byte_order remade))
+      (right : request.changes.incremental ≡ true → (old : Trees) → FollowsOn makes request old → (path : List ℕ) → IsRightAt request.outputs remade looked_at (make (tree_at request.files source)) path) where
     abbrev now : Tree
     now = make (tree_at request.files source)
 
@@ -69,8 +110,8 @@ module _ (make : Tree → Tree) (sorted : (tree : Tree) → IsTrue (is_sorted by
         same (Some x) = refl
 
     module _ (changed : request.changes.incremental ≡ true) (old : Trees) (follows : FollowsOn makes request old) (after : List Written) (makes_after : made_for makes request ≡ Ok after) (output path : List ℕ) where
-      is : IsRemade now request reply
-      is = subst (λ (made : Tree). IsRemade made request reply) (made_of_changes changed old follows) is_remade
+      at : IsRightAt request.outputs remade looked_at now path
+      at = right changed old follows path
 
       abbrev stood : Option (List ℕ)
       stood = stands_at request.outputs target path
@@ -86,13 +127,16 @@ module _ (make : Tree → Tree) (sorted : (tree : Tree) → IsTrue (is_sorted by
           ∙ ap (λ b. if b then file_at (make (tree_at old source)) path else None) e
 
       written : written_at reply.writes output path ≡ (if bytes_eq target output then new_at stood (file_at now path) else None)
-      written = ap (λ writes. written_at writes output path) (is.writes changed) ∙ wrote request.outputs output path now (true_T _ (sorted (tree_at request.files source)))
+      written =
+          ap (λ writes. written_at writes output path) (is_remade.writes changed)
+          ∙ wrote request.outputs output path remade (true_T _ (in_order changed))
+          ∙ ap (λ o. if bytes_eq target output then o else None) (right_new request.outputs remade looked_at now path at)
 
       removed : is_removed reply.removes output path ≡ (bytes_eq target output && (is_some stood && not (is_some (file_at now path))))
       removed =
-          ap (λ removes. is_removed removes output path) (is.removes changed)
-          ∙ gone request.outputs output path now (standing request.outputs)
-          ∙ ap (λ o. bytes_eq target output && (is_some o && not (is_some (file_at now path)))) (sym (stood_at request.outputs output path))
+          ap (λ removes. is_removed removes output path) (is_remade.removes changed)
+          ∙ gone request.outputs output path remade looked_at
+          ∙ ap (λ b. bytes_eq target output && b) (right_gone request.outputs remade looked_at now path at)
 
       after_is : (if bytes_eq target output then file_at now path else None) ≡ written_at after output path
       after_is = sym (made_at (tree_at request.files source) output path) ∙ ap (λ files. written_at files output path) (same_ok makes_after)
@@ -123,7 +167,7 @@ module _ (make : Tree → Tree) (sorted : (tree : Tree) → IsTrue (is_sorted by
         by true e =
             both request.outputs declared _ _
             (subst (λ writes. written_there request.outputs declared writes ≡ true) (sym (is_remade.writes e)) (renewed_there request.outputs declared remade))
-            (subst (λ removes. removed_there request.outputs declared removes ≡ true) (sym (is_remade.removes e)) (outdated_there request.outputs declared remade (standing request.outputs)))
+            (subst (λ removes. removed_there request.outputs declared removes ≡ true) (sym (is_remade.removes e)) (outdated_there request.outputs declared remade looked_at))
         by false e =
             both request.outputs declared _ _
             (subst (λ writes. written_there request.outputs declared writes ≡ true) (sym (is_remade.in_full e)) (all_declared request.outputs declared (λ bytes. bytes) remade))

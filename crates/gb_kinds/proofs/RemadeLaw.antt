@@ -1,6 +1,6 @@
 -- Replies of kinds that know all the files that they make take what stands to those.
 use Rattle.std.proofs.Common.{◌≡◌, ◌≢◌, ℕ, Bool, true, false, true≢false, not, ◌&&◌, ◌||◌, T, if◌then◌else◌, List, [], ◌∷◌, map, Option, Some, None, is_some, unwrap_or, refl, sym, ap, subst, ◌∙◌, bytes_eq}
-use Rattle.std.specs.List.{filter}
+use Rattle.std.specs.List.{filter, list_any}
 use Rattle.std.specs.Option.{option_or, option_and_then}
 use Rattle.std.specs.Cmp.Lexicographic.{bytes_decides}
 use Rattle.std.specs.FinMap.Entries.{below_all, is_sorted}
@@ -10,7 +10,7 @@ use Rattle.gb_action.specs.Shapes.{target}
 use Rattle.gb_action.specs.declared.output.OutputFiles.{OutputFiles}
 use Rattle.gb_action.proofs.Found.{find-same, find-other}
 use Rattle.gb_kinds.specs.ByFile.{file_of, holds, where_new}
-use Rattle.gb_kinds.specs.Remade.{outdated_of, renewed, standing}
+use Rattle.gb_kinds.specs.Remade.{outdated, renewed, standing}
 use Rattle.gb_kinds.proofs.FileLaw.{and_false, and_true, itself, some_none, some_same}
 use Rattle.gb_kinds.proofs.Writing.{below, first, or_none, second, written_at-append}
 
@@ -76,44 +76,46 @@ module _ (outputs : List OutputFiles) (output path : List ℕ) where
 
   -- the path is removed
   module _ (made : Tree) where
-    pub gone : (files : Tree) → is_removed (outdated_of made files) output path ≡ (bytes_eq target output && (is_some (file_at files path) && not (is_some (file_at made path))))
+    -- a file stands at it, and none is made
+    abbrev stale : List ℕ → Bool
+    stale p = is_some (stands_at outputs target p) && not (is_some (file_at made p))
+
+    pub gone : (paths : List (List ℕ)) → is_removed (outdated outputs made paths) output path ≡ (bytes_eq target output && (list_any (λ p. bytes_eq p path) paths && stale path))
     gone [] = sym (and_false (bytes_eq target output) false refl)
-    gone (file ∷ files) =
-        step (not (is_some (file_at made file.0)))
-        ∙ ap (λ b. (not (is_some (file_at made file.0)) && (bytes_eq target output && bytes_eq file.0 path)) || b) (gone files)
-        ∙ by (bytes_eq file.0 path) refl
+    gone (p ∷ paths) =
+        step (stale p)
+        ∙ ap (λ b. (stale p && (bytes_eq target output && bytes_eq p path)) || b) (gone paths)
+        ∙ by (bytes_eq p path) refl
       where
-        step : (g : Bool) → is_removed (map (λ (f : List ℕ × List ℕ). record { output = target; path = f.0 }) (if g then file ∷ filter (λ (f : List ℕ × List ℕ). not (is_some (file_at made f.0))) files else filter (λ (f : List ℕ × List ℕ). not (is_some (file_at made f.0))) files)) output path
-            ≡ ((g && (bytes_eq target output && bytes_eq file.0 path)) || is_removed (outdated_of made files) output path)
+        step : (g : Bool) → is_removed (map (λ (q : List ℕ). record { output = target; path = q }) (if g then p ∷ filter stale paths else filter stale paths)) output path
+            ≡ ((g && (bytes_eq target output && bytes_eq p path)) || is_removed (outdated outputs made paths) output path)
         step true = refl
         step false = refl
 
-        once : (a t b : Bool) → ((a && (t && true)) || (t && (b && a))) ≡ (t && a)
+        once : (s t b : Bool) → ((s && (t && true)) || (t && (b && s))) ≡ (t && s)
         once true true b = refl
         once true false b = refl
         once false true true = refl
         once false true false = refl
         once false false b = refl
 
-        not_here : (g t : Bool) → (g && (t && false)) ≡ false
+        not_here : (s t : Bool) → (s && (t && false)) ≡ false
         not_here true true = refl
         not_here true false = refl
         not_here false t = refl
 
-        by : (b : Bool) → bytes_eq file.0 path ≡ b
-            → ((not (is_some (file_at made file.0)) && (bytes_eq target output && bytes_eq file.0 path)) || (bytes_eq target output && (is_some (file_at files path) && not (is_some (file_at made path)))))
-            ≡ (bytes_eq target output && (is_some (file_at (file ∷ files) path) && not (is_some (file_at made path))))
+        by : (b : Bool) → bytes_eq p path ≡ b
+            → ((stale p && (bytes_eq target output && bytes_eq p path)) || (bytes_eq target output && (list_any (λ q. bytes_eq q path) paths && stale path)))
+            ≡ (bytes_eq target output && (list_any (λ q. bytes_eq q path) (p ∷ paths) && stale path))
         by true e =
-            let is : file.0 ≡ path = (bytes_decides file.0 path).0 e in
-            ap (λ q. (not (is_some (file_at made q)) && (bytes_eq target output && bytes_eq file.0 path)) || (bytes_eq target output && (is_some (file_at files path) && not (is_some (file_at made path))))) is
-            ∙ ap (λ b. (not (is_some (file_at made path)) && (bytes_eq target output && b)) || (bytes_eq target output && (is_some (file_at files path) && not (is_some (file_at made path))))) e
-            ∙ once (not (is_some (file_at made path))) (bytes_eq target output) (is_some (file_at files path))
-            ∙ ap (λ o. bytes_eq target output && (is_some o && not (is_some (file_at made path)))) (sym (find-same path file files is))
+            ap (λ q. (stale q && (bytes_eq target output && bytes_eq p path)) || (bytes_eq target output && (list_any (λ q. bytes_eq q path) paths && stale path))) ((bytes_decides p path).0 e)
+            ∙ ap (λ b. (stale path && (bytes_eq target output && b)) || (bytes_eq target output && (list_any (λ q. bytes_eq q path) paths && stale path))) e
+            ∙ once (stale path) (bytes_eq target output) (list_any (λ q. bytes_eq q path) paths)
+            ∙ ap (λ b. bytes_eq target output && ((b || list_any (λ q. bytes_eq q path) paths) && stale path)) (sym e)
         by false e =
-            let other : file.0 ≢ path = λ is. true≢false (sym ((bytes_decides file.0 path).1 is) ∙ e) in
-            ap (λ b. (not (is_some (file_at made file.0)) && (bytes_eq target output && b)) || (bytes_eq target output && (is_some (file_at files path) && not (is_some (file_at made path))))) e
-            ∙ ap (λ b. b || (bytes_eq target output && (is_some (file_at files path) && not (is_some (file_at made path))))) (not_here (not (is_some (file_at made file.0))) (bytes_eq target output))
-            ∙ ap (λ o. bytes_eq target output && (is_some o && not (is_some (file_at made path)))) (sym (find-other path file files other))
+            ap (λ b. (stale p && (bytes_eq target output && b)) || (bytes_eq target output && (list_any (λ q. bytes_eq q path) paths && stale path))) e
+            ∙ ap (λ b. b || (bytes_eq target output && (list_any (λ q. bytes_eq q path) paths && stale path))) (not_here (stale p) (bytes_eq target output))
+            ∙ ap (λ b. bytes_eq target output && ((b || list_any (λ q. bytes_eq q path) paths) && stale path)) (sym e)
 
 -- ---- One path, by what stands and what is made there
 

@@ -51,6 +51,23 @@ found q (e ∷ es) =
       | false ↦ found q es
     ]
 
+pub file_in : (q : List ℕ) (index : Index) → file_at (index_files index) q ≡ option_map items (get byte_order index q)
+file_in q index = found q index.entries
+
+-- a file that is put
+module _ (word : List ℕ) (before after : Index) (key : List ℕ) (lines : Vec ℕ Global) (is : key ≡ word)
+    (puts : (q : List ℕ) → get byte_order after q ≡ cond (is_at (byte_order key) q) (Some lines) (get byte_order before q)) where
+  pub file_put : (other : List ℕ) → file_at (index_files after) other ≡ (if bytes_eq word other then Some lines.items else file_at (index_files before) other)
+  file_put other =
+      found other after.entries
+      ∙ ap (option_map items) (puts other ∙ ap (λ k. cond (is_at (byte_order k) other) (Some lines) (get byte_order before other)) is)
+      ∙ ap (λ b. option_map items (cond b (Some lines) (get byte_order before other))) (is_eq-slice_cmp word other)
+      ∙ by (bytes_eq word other)
+    where
+      by : (b : Bool) → option_map items (cond b (Some lines) (get byte_order before other)) ≡ (if b then Some lines.items else file_at (index_files before) other)
+      by true = refl
+      by false = sym (found other before.entries)
+
 pub is_found : (q : List ℕ) (es : Entries) → is_some (lookup (is_at (byte_order q)) es) ≡ is_some (file_at (seen es) q)
 is_found q es = by (lookup (is_at (byte_order q)) es) ∙ ap is_some (sym (found q es))
   where
@@ -95,7 +112,7 @@ or_nothing (Some x) v e = refl
 -- ---- One file's words
 
 -- a word is none of the later ones
-not_later : (word : List ℕ) (rest : List (List ℕ)) → AllByRecursion (λ (y : List ℕ). byte_order word y ≡ Less) rest → list_any (eq_by_cmp byte_order word) rest ≡ false
+pub not_later : (word : List ℕ) (rest : List (List ℕ)) → AllByRecursion (λ (y : List ℕ). byte_order word y ≡ Less) rest → list_any (eq_by_cmp byte_order word) rest ≡ false
 not_later word [] h = refl
 not_later word (y ∷ rest) h = ap (λ o. is_eq o || list_any (eq_by_cmp byte_order word) rest) h.0 ∙ not_later word rest h.1
 

@@ -1,9 +1,10 @@
 -- Words and indexes, worked out.
-use Rattle.std.proofs.Common.{◌≡◌, [], ◌∷◌, ◌++◌, replicate, codes, Some, None, refl}
+use Rattle.std.proofs.Common.{◌≡◌, [], ◌∷◌, ◌++◌, true, false, ◌&&◌, ◌||◌, List, replicate, codes, refl}
 use Rattle.bstr.specs.Text.{line_len, lines_from}
 use Rattle.gb_action.specs.Files.{Tree}
+use Rattle.gb_action.specs.declared.change.Change.{Change}
 use Rattle.gb_action.specs.declared.change.Change.TheVariants.{Modified}
-use Rattle.gb_kinds.specs.Carried.{lines_where, still_holds}
+use Rattle.gb_kinds.specs.Carried.{is_carried, is_looked_at}
 use Rattle.gb_kinds.specs.Words.{index_of, words_of}
 
 pub two_files : index_of ((codes "a", codes "red Blue") ∷ (codes "b", codes "blue") ∷ []) ≡ (codes "blue", codes "a\nb\n") ∷ (codes "red", codes "a\n") ∷ []
@@ -22,23 +23,35 @@ longest = refl
 pub too_long : words_of (replicate 65 88) ≡ []
 too_long = refl
 
--- ---- By changes: the old index has the word w at both files, and b was modified
+-- ---- By changes: the old index has the word w at both files and v at a, and b was modified
 
 abbrev old_index : Tree
-old_index = (codes "w", codes "a\nb\n") ∷ []
+old_index = (codes "v", codes "a\n") ∷ (codes "w", codes "a\nb\n") ∷ []
 
 abbrev files : Tree
 files = (codes "a", codes "any") ∷ (codes "b", codes "x") ∷ []
 
-pub stays_and_leaves : lines_where (λ file. still_holds old_index (Modified (codes "b") ∷ []) files (codes "w") file.0) files ≡ Some (codes "a\n")
-unfolding line_len lines_from
-stays_and_leaves = refl
+abbrev changed : List Change
+changed = Modified (codes "b") ∷ []
 
-pub comes : lines_where (λ file. still_holds old_index (Modified (codes "b") ∷ []) files (codes "x") file.0) files ≡ Some (codes "b\n")
+pub stays : is_carried old_index changed files (codes "w") (codes "a\n") ≡ true
+unfolding line_len lines_from
+stays = refl
+
+pub leaves : is_carried old_index changed files (codes "w") (codes "b\n") ≡ false
+unfolding line_len lines_from
+leaves = refl
+
+pub comes : is_carried old_index changed files (codes "x") (codes "b\n") ≡ true
 unfolding line_len lines_from
 comes = refl
 
--- the bytes of a file that did not change are not asked
-pub not_read : lines_where (λ file. still_holds old_index (Modified (codes "b") ∷ []) files (codes "any") file.0) files ≡ None
+-- words that b holds or held are looked at,
+pub are_looked_at : (is_looked_at old_index changed files (codes "w") && is_looked_at old_index changed files (codes "x")) ≡ true
 unfolding line_len lines_from
-not_read = refl
+are_looked_at = refl
+
+-- and no others; the bytes of a file that did not change are not asked
+pub are_not : (is_looked_at old_index changed files (codes "v") || is_looked_at old_index changed files (codes "any")) ≡ false
+unfolding line_len lines_from
+are_not = refl

@@ -1,9 +1,8 @@
 -- The index of words from the old index and what changed.
-use Rattle.std.specs.Prelude.{◌≡◌, ℕ, Bool, true, false, List, [], if◌then◌else◌, bytes_eq, IsTrue, Option, Some, None, unwrap_or}
-use Rattle.std.specs.BTreeMap.{BTreeMap, get}
-use Rattle.std.specs.BTreeSet.{BTreeSet, contains}
+use Rattle.std.specs.Prelude.{◌≡◌, ℕ, Bool, true, false, not, ◌&&◌, ◌||◌, List, [], ◌∷◌, map, if◌then◌else◌, bytes_eq, IsTrue, Option, Some, None, unwrap_or}
 use Rattle.std.specs.FinMap.Entries.{is_sorted}
-use Rattle.std.specs.List.{filter, flat_map, list_all, list_any}
+use Rattle.std.specs.List.{concat, filter, flat_map, list_all, list_any}
+use Rattle.std.specs.List.Sorted.{IsStrictlySortedBy}
 use Rattle.bstr.specs.Text.{lines_of}
 use Rattle.gb_core.specs.Place.{is_rel_path}
 use Rattle.gb_action.specs.Files.{byte_order, Tree, file_at, tree_at}
@@ -20,52 +19,64 @@ path_of (Added path) = path
 path_of (Modified path) = path
 path_of (Removed path) = path
 
--- something became of the path
-abbrev pub is_changed : List Change → List ℕ → Bool
-is_changed changes path = list_any (λ change. bytes_eq (path_of change) path) changes
+-- the line tells a path that changed
+abbrev pub is_of_change : List Change → List ℕ → Bool
+is_of_change changes line = list_any (λ change. bytes_eq (path_line (path_of change)) line) changes
 
 -- there is a file, and it holds the word
 abbrev pub holds_in : Option (List ℕ) → List ℕ → Bool
 holds_in None word = false
 holds_in (Some bytes) word = holds_word word bytes
 
--- the old index has this line at the word
-abbrev pub is_told : Tree → List ℕ → List ℕ → Bool
-is_told index line word = list_any (bytes_eq line) (lines_of (unwrap_or (file_at index word) []))
+-- the lines that the old index has at the word
+abbrev pub told_at : Tree → List ℕ → List (List ℕ)
+told_at index word = lines_of (unwrap_or (file_at index word) [])
 
--- the file at the path holds the word: by its bytes where it changed, or else by the old index
-abbrev pub still_holds : Tree → List Change → Tree → List ℕ → List ℕ → Bool
-still_holds index changes files word path =
-    if is_changed changes path then holds_in (file_at files path) word else is_told index (path_line path) word
+-- a file that changed holds the word now, or held it by the old index
+abbrev pub is_looked_at : Tree → List Change → Tree → List ℕ → Bool
+is_looked_at old changes files word = list_any (λ change. holds_in (file_at files (path_of change)) word) changes || list_any (is_of_change changes) (told_at old word)
 
--- the paths of the files of which it is so, each on a line, if there is one
-abbrev pub lines_where : (List ℕ × List ℕ → Bool) → Tree → Option (List ℕ)
-lines_where chosen files = if list_any chosen files then Some (flat_map (λ file. path_line file.0) (filter chosen files)) else None
+-- The line stays, or it is new: the old index has it and it tells no path that changed, or it tells one whose file holds the
+-- word now.
+abbrev pub is_carried : Tree → List Change → Tree → List ℕ → List ℕ → Bool
+is_carried old changes files word line =
+    (list_any (bytes_eq line) (told_at old word) && not (is_of_change changes line))
+    || list_any (λ change. bytes_eq (path_line (path_of change)) line && holds_in (file_at files (path_of change)) word) changes
 
--- What is found by the old index, the changes, and the files that changed: at each word the paths that still hold it. The
--- files are in order, and all paths that were met are paths.
-pub record IsCarried (old : Tree) (changes : List Change) (files index : Tree) : Type 0 where
+-- the lines as a file, if there are any
+abbrev pub file_of_lines : List (List ℕ) → Option (List ℕ)
+file_of_lines [] = None
+file_of_lines (line ∷ lines) = Some (concat (line ∷ lines))
+
+-- the file of the lines of which it is so, in order, each once
+pub record IsEntry (is_there : List ℕ → Bool) (entry : Option (List ℕ)) : Type 0 where
+  pub lines : List (List ℕ)
+  pub in_order : IsStrictlySortedBy byte_order lines
+  pub exactly : (line : List ℕ) → list_any (bytes_eq line) lines ≡ is_there line
+  pub joined : entry ≡ file_of_lines lines
+
+-- What is found by the old index, the changes, and the files that changed: at each word that is looked at the lines that are
+-- carried, and nothing at others. All paths that were met are paths.
+pub record IsCarried (old : Tree) (changes : List Change) (files : Tree) (looked_at : List ℕ → Bool) (index : Tree) : Type 0 where
+  pub looked : (word : List ℕ) → looked_at word ≡ is_looked_at old changes files word
   pub ordered : IsTrue (is_sorted byte_order index)
-  pub entries : (word : List ℕ) → file_at index word ≡ lines_where (λ file. still_holds old changes files word file.0) files
+  pub entries : (word : List ℕ) → is_looked_at old changes files word ≡ true → IsEntry (is_carried old changes files word) (file_at index word)
+  pub others : (word : List ℕ) → is_looked_at old changes files word ≡ false → file_at index word ≡ None
   pub in_order : IsTrue (is_sorted byte_order files)
   pub paths : IsTrue (list_all (λ file. is_rel_path file.0) files)
   pub changed_paths : IsTrue (list_all (λ change. is_rel_path (path_of change)) changes)
 
 -- the index that a request asks for: that of all its files, or what is found by what changed
-pub record IsIndexFor (request : Request) (index : Tree) : Type 0 where
+pub record IsIndexFor (request : Request) (looked_at : List ℕ → Bool) (index : Tree) : Type 0 where
   pub in_full : request.changes.incremental ≡ false → index ≡ index_of (tree_at request.files source)
-  pub carried : request.changes.incremental ≡ true → IsCarried (standing request.outputs) (source_changes request.changes.lists) (tree_at request.files source) index
+  pub carried : request.changes.incremental ≡ true → IsCarried (standing request.outputs) (source_changes request.changes.lists) (tree_at request.files source) looked_at index
 
 -- ---- As it is built
 
--- the words that are known of lines
-abbrev pub Known : Type 0
-Known = BTreeMap (List ℕ) (BTreeSet (List ℕ))
+-- the changed paths as those of files
+abbrev pub as_files : List Change → Tree
+as_files changes = map (λ change. (path_of change, [])) changes
 
-abbrev pub has_word : Option (BTreeSet (List ℕ)) → List ℕ → Bool
-has_word None word = false
-has_word (Some words) word = contains byte_order words word
-
--- the word is known of the line
-abbrev pub knows : Known → List ℕ → List ℕ → Bool
-knows known line word = has_word (get byte_order known line) word
+-- the paths of the files of which it is so, each on a line, if there is one
+abbrev pub lines_where : (List ℕ × List ℕ → Bool) → Tree → Option (List ℕ)
+lines_where chosen files = if list_any chosen files then Some (flat_map (λ file. path_line file.0) (filter chosen files)) else None

@@ -1,5 +1,5 @@
 -- Kinds that know all the files that they make: what they reply to changes is found by what stands.
-use Rattle.std.specs.Prelude.{◌≡◌, not, true, false, List, [], map, unwrap_or, is_some}
+use Rattle.std.specs.Prelude.{◌≡◌, ℕ, not, ◌&&◌, true, false, List, [], map, unwrap_or, is_some}
 use Rattle.std.specs.List.{filter, flat_map}
 use Rattle.gb_action.specs.Files.{Tree, file_at}
 use Rattle.gb_action.specs.Outputs.{files_of, stands_at}
@@ -19,23 +19,19 @@ as_made made = by_file (λ bytes. bytes) made
 abbrev pub standing : List OutputFiles → Tree
 standing outputs = unwrap_or (files_of outputs target) []
 
--- the paths of files that are made no more
-abbrev pub outdated_of : Tree → Tree → List OutputPath
-outdated_of made files = map (λ file. record { output = target; path = file.0 }) (filter (λ file. not (is_some (file_at made file.0))) files)
-
--- the paths that stand and are made no more
-abbrev pub outdated : List OutputFiles → Tree → List OutputPath
-outdated outputs made = outdated_of made (standing outputs)
+-- those of the paths at which a file stands and none is made
+abbrev pub outdated : List OutputFiles → Tree → List (List ℕ) → List OutputPath
+outdated outputs made paths = map (λ path. record { output = target; path = path }) (filter (λ path. is_some (stands_at outputs target path) && not (is_some (file_at made path))) paths)
 
 -- the files that do not stand so already
 abbrev pub renewed : List OutputFiles → Tree → List Written
 renewed outputs made = flat_map (λ file. where_new file.0 (stands_at outputs target file.0) file.1) made
 
--- The reply of a kind that makes these files: all of them, or those that do not stand so, and it removes what is made no
--- more. It prints a line for each change.
-pub record IsRemade (made : Tree) (request : Request) (reply : Reply) : Type 0 where
+-- The reply of a kind that makes these files: all of them, or, where it looked at some paths alone, those of them that do not
+-- stand so, and it removes what stands at one of the paths and is made no more. It prints a line for each change.
+pub record IsRemade (made : Tree) (looked_at : List (List ℕ)) (request : Request) (reply : Reply) : Type 0 where
   pub keeps : request.changes.incremental ≡ false → reply.removes ≡ []
   pub in_full : request.changes.incremental ≡ false → reply.writes ≡ as_made made
-  pub removes : request.changes.incremental ≡ true → reply.removes ≡ outdated request.outputs made
+  pub removes : request.changes.incremental ≡ true → reply.removes ≡ outdated request.outputs made looked_at
   pub writes : request.changes.incremental ≡ true → reply.writes ≡ renewed request.outputs made
   pub lines : reply.lines ≡ map change_line (source_changes request.changes.lists)

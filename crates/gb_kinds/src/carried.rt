@@ -1,102 +1,99 @@
 //! The index of words from the old index, the changes, and the files that changed.
-ghost use Rattle.std.specs.Prelude.{◌≡◌, ◌||◌, ◌&&◌, bytes_eq, if◌then◌else◌, IfOk, OnOk, IsTrue};
+ghost use Rattle.std.specs.Prelude.{◌≡◌, ◌||◌, ◌&&◌, [], true, false, not, bytes_eq, if◌then◌else◌, unwrap_or, IfOk, OnOk, IsTrue};
 ghost use Rattle.std.specs.BTreeSet.{contains};
 ghost use Rattle.std.specs.FinMap.Entries.{is_sorted};
-ghost use Rattle.std.specs.List.{list_all, list_any};
-ghost use Rattle.std.specs.Option.{option_copied};
+ghost use Rattle.std.specs.List.{concat, list_all, list_any};
+ghost use Rattle.std.specs.List.Sorted.{IsStrictlySortedBy};
+ghost use Rattle.std.specs.Option.{option_copied, option_or};
 ghost use Rattle.bstr.specs.Text.{lines_of};
 ghost use Rattle.gb_core.specs.Place.{is_rel_path};
 ghost use Rattle.gb_action.specs.Files.{byte_order, file_at, tree_at};
-ghost use Rattle.gb_action.specs.Shapes.{source as source_is};
+ghost use Rattle.gb_action.specs.Outputs.{stands_at};
+ghost use Rattle.gb_action.specs.Shapes.{source as source_is, target};
 ghost use Rattle.gb_kinds.specs.ByFile.{source_changes};
-ghost use Rattle.gb_kinds.specs.Carried.{holds_in, is_changed, knows, lines_where, path_of, IsCarried};
+ghost use Rattle.gb_kinds.specs.Carried.{as_files, file_of_lines, holds_in, is_of_change, lines_where, path_of, IsCarried, IsEntry};
 ghost use Rattle.gb_kinds.specs.Remade.{standing as standing_in};
 ghost use Rattle.gb_kinds.specs.Words.{index_files, path_line, with_path};
 
 use crate::index::{Index, add_path};
 use crate::line::Line;
 use crate::names::{output_name, source_name};
-use crate::remade::standing;
+use crate::remade::{Remade, standing};
 use crate::source;
 use crate::words::{Words, words_of};
 use bstr::ByteSlice;
 use gb_action::change::Change;
 use gb_action::request::Request;
 use gb_core::bytes::Bytes;
+use gb_core::name::Name;
 use gb_core::place::RelPath;
 use std::alloc::{AllocError, Global};
 use std::collections::{BTreeMap, BTreeSet};
 
-/// The words that are known of lines.
-type Known = BTreeMap<Line, Words>;
+/// Lines in byte order, each once.
+type Lines = BTreeSet<Line>;
 
-/// The index of the files as they are now. No bytes of a file that did not change are read: takes
-/// n log n steps in the bytes of the old index, of the changed files, and of the paths of all files.
-pub fn carried_index(alloc: Global, request: &Request) -> Result<Index, AllocError>
-    ensures { IfOk result (λ index. IsCarried (standing_in request.now.outputs) (source_changes request.now.changes.lists) (tree_at request.now.files source_is) (index_files index)) }
+/// What is known of changed files.
+#[derive(Drop)]
+struct Changed {
+    /// The lines that tell their paths.
+    lines: Lines,
+    /// The words that they hold now.
+    words: Words,
+    /// For each of these words the files that hold it.
+    index: Index,
+}
+
+/// The index at the words that changed files hold or held. Of the files that did not change no
+/// bytes are read. Takes n log n steps in the bytes of the old index and of the changed files.
+pub fn carried_index(alloc: Global, request: &Request) -> Result<Remade, AllocError>
+    ensures { IfOk result (λ remade. IsCarried (standing_in request.now.outputs) (source_changes request.now.changes.lists) (tree_at request.now.files source_is) (contains byte_order remade.looked_at) (index_files remade.made)) }
 {
     let name = source_name(alloc)?;
     let output = output_name(alloc)?;
-    let mut known = known_of(alloc, standing(request, &output))?;
-    let changes = source::changes_of(request, &name);
-    learn_changes(alloc, &mut known, request, changes)?;
-    let index = index_known(alloc, source::files_of(request, &name), &known)?;
-    Ok(index)
+    meet_paths(source::files_of(request, &name));
+    let changed = changed_of(alloc, request, source::changes_of(request, &name))?;
+    let Changed {
+        lines,
+        words: mut looked_at,
+        index,
+    } = changed;
+    add_told(alloc, &mut looked_at, standing(request, &output), &lines)?;
+    let made = index_at(alloc, request, &looked_at, &lines, &index)?;
+    Ok(Remade { looked_at, made })
 }
 
-/// The words of each line of an index.
-fn known_of(alloc: Global, index: &[(RelPath, Bytes)]) -> Result<Known, AllocError>
-    ensures { IfOk result (λ known. (line word : _) → knows known line word ≡ list_any (λ file. bytes_eq file.0 word && list_any (bytes_eq line) (lines_of file.1)) index.now) }
+/// That each path is one is known of a path only where it is met.
+fn meet_paths(files: &[(RelPath, Bytes)])
+    ensures { IsTrue (list_all (λ file. is_rel_path file.0) files.now) }
 {
-    let mut known = BTreeMap::new(alloc);
-    for (word, lines) in index {
-        add_lines(alloc, &mut known, word, lines.as_slice())?;
+    for (path, _) in files {
+        path.as_str();
     }
-    Ok(known)
 }
 
-/// Adds the word at each line.
-fn add_lines(
-    alloc: Global,
-    known: &mut Known,
-    word: &RelPath,
-    lines: &[u8],
-) -> Result<(), AllocError>
-    ensures { OnOk result ((line other : _) → knows known.new line other ≡ (knows known.old line other || (bytes_eq word.now other && list_any (bytes_eq line) (lines_of lines.now)))) }
-{
-    for line in lines.lines_with_terminator() {
-        add_word(alloc, known, line, word)?;
-    }
-    Ok(())
-}
-
-/// Adds the word at a line.
-fn add_word(alloc: Global, known: &mut Known, line: &[u8], word: &RelPath) -> Result<(), AllocError>
-    ensures { OnOk result ((found other : _) → knows known.new found other ≡ (knows known.old found other || (bytes_eq word.now other && bytes_eq found line.now))) }
-{
-    let line = Line::from_slice(alloc, line)?;
-    let mut words = known.remove(&line).unwrap_or(BTreeSet::new(alloc));
-    words.insert(word.copy()?)?;
-    known.insert(line, words)?;
-    Ok(())
-}
-
-/// Puts the words that changed files hold now in place of those they held.
-fn learn_changes(
-    alloc: Global,
-    known: &mut Known,
-    request: &Request,
-    changes: &[Change],
-) -> Result<(), AllocError>
-    ensures words { OnOk result ((path word : _) → knows known.new (path_line path) word ≡ (if is_changed changes.now path then holds_in (file_at (tree_at request.now.files source_is) path) word else knows known.old (path_line path) word)) }
-    ensures paths { OnOk result (IsTrue (list_all (λ change. is_rel_path (path_of change)) changes.now)) }
+fn changed_of(alloc: Global, request: &Request, changes: &[Change]) -> Result<Changed, AllocError>
+    ensures lines { IfOk result (λ changed. (line : _) → contains byte_order changed.lines line ≡ is_of_change changes.now line) }
+    ensures words { IfOk result (λ changed. (word : _) → contains byte_order changed.words word ≡ list_any (λ change. holds_in (file_at (tree_at request.now.files source_is) (path_of change)) word) changes.now) }
+    ensures entries { IfOk result (λ changed. (word : _) → file_at (index_files changed.index) word ≡ lines_where (λ file. holds_in (file_at (tree_at request.now.files source_is) file.0) word) (as_files changes.now)) }
+    ensures paths { IfOk result (λ _. IsTrue (list_all (λ change. is_rel_path (path_of change)) changes.now)) }
 {
     let name = source_name(alloc)?;
+    let mut changed = Changed {
+        lines: BTreeSet::new(alloc),
+        words: BTreeSet::new(alloc),
+        index: BTreeMap::new(alloc),
+    };
     for change in changes {
         let path = path_of(change);
-        learn(alloc, known, path, source::file_of(request, &name, path))?;
+        add_change(
+            alloc,
+            &mut changed,
+            path,
+            source::file_of(request, &name, path),
+        )?;
     }
-    Ok(())
+    Ok(changed)
 }
 
 fn path_of(change: &Change) -> &RelPath
@@ -107,18 +104,33 @@ fn path_of(change: &Change) -> &RelPath
     }
 }
 
-/// Puts the words of a file in place of those that were known of its path.
-fn learn(
+/// Adds a path, with the file that there is now.
+fn add_change(
     alloc: Global,
-    known: &mut Known,
+    changed: &mut Changed,
     path: &RelPath,
     contents: Option<&Bytes>,
 ) -> Result<(), AllocError>
-    ensures words { OnOk result ((other word : _) → knows known.new (path_line other) word ≡ (if bytes_eq path.now other then holds_in (option_copied contents.entry) word else knows known.old (path_line other) word)) }
+    requires { IsTrue (is_sorted byte_order (index_files changed.old.index)) }
+    ensures ordered { OnOk result (IsTrue (is_sorted byte_order (index_files changed.new.index))) }
+    ensures lines { OnOk result ((line : _) → contains byte_order changed.new.lines line ≡ (contains byte_order changed.old.lines line || bytes_eq (path_line path.now) line)) }
+    ensures words { OnOk result ((word : _) → contains byte_order changed.new.words word ≡ (contains byte_order changed.old.words word || holds_in (option_copied contents.entry) word)) }
+    ensures entries { OnOk result ((word : _) → file_at (index_files changed.new.index) word ≡ with_path path.now (holds_in (option_copied contents.entry) word) (file_at (index_files changed.old.index) word)) }
     ensures path { OnOk result (IsTrue (is_rel_path path.now)) }
 {
     let words = words_in(alloc, contents)?;
-    known.insert(Line::of_path(alloc, path)?, words)?;
+    add_path(alloc, &mut changed.index, path, &words)?;
+    changed.lines.insert(Line::of_path(alloc, path)?)?;
+    add_words(&mut changed.words, words)?;
+    Ok(())
+}
+
+fn add_words(words: &mut Words, more: Words) -> Result<(), AllocError>
+    ensures { OnOk result ((word : _) → contains byte_order words.new word ≡ (contains byte_order words.old word || contains byte_order more word)) }
+{
+    for word in more {
+        words.insert(word)?;
+    }
     Ok(())
 }
 
@@ -132,38 +144,147 @@ fn words_in(alloc: Global, contents: Option<&Bytes>) -> Result<Words, AllocError
     }
 }
 
-/// The files' paths at the words that are known of them.
-fn index_known(
+/// Adds the words at which an index tells one of the lines.
+fn add_told(
     alloc: Global,
-    files: &[(RelPath, Bytes)],
-    known: &Known,
+    words: &mut Words,
+    index: &[(RelPath, Bytes)],
+    lines: &Lines,
+) -> Result<(), AllocError>
+    ensures { OnOk result ((word : _) → contains byte_order words.new word ≡ (contains byte_order words.old word || list_any (λ file. bytes_eq file.0 word && list_any (contains byte_order lines.now) (lines_of file.1)) index.now)) }
+{
+    for (word, told) in index {
+        add_where_told(alloc, words, word, told.as_slice(), lines)?;
+    }
+    Ok(())
+}
+
+fn add_where_told(
+    alloc: Global,
+    words: &mut Words,
+    word: &RelPath,
+    told: &[u8],
+    lines: &Lines,
+) -> Result<(), AllocError>
+    ensures { OnOk result ((other : _) → contains byte_order words.new other ≡ (contains byte_order words.old other || (bytes_eq word.now other && list_any (contains byte_order lines.now) (lines_of told.now)))) }
+{
+    if tells_one(alloc, told, lines)? {
+        words.insert(word.copy()?)?;
+    }
+    Ok(())
+}
+
+/// Whether one of the lines is told.
+fn tells_one(alloc: Global, told: &[u8], lines: &Lines) -> Result<bool, AllocError>
+    ensures { IfOk result (λ tells. tells ≡ list_any (contains byte_order lines.now) (lines_of told.now)) }
+{
+    for line in told.lines_with_terminator() {
+        if lines.contains(&Line::from_slice(alloc, line)?) {
+            return Ok(true);
+        }
+    }
+    Ok(false)
+}
+
+/// The files at the words: what stood without the lines that are gone, and what is new.
+fn index_at(
+    alloc: Global,
+    request: &Request,
+    words: &Words,
+    gone: &Lines,
+    new: &Index,
 ) -> Result<Index, AllocError>
     ensures ordered { IfOk result (λ index. IsTrue (is_sorted byte_order (index_files index))) }
-    ensures entries { IfOk result (λ index. (word : _) → file_at (index_files index) word ≡ lines_where (λ file. knows known.now (path_line file.0) word) files.now) }
-    ensures paths { IfOk result (λ _. IsTrue (list_all (λ file. is_rel_path file.0) files.now)) }
+    ensures entries { IfOk result (λ index. (word : _) → contains byte_order words.now word ≡ true → IsEntry (λ line. (list_any (bytes_eq line) (lines_of (unwrap_or (stands_at request.now.outputs target word) [])) && not (contains byte_order gone.now line)) || list_any (bytes_eq line) (lines_of (unwrap_or (file_at (index_files new.now) word) []))) (file_at (index_files index) word)) }
+    ensures others { IfOk result (λ index. (word : _) → contains byte_order words.now word ≡ false → file_at (index_files index) word ≡ None) }
 {
+    let output = output_name(alloc)?;
     let mut index = BTreeMap::new(alloc);
-    for (path, _) in files {
-        add_known(alloc, &mut index, path, known)?;
+    for word in words.iter() {
+        let stood = stood_at(request, &output, word);
+        let lines = carried_lines(alloc, stood, gone, told_at(new, word))?;
+        add_entry(alloc, &mut index, word, &lines)?;
     }
     Ok(index)
 }
 
-/// Adds the path at the words that are known of it.
-fn add_known(
+/// What stood at a word.
+fn stood_at<'a>(request: &'a Request, output: &Name, word: &RelPath) -> &'a [u8]
+    ensures { result.now ≡ unwrap_or (stands_at request.now.outputs output.now word.now) [] }
+{
+    match request.outputs.file_at(output, word) {
+        Some(bytes) => bytes.as_slice(),
+        None => &[],
+    }
+}
+
+/// What an index tells at a word.
+fn told_at<'a>(index: &'a Index, word: &RelPath) -> &'a [u8]
+    ensures { result.now ≡ unwrap_or (file_at (index_files index.now) word.now) [] }
+{
+    match index.get(word) {
+        Some(lines) => lines.as_slice(),
+        None => &[],
+    }
+}
+
+/// The lines that stood without those that are gone, and the new ones.
+fn carried_lines(alloc: Global, stood: &[u8], gone: &Lines, new: &[u8]) -> Result<Lines, AllocError>
+    ensures { IfOk result (λ lines. (line : _) → contains byte_order lines line ≡ ((list_any (bytes_eq line) (lines_of stood.now) && not (contains byte_order gone.now line)) || list_any (bytes_eq line) (lines_of new.now))) }
+{
+    let mut lines = BTreeSet::new(alloc);
+    add_others(alloc, &mut lines, stood, gone)?;
+    for line in new.lines_with_terminator() {
+        lines.insert(Line::from_slice(alloc, line)?)?;
+    }
+    Ok(lines)
+}
+
+/// Adds the lines but those that are gone.
+fn add_others(
+    alloc: Global,
+    lines: &mut Lines,
+    stood: &[u8],
+    gone: &Lines,
+) -> Result<(), AllocError>
+    ensures { OnOk result ((line : _) → contains byte_order lines.new line ≡ (contains byte_order lines.old line || (list_any (bytes_eq line) (lines_of stood.now) && not (contains byte_order gone.now line)))) }
+{
+    for line in stood.lines_with_terminator() {
+        let line = Line::from_slice(alloc, line)?;
+        if !gone.contains(&line) {
+            lines.insert(line)?;
+        }
+    }
+    Ok(())
+}
+
+/// Adds a file of the lines at the word, if there are any.
+fn add_entry(
     alloc: Global,
     index: &mut Index,
-    path: &RelPath,
-    known: &Known,
+    word: &RelPath,
+    lines: &Lines,
 ) -> Result<(), AllocError>
     requires { IsTrue (is_sorted byte_order (index_files index.old)) }
     ensures ordered { OnOk result (IsTrue (is_sorted byte_order (index_files index.new))) }
-    ensures paths { OnOk result ((word : _) → file_at (index_files index.new) word ≡ with_path path.now (knows known.now (path_line path.now) word) (file_at (index_files index.old) word)) }
-    ensures path { OnOk result (IsTrue (is_rel_path path.now)) }
+    ensures in_order { OnOk result (IsStrictlySortedBy byte_order lines.now.keys) }
+    ensures entries { OnOk result ((other : _) → file_at (index_files index.new) other ≡ (if bytes_eq word.now other then option_or (file_of_lines lines.now.keys) (file_at (index_files index.old) other) else file_at (index_files index.old) other)) }
 {
-    let line = Line::of_path(alloc, path)?;
-    match known.get(&line) {
-        Some(words) => add_path(alloc, index, path, words),
-        None => Ok(()),
+    let told = joined(alloc, lines)?;
+    if !lines.is_empty() {
+        index.insert(word.copy()?, told)?;
     }
+    Ok(())
+}
+
+/// The lines, one after another.
+fn joined(alloc: Global, lines: &Lines) -> Result<Vec<u8>, AllocError>
+    ensures bytes { IfOk result (λ bytes. bytes.items ≡ concat lines.now.keys) }
+    ensures in_order { IfOk result (λ _. IsStrictlySortedBy byte_order lines.now.keys) }
+{
+    let mut bytes = Vec::new(alloc);
+    for line in lines.iter() {
+        bytes.extend_from_slice(line.as_slice())?;
+    }
+    Ok(bytes)
 }

@@ -1,5 +1,7 @@
 //! The kinds that read files, and the one that adds a file.
 ghost use Rattle.std.specs.Prelude.{◌≡◌, IfOk};
+ghost use Rattle.std.specs.BTreeSet.{contains};
+ghost use Rattle.gb_action.specs.Files.{byte_order};
 ghost use Rattle.gb_action.specs.Replies.{Answers};
 ghost use Rattle.gb_action.specs.Shapes.{IsAsked};
 ghost use Rattle.gb_kinds.specs.Builtin.{builtin_shape, builtin_makes, builtin_prints};
@@ -11,12 +13,13 @@ use crate::arguments::{first_text, second_text};
 use crate::by_file::reply_by_file;
 use crate::carried::carried_index;
 use crate::edit::FileEdit;
-use crate::index::{Index, index_of};
+use crate::index::index_of;
 use crate::names::{own_path, rel_path, source_name};
 use crate::one_file::one_file;
-use crate::remade::reply_remade;
+use crate::remade::{Remade, reply_remade};
 use crate::shapes::{ADD_FILE, CONCAT, COPY_FILES, KEEP_LINES, REPLACE_TOKENS, SUMS, WORD_INDEX};
 use crate::source::files_of;
+use crate::words::Words;
 use gb_action::reply::{ActionFault, Reply};
 use gb_action::request::Request;
 use gb_core::bytes::Bytes;
@@ -66,18 +69,21 @@ pub fn word_index(alloc: Global, request: &Request) -> Result<Reply, ActionFault
     requires { IsAsked (builtin_shape WORD_INDEX) request.now }
     ensures { Answers (builtin_makes WORD_INDEX) (builtin_prints WORD_INDEX) request.now result }
 {
-    let index = index_for(alloc, request)?;
-    Ok(reply_remade(alloc, request, index)?)
+    let remade = index_for(alloc, request)?;
+    Ok(reply_remade(alloc, request, remade)?)
 }
 
-fn index_for(alloc: Global, request: &Request) -> Result<Index, AllocError>
-    ensures { IfOk result (λ index. IsIndexFor request.now (index_files index)) }
+fn index_for(alloc: Global, request: &Request) -> Result<Remade, AllocError>
+    ensures { IfOk result (λ remade. IsIndexFor request.now (contains byte_order remade.looked_at) (index_files remade.made)) }
 {
     if request.changes.is_incremental() {
         return carried_index(alloc, request);
     }
     let name = source_name(alloc)?;
-    index_of(alloc, files_of(request, &name))
+    Ok(Remade {
+        looked_at: Words::new(alloc),
+        made: index_of(alloc, files_of(request, &name))?,
+    })
 }
 
 /// Makes one file of the bytes of all, in the order of their paths.

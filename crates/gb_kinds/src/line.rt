@@ -42,6 +42,12 @@ impl Line {
             bytes: bytes.to_vec(alloc)?,
         })
     }
+
+    pub fn as_slice(&self) -> &[u8]
+        ensures { result.now ≡ self.now }
+    {
+        self.bytes.as_slice()
+    }
 }
 
 impl PartialEq for Line {

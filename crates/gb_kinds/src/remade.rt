@@ -10,6 +10,7 @@ use crate::by_file::holds;
 use crate::index::Index;
 use crate::names::{output_name, source_name};
 use crate::source;
+use crate::words::Words;
 use gb_action::reply::{OutputPath, Removals, Reply, Writes, Written};
 use gb_action::request::Request;
 use gb_core::bytes::Bytes;
@@ -17,15 +18,25 @@ use gb_core::name::Name;
 use gb_core::place::RelPath;
 use std::alloc::{AllocError, Global};
 
+/// What a kind makes.
+#[derive(Drop)]
+pub struct Remade {
+    /// Where changes are told, the paths that were looked at: at all others what stands is right.
+    pub looked_at: Words,
+    /// The files at these paths, or all files.
+    pub made: Index,
+}
+
 /// The reply of a kind that makes these files.
-pub fn reply_remade(alloc: Global, request: &Request, made: Index) -> Result<Reply, AllocError>
-    ensures { IfOk result (λ reply. IsRemade (index_files made) request.now reply) }
+pub fn reply_remade(alloc: Global, request: &Request, remade: Remade) -> Result<Reply, AllocError>
+    ensures { IfOk result (λ reply. IsRemade (index_files remade.made) remade.looked_at.keys request.now reply) }
 {
+    let Remade { looked_at, made } = remade;
     let name = source_name(alloc)?;
     let lines = source::change_lines(alloc, source::changes_of(request, &name))?;
     if request.changes.is_incremental() {
         Ok(Reply {
-            removes: outdated(alloc, request, &made)?,
+            removes: outdated(alloc, request, &made, &looked_at)?,
             writes: renewed(alloc, request, made)?,
             lines,
         })
@@ -71,14 +82,19 @@ fn renewed(alloc: Global, request: &Request, made: Index) -> Result<Writes, Allo
     Ok(writes)
 }
 
-/// What stands and is made no more.
-fn outdated(alloc: Global, request: &Request, made: &Index) -> Result<Removals, AllocError>
-    ensures { IfOk result (λ removes. removes ≡ outdated request.now.outputs (index_files made.now)) }
+/// What stands at one of the paths and is made no more.
+fn outdated(
+    alloc: Global,
+    request: &Request,
+    made: &Index,
+    looked_at: &Words,
+) -> Result<Removals, AllocError>
+    ensures { IfOk result (λ removes. removes ≡ outdated request.now.outputs (index_files made.now) looked_at.now.keys) }
 {
     let output = output_name(alloc)?;
     let mut removes = Removals::new(alloc);
-    for (path, _) in standing(request, &output) {
-        if !is_made(made, path) {
+    for path in looked_at.iter() {
+        if request.outputs.file_at(&output, path).is_some() && !is_made(made, path) {
             removes.push(OutputPath {
                 output: output_name(alloc)?,
                 path: path.copy()?,

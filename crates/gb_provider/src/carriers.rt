@@ -1,5 +1,5 @@
 //! Where the tasks of expressions come from.
-ghost use Rattle.std.specs.Prelude.{◌≡◌, ◌<◌, [], ◌∷◌, length, IfOk, All};
+ghost use Rattle.std.specs.Prelude.{◌≡◌, ◌<◌, [], ◌∷◌, length, slice_index, false, IfOk, All};
 ghost use Rattle.gb_provider.specs.Answers.{value_of};
 ghost use Rattle.gb_provider.specs.Meanings.{meaning_of};
 ghost use Rattle.gb_provider.specs.Produced.{carry, carry_all, carry_property, carry_side, carrier, choose_tasks, chosen_tasks, tasks_of};
@@ -90,7 +90,8 @@ fn has_tasks(states: &[State<Produced>], operand: usize) -> bool
 fn past_tasks(states: &[State<Produced>], operands: &[usize], from: usize) -> usize
     requires operands { All (λ operand. operand < length states.now) operands.now }
     requires before { AreBefore (λ operand. has_tasks (known states.now operand)) operands.now from }
-    ensures { AreBefore (λ operand. has_tasks (known states.now operand)) operands.now result }
+    ensures before { AreBefore (λ operand. has_tasks (known states.now operand)) operands.now result }
+    ensures stops { result < length operands.now → has_tasks (known states.now (slice_index operands.now result)) ≡ false }
 {
     let mut at = from;
     while at < operands.len() && has_tasks(states, operands[at]) {

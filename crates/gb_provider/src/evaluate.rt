@@ -1,5 +1,5 @@
 //! One look at an expression, where some answers are known.
-ghost use Rattle.std.specs.Prelude.{◌≡◌, ◌<◌, ℕ, [], length, IfOk, All, codes, Ok};
+ghost use Rattle.std.specs.Prelude.{◌≡◌, ◌<◌, ℕ, [], length, slice_index, false, IfOk, All, codes, Ok};
 ghost use Rattle.std.specs.Option.{option_copied};
 ghost use Rattle.gb_provider.specs.Indexed.{IsIndexed};
 ghost use Rattle.gb_provider.specs.Meanings.{meaning_of};
@@ -296,7 +296,8 @@ fn is_text(states: &[State<Outcome>], operand: usize) -> bool
 fn past_texts(states: &[State<Outcome>], operands: &[usize], from: usize) -> usize
     requires operands { All (λ operand. operand < length states.now) operands.now }
     requires before { AreBefore (λ operand. is_text (known states.now operand)) operands.now from }
-    ensures { AreBefore (λ operand. is_text (known states.now operand)) operands.now result }
+    ensures before { AreBefore (λ operand. is_text (known states.now operand)) operands.now result }
+    ensures stops { result < length operands.now → is_text (known states.now (slice_index operands.now result)) ≡ false }
 {
     let mut at = from;
     while at < operands.len() && is_text(states, operands[at]) {

@@ -7,6 +7,8 @@ use Rattle.gb_script.specs.declared.token.Token.{Token}
 use Rattle.gb_script.specs.declared.token.Token.TheVariants.{Word, Mark}
 use Rattle.gb_script.specs.declared.words.ClauseWord.{ClauseWord}
 use Rattle.gb_script.specs.declared.words.ClauseWord.TheVariants as words
+use Rattle.gb_script.specs.declared.words.OrderWord.TheVariants as orders
+use Rattle.gb_script.specs.declared.words.RunWord.TheVariants as runs
 use Rattle.gb_script.specs.declared.script.Call.{Call}
 use Rattle.gb_script.specs.declared.script.Assignment.{Assignment}
 use Rattle.gb_script.specs.declared.script.Condition.{Condition}
@@ -18,7 +20,7 @@ use Rattle.gb_script.specs.Words.{meaning_in, clause_words}
 use Rattle.gb_script.specs.Grammar.{Leveled, opened, sign, word, tree_spelled, texts_spelled, values_spelled, arguments_spelled, call_spelled, assignment_spelled, condition_spelled, said_spelled, patterns_spelled, input_files_spelled, clause_spelled, block_spelled}
 use Rattle.gb_script.specs.Fits.{AreSome, IsTree, AreValues, IsCall, IsAssignment, IsPropertyAssignment, IsCondition, IsInputFiles, IsClause, IsBlock}
 use Rattle.gb_script.specs.Reading.{Reader, ◌>>=◌, is_sign, is_word, skip_at, name_at, property_at, maybe_at, many_at, past_at, list_at, no_matter, made_at, closed_at}
-use Rattle.gb_script.specs.Readers.{tree_at, bracketed_values_at, call_from, call_at, assignment_from, assignment_at, condition_from, condition_at, patterns_at, Flags, Roots, flags_at, roots_at, input_files_from, input_files_at, clause_of_at, clause_at, in_block, block_at}
+use Rattle.gb_script.specs.Readers.{tree_at, bracketed_values_at, call_from, call_at, assignment_from, assignment_at, condition_from, condition_at, patterns_at, Flags, Roots, flags_at, roots_at, input_files_from, input_files_at, order_of_at, run_of_at, clause_of_at, clause_at, in_block, block_at}
 use Rattle.gb_script.proofs.Readers.{Reads, always, first_or, Reads-as, Reads-bind, Reads-done}
 use Rattle.gb_script.proofs.Singles.{tests_sign, tests_word, Reads-skip, Reads-name, Reads-property, Reads-meaning, IsAny, a_name}
 use Rattle.gb_script.proofs.Maybe.{stops, Begun, Reads-maybe}
@@ -261,42 +263,42 @@ clause_spelling words.Input = codes "input"
 clause_spelling words.InputFiles = codes "inputFiles"
 clause_spelling words.OutputFile = codes "outputFile"
 clause_spelling words.OutputDir = codes "outputDir"
-clause_spelling words.DependsOn = codes "dependsOn"
-clause_spelling words.MustRunAfter = codes "mustRunAfter"
-clause_spelling words.FinalizedBy = codes "finalizedBy"
-clause_spelling words.DoFirst = codes "doFirst"
-clause_spelling words.DoLast = codes "doLast"
-clause_spelling words.OnlyIf = codes "onlyIf"
-clause_spelling words.UpToDateWhen = codes "upToDateWhen"
-clause_spelling words.Enabled = codes "enabled"
+clause_spelling (words.Order orders.DependsOn) = codes "dependsOn"
+clause_spelling (words.Order orders.MustRunAfter) = codes "mustRunAfter"
+clause_spelling (words.Order orders.FinalizedBy) = codes "finalizedBy"
+clause_spelling (words.Run runs.DoFirst) = codes "doFirst"
+clause_spelling (words.Run runs.DoLast) = codes "doLast"
+clause_spelling (words.Run runs.OnlyIf) = codes "onlyIf"
+clause_spelling (words.Run runs.UpToDateWhen) = codes "upToDateWhen"
+clause_spelling (words.Run runs.Enabled) = codes "enabled"
 
 clause_means : (k : ClauseWord) → meaning_in clause_words (clause_spelling k) ≡ Some k
 clause_means words.Input = refl
 clause_means words.InputFiles = refl
 clause_means words.OutputFile = refl
 clause_means words.OutputDir = refl
-clause_means words.DependsOn = refl
-clause_means words.MustRunAfter = refl
-clause_means words.FinalizedBy = refl
-clause_means words.DoFirst = refl
-clause_means words.DoLast = refl
-clause_means words.OnlyIf = refl
-clause_means words.UpToDateWhen = refl
-clause_means words.Enabled = refl
+clause_means (words.Order orders.DependsOn) = refl
+clause_means (words.Order orders.MustRunAfter) = refl
+clause_means (words.Order orders.FinalizedBy) = refl
+clause_means (words.Run runs.DoFirst) = refl
+clause_means (words.Run runs.DoLast) = refl
+clause_means (words.Run runs.OnlyIf) = refl
+clause_means (words.Run runs.UpToDateWhen) = refl
+clause_means (words.Run runs.Enabled) = refl
 
 abbrev word_of : Clause → ClauseWord
 word_of (clauses.Input x) = words.Input
 word_of (clauses.InputFiles x) = words.InputFiles
 word_of (clauses.OutputFile x) = words.OutputFile
 word_of (clauses.OutputDir x) = words.OutputDir
-word_of (clauses.DependsOn x) = words.DependsOn
-word_of (clauses.MustRunAfter x) = words.MustRunAfter
-word_of (clauses.FinalizedBy x) = words.FinalizedBy
-word_of (clauses.DoFirst x) = words.DoFirst
-word_of (clauses.DoLast x) = words.DoLast
-word_of (clauses.OnlyIf x) = words.OnlyIf
-word_of (clauses.UpToDateWhen x) = words.UpToDateWhen
-word_of (clauses.Enabled x) = words.Enabled
+word_of (clauses.DependsOn x) = words.Order orders.DependsOn
+word_of (clauses.MustRunAfter x) = words.Order orders.MustRunAfter
+word_of (clauses.FinalizedBy x) = words.Order orders.FinalizedBy
+word_of (clauses.DoFirst x) = words.Run runs.DoFirst
+word_of (clauses.DoLast x) = words.Run runs.DoLast
+word_of (clauses.OnlyIf x) = words.Run runs.OnlyIf
+word_of (clauses.UpToDateWhen x) = words.Run runs.UpToDateWhen
+word_of (clauses.Enabled x) = words.Run runs.Enabled
 
 -- a clause without its word
 abbrev tail_spelled : ℕ → Clause → List Leveled
@@ -346,89 +348,89 @@ IsOf words.Input c = (x : Assignment) × (c ≡ clauses.Input x) × IsAssignment
 IsOf words.InputFiles c = (x : InputFiles) × (c ≡ clauses.InputFiles x) × IsInputFiles x
 IsOf words.OutputFile c = (x : Assignment) × (c ≡ clauses.OutputFile x) × IsAssignment x
 IsOf words.OutputDir c = (x : Assignment) × (c ≡ clauses.OutputDir x) × IsAssignment x
-IsOf words.DependsOn c = (x : List (List ℕ)) × (c ≡ clauses.DependsOn x) × AreSome x
-IsOf words.MustRunAfter c = (x : List (List ℕ)) × (c ≡ clauses.MustRunAfter x) × AreSome x
-IsOf words.FinalizedBy c = (x : List (List ℕ)) × (c ≡ clauses.FinalizedBy x) × AreSome x
-IsOf words.DoFirst c = (x : Call) × (c ≡ clauses.DoFirst x) × IsCall x
-IsOf words.DoLast c = (x : Call) × (c ≡ clauses.DoLast x) × IsCall x
-IsOf words.OnlyIf c = (x : Condition) × (c ≡ clauses.OnlyIf x) × IsCondition x
-IsOf words.UpToDateWhen c = (x : Condition) × (c ≡ clauses.UpToDateWhen x) × IsCondition x
-IsOf words.Enabled c = (x : Tree) × (c ≡ clauses.Enabled x) × IsTree x
+IsOf (words.Order orders.DependsOn) c = (x : List (List ℕ)) × (c ≡ clauses.DependsOn x) × AreSome x
+IsOf (words.Order orders.MustRunAfter) c = (x : List (List ℕ)) × (c ≡ clauses.MustRunAfter x) × AreSome x
+IsOf (words.Order orders.FinalizedBy) c = (x : List (List ℕ)) × (c ≡ clauses.FinalizedBy x) × AreSome x
+IsOf (words.Run runs.DoFirst) c = (x : Call) × (c ≡ clauses.DoFirst x) × IsCall x
+IsOf (words.Run runs.DoLast) c = (x : Call) × (c ≡ clauses.DoLast x) × IsCall x
+IsOf (words.Run runs.OnlyIf) c = (x : Condition) × (c ≡ clauses.OnlyIf x) × IsCondition x
+IsOf (words.Run runs.UpToDateWhen) c = (x : Condition) × (c ≡ clauses.UpToDateWhen x) × IsCondition x
+IsOf (words.Run runs.Enabled) c = (x : Tree) × (c ≡ clauses.Enabled x) × IsTree x
 
 same_word : (k : ClauseWord) (c : Clause) → IsOf k c → word_of c ≡ k
 same_word words.Input c q = ap word_of q.1
 same_word words.InputFiles c q = ap word_of q.1
 same_word words.OutputFile c q = ap word_of q.1
 same_word words.OutputDir c q = ap word_of q.1
-same_word words.DependsOn c q = ap word_of q.1
-same_word words.MustRunAfter c q = ap word_of q.1
-same_word words.FinalizedBy c q = ap word_of q.1
-same_word words.DoFirst c q = ap word_of q.1
-same_word words.DoLast c q = ap word_of q.1
-same_word words.OnlyIf c q = ap word_of q.1
-same_word words.UpToDateWhen c q = ap word_of q.1
-same_word words.Enabled c q = ap word_of q.1
+same_word (words.Order orders.DependsOn) c q = ap word_of q.1
+same_word (words.Order orders.MustRunAfter) c q = ap word_of q.1
+same_word (words.Order orders.FinalizedBy) c q = ap word_of q.1
+same_word (words.Run runs.DoFirst) c q = ap word_of q.1
+same_word (words.Run runs.DoLast) c q = ap word_of q.1
+same_word (words.Run runs.OnlyIf) c q = ap word_of q.1
+same_word (words.Run runs.UpToDateWhen) c q = ap word_of q.1
+same_word (words.Run runs.Enabled) c q = ap word_of q.1
 
 is_clause : (k : ClauseWord) (c : Clause) → IsOf k c → IsClause c
 is_clause words.Input c q = subst IsClause (sym q.1) q.2
 is_clause words.InputFiles c q = subst IsClause (sym q.1) q.2
 is_clause words.OutputFile c q = subst IsClause (sym q.1) q.2
 is_clause words.OutputDir c q = subst IsClause (sym q.1) q.2
-is_clause words.DependsOn c q = subst IsClause (sym q.1) q.2
-is_clause words.MustRunAfter c q = subst IsClause (sym q.1) q.2
-is_clause words.FinalizedBy c q = subst IsClause (sym q.1) q.2
-is_clause words.DoFirst c q = subst IsClause (sym q.1) q.2
-is_clause words.DoLast c q = subst IsClause (sym q.1) q.2
-is_clause words.OnlyIf c q = subst IsClause (sym q.1) q.2
-is_clause words.UpToDateWhen c q = subst IsClause (sym q.1) q.2
-is_clause words.Enabled c q = subst IsClause (sym q.1) q.2
+is_clause (words.Order orders.DependsOn) c q = subst IsClause (sym q.1) q.2
+is_clause (words.Order orders.MustRunAfter) c q = subst IsClause (sym q.1) q.2
+is_clause (words.Order orders.FinalizedBy) c q = subst IsClause (sym q.1) q.2
+is_clause (words.Run runs.DoFirst) c q = subst IsClause (sym q.1) q.2
+is_clause (words.Run runs.DoLast) c q = subst IsClause (sym q.1) q.2
+is_clause (words.Run runs.OnlyIf) c q = subst IsClause (sym q.1) q.2
+is_clause (words.Run runs.UpToDateWhen) c q = subst IsClause (sym q.1) q.2
+is_clause (words.Run runs.Enabled) c q = subst IsClause (sym q.1) q.2
 
 which_clause : (c : Clause) → IsClause c → (k : ClauseWord) × IsAny k × IsOf k c
 which_clause (clauses.Input x) p = (words.Input, tt, (x, refl, p))
 which_clause (clauses.InputFiles x) p = (words.InputFiles, tt, (x, refl, p))
 which_clause (clauses.OutputFile x) p = (words.OutputFile, tt, (x, refl, p))
 which_clause (clauses.OutputDir x) p = (words.OutputDir, tt, (x, refl, p))
-which_clause (clauses.DependsOn x) p = (words.DependsOn, tt, (x, refl, p))
-which_clause (clauses.MustRunAfter x) p = (words.MustRunAfter, tt, (x, refl, p))
-which_clause (clauses.FinalizedBy x) p = (words.FinalizedBy, tt, (x, refl, p))
-which_clause (clauses.DoFirst x) p = (words.DoFirst, tt, (x, refl, p))
-which_clause (clauses.DoLast x) p = (words.DoLast, tt, (x, refl, p))
-which_clause (clauses.OnlyIf x) p = (words.OnlyIf, tt, (x, refl, p))
-which_clause (clauses.UpToDateWhen x) p = (words.UpToDateWhen, tt, (x, refl, p))
-which_clause (clauses.Enabled x) p = (words.Enabled, tt, (x, refl, p))
+which_clause (clauses.DependsOn x) p = (words.Order orders.DependsOn, tt, (x, refl, p))
+which_clause (clauses.MustRunAfter x) p = (words.Order orders.MustRunAfter, tt, (x, refl, p))
+which_clause (clauses.FinalizedBy x) p = (words.Order orders.FinalizedBy, tt, (x, refl, p))
+which_clause (clauses.DoFirst x) p = (words.Run runs.DoFirst, tt, (x, refl, p))
+which_clause (clauses.DoLast x) p = (words.Run runs.DoLast, tt, (x, refl, p))
+which_clause (clauses.OnlyIf x) p = (words.Run runs.OnlyIf, tt, (x, refl, p))
+which_clause (clauses.UpToDateWhen x) p = (words.Run runs.UpToDateWhen, tt, (x, refl, p))
+which_clause (clauses.Enabled x) p = (words.Run runs.Enabled, tt, (x, refl, p))
 
 some_clause : (k : ClauseWord) → (c : Clause) × IsOf k c
 some_clause words.Input = (clauses.Input an_assignment, (an_assignment, refl, record { name = refl; value = (tt, tt) }))
 some_clause words.InputFiles = (clauses.InputFiles some_files, (some_files, refl, record { name = refl; from = ((tt, tt), tt) }))
 some_clause words.OutputFile = (clauses.OutputFile an_assignment, (an_assignment, refl, record { name = refl; value = (tt, tt) }))
 some_clause words.OutputDir = (clauses.OutputDir an_assignment, (an_assignment, refl, record { name = refl; value = (tt, tt) }))
-some_clause words.DependsOn = (clauses.DependsOn one_text, (one_text, refl, tt))
-some_clause words.MustRunAfter = (clauses.MustRunAfter one_text, (one_text, refl, tt))
-some_clause words.FinalizedBy = (clauses.FinalizedBy one_text, (one_text, refl, tt))
-some_clause words.DoFirst = (clauses.DoFirst a_call, (a_call, refl, a_call_fits))
-some_clause words.DoLast = (clauses.DoLast a_call, (a_call, refl, a_call_fits))
-some_clause words.OnlyIf = (clauses.OnlyIf a_condition, (a_condition, refl, record { value = (tt, tt); test = refl }))
-some_clause words.UpToDateWhen = (clauses.UpToDateWhen a_condition, (a_condition, refl, record { value = (tt, tt); test = refl }))
-some_clause words.Enabled = (clauses.Enabled a_tree, (a_tree, refl, (tt, tt)))
+some_clause (words.Order orders.DependsOn) = (clauses.DependsOn one_text, (one_text, refl, tt))
+some_clause (words.Order orders.MustRunAfter) = (clauses.MustRunAfter one_text, (one_text, refl, tt))
+some_clause (words.Order orders.FinalizedBy) = (clauses.FinalizedBy one_text, (one_text, refl, tt))
+some_clause (words.Run runs.DoFirst) = (clauses.DoFirst a_call, (a_call, refl, a_call_fits))
+some_clause (words.Run runs.DoLast) = (clauses.DoLast a_call, (a_call, refl, a_call_fits))
+some_clause (words.Run runs.OnlyIf) = (clauses.OnlyIf a_condition, (a_condition, refl, record { value = (tt, tt); test = refl }))
+some_clause (words.Run runs.UpToDateWhen) = (clauses.UpToDateWhen a_condition, (a_condition, refl, record { value = (tt, tt); test = refl }))
+some_clause (words.Run runs.Enabled) = (clauses.Enabled a_tree, (a_tree, refl, (tt, tt)))
 
 -- a clause made of what stands behind its word
 made_clause : {A : Type 0} {P : A → Type 0} {m : A → List Leveled} {e : A → Option Token → Bool} {r : Reader A} (d : ℕ) → Reads P m e r → (f : A → Clause) → ((x : A) → tail_spelled d (f x) ≡ m x) → ((x : A) (o : Option Token) → clause_end (f x) o ≡ e x o) → Reads (λ c. (x : A) × (c ≡ f x) × P x) (tail_spelled d) clause_end (made_at f r)
 made_clause {A} {P} d R f same ends = Reads-into R f (λ c. (x : A) × (c ≡ f x) × P x) (tail_spelled d) clause_end (λ c q. q) (λ x p. (x, refl, p)) (λ x p. same x) (λ x o p. ends x o)
 
 Reads-clause_of : (room d : ℕ) → room + d ≡ 64 → (k : ClauseWord) → Reads (IsOf k) (tail_spelled d) clause_end (clause_of_at room k)
-unfolding clause_of_at
+unfolding clause_of_at order_of_at run_of_at
 Reads-clause_of room d sum words.Input = made_clause d (Reads-assignment room d sum) clauses.Input (λ x. refl) (λ x o. refl)
 Reads-clause_of room d sum words.InputFiles = made_clause d (Reads-input_files room d sum) clauses.InputFiles (λ x. refl) (λ x o. refl)
 Reads-clause_of room d sum words.OutputFile = made_clause d (Reads-assignment room d sum) clauses.OutputFile (λ x. refl) (λ x o. refl)
 Reads-clause_of room d sum words.OutputDir = made_clause d (Reads-assignment room d sum) clauses.OutputDir (λ x. refl) (λ x o. refl)
-Reads-clause_of room d sum words.DependsOn = made_clause d (Reads-texts) clauses.DependsOn (λ x. refl) (λ x o. refl)
-Reads-clause_of room d sum words.MustRunAfter = made_clause d (Reads-texts) clauses.MustRunAfter (λ x. refl) (λ x o. refl)
-Reads-clause_of room d sum words.FinalizedBy = made_clause d (Reads-texts) clauses.FinalizedBy (λ x. refl) (λ x o. refl)
-Reads-clause_of room d sum words.DoFirst = made_clause d (Reads-call room d sum) clauses.DoFirst (λ x. refl) (λ x o. refl)
-Reads-clause_of room d sum words.DoLast = made_clause d (Reads-call room d sum) clauses.DoLast (λ x. refl) (λ x o. refl)
-Reads-clause_of room d sum words.OnlyIf = made_clause d (Reads-condition room d sum) clauses.OnlyIf (λ x. refl) (λ x o. refl)
-Reads-clause_of room d sum words.UpToDateWhen = made_clause d (Reads-condition room d sum) clauses.UpToDateWhen (λ x. refl) (λ x o. refl)
-Reads-clause_of room d sum words.Enabled = made_clause d (Reads-tree room d sum) clauses.Enabled (λ x. refl) (λ x o. refl)
+Reads-clause_of room d sum (words.Order orders.DependsOn) = made_clause d (Reads-texts) clauses.DependsOn (λ x. refl) (λ x o. refl)
+Reads-clause_of room d sum (words.Order orders.MustRunAfter) = made_clause d (Reads-texts) clauses.MustRunAfter (λ x. refl) (λ x o. refl)
+Reads-clause_of room d sum (words.Order orders.FinalizedBy) = made_clause d (Reads-texts) clauses.FinalizedBy (λ x. refl) (λ x o. refl)
+Reads-clause_of room d sum (words.Run runs.DoFirst) = made_clause d (Reads-call room d sum) clauses.DoFirst (λ x. refl) (λ x o. refl)
+Reads-clause_of room d sum (words.Run runs.DoLast) = made_clause d (Reads-call room d sum) clauses.DoLast (λ x. refl) (λ x o. refl)
+Reads-clause_of room d sum (words.Run runs.OnlyIf) = made_clause d (Reads-condition room d sum) clauses.OnlyIf (λ x. refl) (λ x o. refl)
+Reads-clause_of room d sum (words.Run runs.UpToDateWhen) = made_clause d (Reads-condition room d sum) clauses.UpToDateWhen (λ x. refl) (λ x o. refl)
+Reads-clause_of room d sum (words.Run runs.Enabled) = made_clause d (Reads-tree room d sum) clauses.Enabled (λ x. refl) (λ x o. refl)
 
 pub Reads-clause : (room d : ℕ) → room + d ≡ 64 → Reads IsClause (clause_spelled d) clause_end (clause_at room)
 unfolding clause_at
@@ -478,14 +480,14 @@ word_calm words.Input = record { dot = refl; comma = refl; paren = refl; include
 word_calm words.InputFiles = record { dot = refl; comma = refl; paren = refl; include = refl; exclude = refl }
 word_calm words.OutputFile = record { dot = refl; comma = refl; paren = refl; include = refl; exclude = refl }
 word_calm words.OutputDir = record { dot = refl; comma = refl; paren = refl; include = refl; exclude = refl }
-word_calm words.DependsOn = record { dot = refl; comma = refl; paren = refl; include = refl; exclude = refl }
-word_calm words.MustRunAfter = record { dot = refl; comma = refl; paren = refl; include = refl; exclude = refl }
-word_calm words.FinalizedBy = record { dot = refl; comma = refl; paren = refl; include = refl; exclude = refl }
-word_calm words.DoFirst = record { dot = refl; comma = refl; paren = refl; include = refl; exclude = refl }
-word_calm words.DoLast = record { dot = refl; comma = refl; paren = refl; include = refl; exclude = refl }
-word_calm words.OnlyIf = record { dot = refl; comma = refl; paren = refl; include = refl; exclude = refl }
-word_calm words.UpToDateWhen = record { dot = refl; comma = refl; paren = refl; include = refl; exclude = refl }
-word_calm words.Enabled = record { dot = refl; comma = refl; paren = refl; include = refl; exclude = refl }
+word_calm (words.Order orders.DependsOn) = record { dot = refl; comma = refl; paren = refl; include = refl; exclude = refl }
+word_calm (words.Order orders.MustRunAfter) = record { dot = refl; comma = refl; paren = refl; include = refl; exclude = refl }
+word_calm (words.Order orders.FinalizedBy) = record { dot = refl; comma = refl; paren = refl; include = refl; exclude = refl }
+word_calm (words.Run runs.DoFirst) = record { dot = refl; comma = refl; paren = refl; include = refl; exclude = refl }
+word_calm (words.Run runs.DoLast) = record { dot = refl; comma = refl; paren = refl; include = refl; exclude = refl }
+word_calm (words.Run runs.OnlyIf) = record { dot = refl; comma = refl; paren = refl; include = refl; exclude = refl }
+word_calm (words.Run runs.UpToDateWhen) = record { dot = refl; comma = refl; paren = refl; include = refl; exclude = refl }
+word_calm (words.Run runs.Enabled) = record { dot = refl; comma = refl; paren = refl; include = refl; exclude = refl }
 
 next_calm : (d : ℕ) (cs : List Clause) → Calm (first_or (flat_map (clause_spelled d) cs) (Some (Mark CloseBrace)))
 next_calm d [] = record { dot = refl; comma = refl; paren = refl; include = refl; exclude = refl }

@@ -1,5 +1,5 @@
 -- From what a row of tokens is read to, to what the bytes of a text say.
-use Rattle.std.proofs.Common.{◌≡◌, ℕ, ◌+◌, ◌-◌, ◌≤◌, Bool, true, false, cond, inl, inr, List, [], ◌∷◌, ◌++◌, length, map, get_or, Option, None, Result, Ok, Err, refl, sym, ap, subst, ◌∙◌, arith, length-append}
+use Rattle.std.proofs.Common.{◌≡◌, ℕ, ◌+◌, ◌-◌, ◌≤◌, ◌⊎◌, Bool, true, false, cond, inl, inr, List, [], ◌∷◌, ◌++◌, length, map, get_or, Option, None, Result, Ok, Err, refl, sym, ap, subst, ◌∙◌, arith, length-append}
 use Rattle.std.proofs.lemmas.List.{map-append, length-map}
 use Rattle.std.proofs.lemmas.Bool.{le-ltb, lt-ltb}
 use Rattle.std.proofs.lemmas.Str.{is_utf8-from_IsUtf8, IsUtf8-from_is_utf8}
@@ -8,13 +8,16 @@ use Rattle.std.specs.Str.{is_utf8}
 use Rattle.gb_script.specs.declared.token.Token.{Token}
 use Rattle.gb_script.specs.declared.stop.Fault.{Fault}
 use Rattle.gb_script.specs.declared.stop.Fault.TheVariants.{Stray, Deep}
+use Rattle.gb_script.specs.declared.stop.Stop.{Stop}
+use Rattle.gb_script.specs.declared.stop.Stop.TheVariants as stops
 use Rattle.gb_script.specs.declared.fault.ScriptFault.{ScriptFault}
 use Rattle.gb_script.specs.declared.fault.ScriptFault.TheVariants.{OutOfMemory, Syntax, TooLong, TooDeep, NotUtf8}
 use Rattle.gb_script.specs.Lexing.{Placed, HasTokens, newlines}
 use Rattle.gb_script.specs.Scanning.{scan}
 use Rattle.gb_script.specs.Grammar.{Leveled}
 use Rattle.gb_script.specs.Verdict.{IsFirstStray, IsFirstDeep}
-use Rattle.gb_script.specs.Reading.{Reader, all_at}
+use Rattle.gb_script.specs.Reading.{Reader, Fails, all_at}
+use Rattle.gb_script.specs.Telling.{line_left, fault_told}
 use Rattle.gb_script.specs.Notation.{tokens_in, IsSource, IsSpelled, line_of, IsSyntaxFault, IsDepthFault, IsSaid}
 use Rattle.gb_script.proofs.Whole.{all_found, all_again, all_stray, all_deep}
 use Rattle.gb_script.proofs.Runs.{cases_bool}
@@ -112,14 +115,12 @@ module _ {A : Type 0} {P : A → Type 0} {m : A → List Leveled} {e : A → Opt
 
   -- ---- what the bytes say is one thing
 
-  -- the line of the token with n left from it on, or the last
-  abbrev line_left : List ℕ → ℕ → ℕ
-  line_left bytes n = get_or (map (λ p. p.1) (scan 1 bytes)) (length (map (λ p. p.1) (scan 1 bytes)) - n) (1 + newlines bytes)
+  abbrev lines_of : List ℕ → List ℕ
+  lines_of bytes = map (λ p. p.1) (scan 1 bytes)
 
   abbrev told : List ℕ → Result A Fault → Result A ScriptFault
   told bytes (Ok script) = Ok script
-  told bytes (Err (Stray n)) = Err (Syntax (line_left bytes n))
-  told bytes (Err (Deep n)) = Err (TooDeep (line_left bytes n))
+  told bytes (Err f) = Err (fault_told bytes (lines_of bytes) (stops.Fault f))
 
   abbrev told_text : List ℕ → Bool → Result A ScriptFault
   told_text bytes utf8 = cond utf8 (told bytes (all_at r (tokens_in (scan 1 bytes)))) (Err NotUtf8)
@@ -135,7 +136,7 @@ module _ {A : Type 0} {P : A → Type 0} {m : A → List Leveled} {e : A → Opt
   tokens_are : (bytes : List ℕ) (before bad : List Placed) → HasTokens bytes (before ++ bad) → tokens_in (scan 1 bytes) ≡ tokens_in before ++ tokens_in bad
   tokens_are bytes before bad h = ap tokens_in (sym (tokens_again bytes (before ++ bad) h)) ∙ map-append (λ (p : Placed). p.0) before bad
 
-  left_line : (bytes : List ℕ) (before bad : List Placed) → IsSource bytes (before ++ bad) → line_left bytes (length (tokens_in bad)) ≡ line_of bytes bad
+  left_line : (bytes : List ℕ) (before bad : List Placed) → IsSource bytes (before ++ bad) → line_left bytes (lines_of bytes) (length (tokens_in bad)) ≡ line_of bytes bad
   left_line bytes before bad s =
       line_is bytes s.short s.utf8 (length (tokens_in bad)) (map (λ p. p.1) (scan 1 bytes)) before bad refl (sym (tokens_again bytes (before ++ bad) s.has)) refl
 
@@ -159,11 +160,33 @@ module _ {A : Type 0} {P : A → Type 0} {m : A → List Leveled} {e : A → Opt
   pub one_said : (bytes : List ℕ) (a b : Result A ScriptFault) → IsSaid P m bytes a → IsSaid P m bytes b → a ≡ b
   one_said bytes a b s t = said_is bytes a s ∙ sym (said_is bytes b t)
 
+  -- ---- from the steps of the code to what it answers
+
+  module _ (bytes text : List ℕ) (same : text ≡ bytes) (short : length bytes ≤ 1048576) (utf8 : IsUtf8 bytes) where
+    pub spells_text : (tokens : List Token) (script : A) → tokens ≡ tokens_in (scan 1 text) → all_at r tokens ≡ Ok script → IsSpelled P m bytes script
+    spells_text tokens script t h = spells_found bytes short utf8 tokens script (t ∙ ap (λ b. tokens_in (scan 1 b)) same) h
+
+    pub told_stop : (tokens : List Token) (lines : List ℕ) (stop : Stop) (fault : ScriptFault) → tokens ≡ tokens_in (scan 1 text) → lines ≡ lines_of text → Fails stop (all_at r tokens) → fault ≡ fault_told text lines stop → (fault ≡ OutOfMemory) ⊎ IsSaid P m bytes (Err fault)
+    told_stop tokens lines stops.Memory fault t l h f = inl f
+    told_stop tokens lines (stops.Fault (Stray n)) fault t l h f =
+        let at : fault ≡ Syntax (line_left bytes lines n) = f ∙ ap (λ b. Syntax (line_left b lines n)) same in
+        inr (subst (λ f. IsSaid P m bytes (Err f)) (sym at) (syntax_found bytes short utf8 tokens lines n _ (t ∙ ap (λ b. tokens_in (scan 1 b)) same) (l ∙ ap lines_of same) refl h))
+    told_stop tokens lines (stops.Fault (Deep n)) fault t l h f =
+        let at : fault ≡ TooDeep (line_left bytes lines n) = f ∙ ap (λ b. TooDeep (line_left b lines n)) same in
+        inr (subst (λ f. IsSaid P m bytes (Err f)) (sym at) (depth_found bytes short utf8 tokens lines n _ (t ∙ ap (λ b. tokens_in (scan 1 b)) same) (l ∙ ap lines_of same) refl h))
+
   abbrev fault_of : ScriptFault → Result A ScriptFault
   fault_of f = Err f
 
-  pub syntax_is : (bytes : List ℕ) (line other : ℕ) → IsSyntaxFault P m bytes line → fault_of (Syntax line) ≡ fault_of (Syntax other) → IsSyntaxFault P m bytes other
-  syntax_is bytes line other s h = let same : line ≡ other = cc in subst (IsSyntaxFault P m bytes) same s
+  module _ (bytes : List ℕ) (fault : ScriptFault) where
+    pub told_back : (fault ≡ OutOfMemory) ⊎ IsSaid P m bytes (Err fault) → (said : Result A ScriptFault) → IsSaid P m bytes said → (fault_of fault ≡ said) ⊎ (fault_of fault ≡ Err OutOfMemory)
+    told_back (inl e) said s = inr (ap Err e)
+    told_back (inr w) said s = inl (one_said bytes (Err fault) said w s)
 
-  pub depth_is : (bytes : List ℕ) (line other : ℕ) → IsDepthFault P m bytes line → fault_of (TooDeep line) ≡ fault_of (TooDeep other) → IsDepthFault P m bytes other
-  depth_is bytes line other s h = let same : line ≡ other = cc in subst (IsDepthFault P m bytes) same s
+    pub told_syntax : (fault ≡ OutOfMemory) ⊎ IsSaid P m bytes (Err fault) → (line : ℕ) → fault_of fault ≡ Err (Syntax line) → IsSyntaxFault P m bytes line
+    told_syntax (inl e) line h = absurd (let no : fault_of OutOfMemory ≡ fault_of (Syntax line) = sym (ap fault_of e) ∙ h in cc)
+    told_syntax (inr w) line h = subst (IsSaid P m bytes) h w
+
+    pub told_depth : (fault ≡ OutOfMemory) ⊎ IsSaid P m bytes (Err fault) → (line : ℕ) → fault_of fault ≡ Err (TooDeep line) → IsDepthFault P m bytes line
+    told_depth (inl e) line h = absurd (let no : fault_of OutOfMemory ≡ fault_of (TooDeep line) = sym (ap fault_of e) ∙ h in cc)
+    told_depth (inr w) line h = subst (IsSaid P m bytes) h w

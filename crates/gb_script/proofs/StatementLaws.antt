@@ -5,6 +5,7 @@ use Rattle.gb_script.specs.declared.token.Token.{Token}
 use Rattle.gb_script.specs.declared.token.Token.TheVariants.{Word, Mark}
 use Rattle.gb_script.specs.declared.words.StatementWord.{StatementWord}
 use Rattle.gb_script.specs.declared.words.StatementWord.TheVariants as words
+use Rattle.gb_script.specs.declared.words.PropertyWord.TheVariants as properties
 use Rattle.gb_script.specs.declared.script.Call.{Call}
 use Rattle.gb_script.specs.declared.script.Assignment.{Assignment}
 use Rattle.gb_script.specs.declared.script.Registration.{Registration}
@@ -15,7 +16,7 @@ use Rattle.gb_script.specs.Words.{meaning_in, statement_words}
 use Rattle.gb_script.specs.Grammar.{Leveled, sign, word, texts_spelled, call_spelled, assignment_spelled, action_spelled, registration_spelled, configuration_spelled, statement_spelled, script_spelled, include_spelled, settings_spelled}
 use Rattle.gb_script.specs.Fits.{IsProperty, AreSome, IsCall, IsPropertyAssignment, IsAction, IsRegistration, IsConfiguration, IsStatement, IsScript, IsSettings}
 use Rattle.gb_script.specs.Reading.{Reader, is_sign, is_any, no_matter, made_at}
-use Rattle.gb_script.specs.Readers.{action_at, registration_from, registration_at, configuration_from, configuration_at, statement_of_at, statement_at, script_at, include_at, settings_at}
+use Rattle.gb_script.specs.Readers.{action_at, registration_from, registration_at, configuration_from, configuration_at, property_of_at, statement_of_at, statement_at, script_at, include_at, settings_at}
 use Rattle.gb_script.proofs.Readers.{Reads, always, first_or, Reads-as, Reads-bind}
 use Rattle.gb_script.proofs.Singles.{tests_sign, tests_word, Reads-name, Reads-property, Reads-meaning, IsAny, a_name}
 use Rattle.gb_script.proofs.Maybe.{stops, Begun, Reads-maybe}
@@ -114,31 +115,31 @@ Reads-configuration room d sum =
 
 abbrev statement_spelling : StatementWord → List ℕ
 statement_spelling words.DefaultTasks = codes "defaultTasks"
-statement_spelling words.Property = codes "property"
-statement_spelling words.Set = codes "set"
-statement_spelling words.Convention = codes "convention"
-statement_spelling words.Unset = codes "unset"
-statement_spelling words.DisallowChanges = codes "disallowChanges"
+statement_spelling (words.Property properties.Declare) = codes "property"
+statement_spelling (words.Property properties.Set) = codes "set"
+statement_spelling (words.Property properties.Convention) = codes "convention"
+statement_spelling (words.Property properties.Unset) = codes "unset"
+statement_spelling (words.Property properties.DisallowChanges) = codes "disallowChanges"
 statement_spelling words.Register = codes "register"
 statement_spelling words.Named = codes "named"
 
 statement_means : (k : StatementWord) → meaning_in statement_words (statement_spelling k) ≡ Some k
 statement_means words.DefaultTasks = refl
-statement_means words.Property = refl
-statement_means words.Set = refl
-statement_means words.Convention = refl
-statement_means words.Unset = refl
-statement_means words.DisallowChanges = refl
+statement_means (words.Property properties.Declare) = refl
+statement_means (words.Property properties.Set) = refl
+statement_means (words.Property properties.Convention) = refl
+statement_means (words.Property properties.Unset) = refl
+statement_means (words.Property properties.DisallowChanges) = refl
 statement_means words.Register = refl
 statement_means words.Named = refl
 
 abbrev word_of : Statement → StatementWord
 word_of (statements.DefaultTasks x) = words.DefaultTasks
-word_of (statements.Property x) = words.Property
-word_of (statements.Set x) = words.Set
-word_of (statements.Convention x) = words.Convention
-word_of (statements.Unset x) = words.Unset
-word_of (statements.DisallowChanges x) = words.DisallowChanges
+word_of (statements.Property x) = words.Property properties.Declare
+word_of (statements.Set x) = words.Property properties.Set
+word_of (statements.Convention x) = words.Property properties.Convention
+word_of (statements.Unset x) = words.Property properties.Unset
+word_of (statements.DisallowChanges x) = words.Property properties.DisallowChanges
 word_of (statements.Register x) = words.Register
 word_of (statements.Named x) = words.Named
 
@@ -175,51 +176,51 @@ statement_end (statements.Named x) o = true
 
 abbrev IsOf : StatementWord → Statement → Type 0
 IsOf words.DefaultTasks s = (x : List (List ℕ)) × (s ≡ statements.DefaultTasks x) × AreSome x
-IsOf words.Property s = (x : List ℕ) × (s ≡ statements.Property x) × IsProperty x
-IsOf words.Set s = (x : Assignment) × (s ≡ statements.Set x) × IsPropertyAssignment x
-IsOf words.Convention s = (x : Assignment) × (s ≡ statements.Convention x) × IsPropertyAssignment x
-IsOf words.Unset s = (x : List ℕ) × (s ≡ statements.Unset x) × IsProperty x
-IsOf words.DisallowChanges s = (x : List ℕ) × (s ≡ statements.DisallowChanges x) × IsProperty x
+IsOf (words.Property properties.Declare) s = (x : List ℕ) × (s ≡ statements.Property x) × IsProperty x
+IsOf (words.Property properties.Set) s = (x : Assignment) × (s ≡ statements.Set x) × IsPropertyAssignment x
+IsOf (words.Property properties.Convention) s = (x : Assignment) × (s ≡ statements.Convention x) × IsPropertyAssignment x
+IsOf (words.Property properties.Unset) s = (x : List ℕ) × (s ≡ statements.Unset x) × IsProperty x
+IsOf (words.Property properties.DisallowChanges) s = (x : List ℕ) × (s ≡ statements.DisallowChanges x) × IsProperty x
 IsOf words.Register s = (x : Registration) × (s ≡ statements.Register x) × IsRegistration x
 IsOf words.Named s = (x : Configuration) × (s ≡ statements.Named x) × IsConfiguration x
 
 same_word : (k : StatementWord) (s : Statement) → IsOf k s → word_of s ≡ k
 same_word words.DefaultTasks s q = ap word_of q.1
-same_word words.Property s q = ap word_of q.1
-same_word words.Set s q = ap word_of q.1
-same_word words.Convention s q = ap word_of q.1
-same_word words.Unset s q = ap word_of q.1
-same_word words.DisallowChanges s q = ap word_of q.1
+same_word (words.Property properties.Declare) s q = ap word_of q.1
+same_word (words.Property properties.Set) s q = ap word_of q.1
+same_word (words.Property properties.Convention) s q = ap word_of q.1
+same_word (words.Property properties.Unset) s q = ap word_of q.1
+same_word (words.Property properties.DisallowChanges) s q = ap word_of q.1
 same_word words.Register s q = ap word_of q.1
 same_word words.Named s q = ap word_of q.1
 
 is_statement : (k : StatementWord) (s : Statement) → IsOf k s → IsStatement s
 is_statement words.DefaultTasks s q = subst IsStatement (sym q.1) q.2
-is_statement words.Property s q = subst IsStatement (sym q.1) q.2
-is_statement words.Set s q = subst IsStatement (sym q.1) q.2
-is_statement words.Convention s q = subst IsStatement (sym q.1) q.2
-is_statement words.Unset s q = subst IsStatement (sym q.1) q.2
-is_statement words.DisallowChanges s q = subst IsStatement (sym q.1) q.2
+is_statement (words.Property properties.Declare) s q = subst IsStatement (sym q.1) q.2
+is_statement (words.Property properties.Set) s q = subst IsStatement (sym q.1) q.2
+is_statement (words.Property properties.Convention) s q = subst IsStatement (sym q.1) q.2
+is_statement (words.Property properties.Unset) s q = subst IsStatement (sym q.1) q.2
+is_statement (words.Property properties.DisallowChanges) s q = subst IsStatement (sym q.1) q.2
 is_statement words.Register s q = subst IsStatement (sym q.1) q.2
 is_statement words.Named s q = subst IsStatement (sym q.1) q.2
 
 which_statement : (s : Statement) → IsStatement s → (k : StatementWord) × IsAny k × IsOf k s
 which_statement (statements.DefaultTasks x) p = (words.DefaultTasks, tt, (x, refl, p))
-which_statement (statements.Property x) p = (words.Property, tt, (x, refl, p))
-which_statement (statements.Set x) p = (words.Set, tt, (x, refl, p))
-which_statement (statements.Convention x) p = (words.Convention, tt, (x, refl, p))
-which_statement (statements.Unset x) p = (words.Unset, tt, (x, refl, p))
-which_statement (statements.DisallowChanges x) p = (words.DisallowChanges, tt, (x, refl, p))
+which_statement (statements.Property x) p = (words.Property properties.Declare, tt, (x, refl, p))
+which_statement (statements.Set x) p = (words.Property properties.Set, tt, (x, refl, p))
+which_statement (statements.Convention x) p = (words.Property properties.Convention, tt, (x, refl, p))
+which_statement (statements.Unset x) p = (words.Property properties.Unset, tt, (x, refl, p))
+which_statement (statements.DisallowChanges x) p = (words.Property properties.DisallowChanges, tt, (x, refl, p))
 which_statement (statements.Register x) p = (words.Register, tt, (x, refl, p))
 which_statement (statements.Named x) p = (words.Named, tt, (x, refl, p))
 
 some_statement : (k : StatementWord) → (s : Statement) × IsOf k s
 some_statement words.DefaultTasks = (statements.DefaultTasks one_text, (one_text, refl, tt))
-some_statement words.Property = (statements.Property a_name, (a_name, refl, (refl, refl)))
-some_statement words.Set = (statements.Set an_assignment, (an_assignment, refl, record { name = (refl, refl); value = (tt, tt) }))
-some_statement words.Convention = (statements.Convention an_assignment, (an_assignment, refl, record { name = (refl, refl); value = (tt, tt) }))
-some_statement words.Unset = (statements.Unset a_name, (a_name, refl, (refl, refl)))
-some_statement words.DisallowChanges = (statements.DisallowChanges a_name, (a_name, refl, (refl, refl)))
+some_statement (words.Property properties.Declare) = (statements.Property a_name, (a_name, refl, (refl, refl)))
+some_statement (words.Property properties.Set) = (statements.Set an_assignment, (an_assignment, refl, record { name = (refl, refl); value = (tt, tt) }))
+some_statement (words.Property properties.Convention) = (statements.Convention an_assignment, (an_assignment, refl, record { name = (refl, refl); value = (tt, tt) }))
+some_statement (words.Property properties.Unset) = (statements.Unset a_name, (a_name, refl, (refl, refl)))
+some_statement (words.Property properties.DisallowChanges) = (statements.DisallowChanges a_name, (a_name, refl, (refl, refl)))
 some_statement words.Register = (statements.Register a_registration, (a_registration, refl, record { name = refl; action = tt; block = tt }))
 some_statement words.Named = (statements.Named a_configuration, (a_configuration, refl, record { name = refl; block = tt }))
 
@@ -228,13 +229,13 @@ made_statement : {A : Type 0} {P : A → Type 0} {m : A → List Leveled} {e : A
 made_statement {A} {P} d R f same ends = Reads-into R f (λ s. (x : A) × (s ≡ f x) × P x) (tail_spelled d) statement_end (λ s q. q) (λ x p. (x, refl, p)) (λ x p. same x) (λ x o p. ends x o)
 
 Reads-statement_of : (room d : ℕ) → room + d ≡ 64 → (k : StatementWord) → Reads (IsOf k) (tail_spelled d) statement_end (statement_of_at room k)
-unfolding statement_of_at
+unfolding statement_of_at property_of_at
 Reads-statement_of room d sum words.DefaultTasks = made_statement d (Reads-texts) statements.DefaultTasks (λ x. refl) (λ x o. refl)
-Reads-statement_of room d sum words.Property = made_statement d (Reads-property) statements.Property (λ x. refl) (λ x o. refl)
-Reads-statement_of room d sum words.Set = made_statement d (Reads-property_assignment room d sum) statements.Set (λ x. refl) (λ x o. refl)
-Reads-statement_of room d sum words.Convention = made_statement d (Reads-property_assignment room d sum) statements.Convention (λ x. refl) (λ x o. refl)
-Reads-statement_of room d sum words.Unset = made_statement d (Reads-property) statements.Unset (λ x. refl) (λ x o. refl)
-Reads-statement_of room d sum words.DisallowChanges = made_statement d (Reads-property) statements.DisallowChanges (λ x. refl) (λ x o. refl)
+Reads-statement_of room d sum (words.Property properties.Declare) = made_statement d (Reads-property) statements.Property (λ x. refl) (λ x o. refl)
+Reads-statement_of room d sum (words.Property properties.Set) = made_statement d (Reads-property_assignment room d sum) statements.Set (λ x. refl) (λ x o. refl)
+Reads-statement_of room d sum (words.Property properties.Convention) = made_statement d (Reads-property_assignment room d sum) statements.Convention (λ x. refl) (λ x o. refl)
+Reads-statement_of room d sum (words.Property properties.Unset) = made_statement d (Reads-property) statements.Unset (λ x. refl) (λ x o. refl)
+Reads-statement_of room d sum (words.Property properties.DisallowChanges) = made_statement d (Reads-property) statements.DisallowChanges (λ x. refl) (λ x o. refl)
 Reads-statement_of room d sum words.Register = made_statement d (Reads-registration room d sum) statements.Register (λ x. refl) (λ x o. refl)
 Reads-statement_of room d sum words.Named = made_statement d (Reads-configuration room d sum) statements.Named (λ x. refl) (λ x o. refl)
 
@@ -242,7 +243,7 @@ Reads-statement : (room d : ℕ) → room + d ≡ 64 → Reads IsStatement (stat
 unfolding statement_at
 Reads-statement room d sum =
     Reads-bind {r2 = statement_of_at room}
-    (Reads-meaning statement_words statement_spelling (refl, (refl, (refl, (refl, (refl, (refl, (refl, (refl, tt)))))))) statement_means words.Property) (λ k p. Reads-statement_of room d sum k)
+    (Reads-meaning statement_words statement_spelling (refl, (refl, (refl, (refl, (refl, (refl, (refl, (refl, tt)))))))) statement_means (words.Property properties.Declare)) (λ k p. Reads-statement_of room d sum k)
     (λ k p. some_statement k)
     IsStatement (statement_spelled d) statement_end
     which_statement

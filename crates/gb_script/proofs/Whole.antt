@@ -1,16 +1,12 @@
--- Reading all of the tokens, by the laws, and what a function of the code then answers.
-use Rattle.std.proofs.Common.{◌≡◌, ℕ, Bool, true, cond, List, [], ◌∷◌, ◌++◌, length, Option, None, Result, Ok, Err, refl, sym, ap, subst, ◌∙◌, arith, inl, inr, eqb}
-use Rattle.std.specs.Prelude.{IfOk}
+-- Reading all of the tokens, by the laws.
+use Rattle.std.proofs.Common.{◌≡◌, ℕ, Bool, true, cond, List, [], ◌∷◌, ◌++◌, length, Option, None, Ok, Err, refl, sym, ap, subst, ◌∙◌, arith, inl, inr, eqb}
 use Rattle.std.proofs.lemmas.List.{append-nil}
 use Rattle.std.proofs.lemmas.Bool.{eqb-true}
-use Rattle.gb_script.specs.declared.stop.Stop.{Stop}
-use Rattle.gb_script.specs.declared.stop.Stop.TheVariants as stops
-use Rattle.gb_script.specs.declared.stop.Fault.{Fault}
 use Rattle.gb_script.specs.declared.stop.Fault.TheVariants.{Stray, Deep}
 use Rattle.gb_script.specs.declared.token.Token.{Token}
 use Rattle.gb_script.specs.Grammar.{Leveled, tokens_of}
 use Rattle.gb_script.specs.Verdict.{is_over, AllWithin, IsFirstStray, IsFirstDeep}
-use Rattle.gb_script.specs.Reading.{Reader, ◌>>=◌, stray, deep, all_at, Gives}
+use Rattle.gb_script.specs.Reading.{Reader, ◌>>=◌, stray, deep, all_at}
 use Rattle.gb_script.proofs.Runs.{cases_bool}
 use Rattle.gb_script.proofs.Readers.{Reads, first, checked, checked-within, ok_is, done, bind_ok, bind_err}
 
@@ -149,15 +145,3 @@ module _ {A : Type 0} {P : A → Type 0} {m : A → List Leveled} {e : A → Opt
   unfolding all_at
   all_again ts a p at within =
       ap (λ read. read >>= λ x. cond (eqb (length x.1) 0) (Ok x.0) (stray x.1)) (again_all a ts p (sym at) ∙ checked-within (m a) [] (Ok (a, [])) within)
-
--- ---- from what reading gives to what a function of the code answers
-
-pub is_found : {X A : Type 0} (view : X → A) (r : Result X Stop) (read : Result A Fault) (Q : A → Type 0) → Gives view r read → ((a : A) → read ≡ Ok a → Q a) → IfOk r (λ x. Q (view x))
-is_found view (Ok x) read Q given h = h (view x) given
-is_found view (Err e) read Q given h = tt
-
-pub is_only : {X A : Type 0} (view : X → A) (r : Result X Stop) (read : Result A Fault) (a : A) → Gives view r read → read ≡ Ok a → Gives view r (Ok a)
-is_only view r read a given h = subst (Gives view r) h given
-
-pub is_fault : {X A : Type 0} (view : X → A) (r : Result X Stop) (read : Result A Fault) (f : Fault) → Gives view r read → r ≡ Err (stops.Fault f) → read ≡ Err f
-is_fault view r read f given h = subst (λ (r : Result _ Stop). Gives view r read) h given

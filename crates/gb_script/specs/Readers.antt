@@ -9,8 +9,14 @@ use Rattle.gb_script.specs.declared.words.StepWord.{StepWord}
 use Rattle.gb_script.specs.declared.words.StepWord.TheVariants as steps
 use Rattle.gb_script.specs.declared.words.ClauseWord.{ClauseWord}
 use Rattle.gb_script.specs.declared.words.ClauseWord.TheVariants as words
+use Rattle.gb_script.specs.declared.words.OrderWord.{OrderWord}
+use Rattle.gb_script.specs.declared.words.OrderWord.TheVariants as orders
+use Rattle.gb_script.specs.declared.words.RunWord.{RunWord}
+use Rattle.gb_script.specs.declared.words.RunWord.TheVariants as runs
 use Rattle.gb_script.specs.declared.words.StatementWord.{StatementWord}
 use Rattle.gb_script.specs.declared.words.StatementWord.TheVariants as begins_with
+use Rattle.gb_script.specs.declared.words.PropertyWord.{PropertyWord}
+use Rattle.gb_script.specs.declared.words.PropertyWord.TheVariants as properties
 use Rattle.gb_script.specs.declared.function.Function.{Function}
 use Rattle.gb_script.specs.declared.script.Call.{Call}
 use Rattle.gb_script.specs.declared.script.Assignment.{Assignment}
@@ -164,20 +170,28 @@ input_files_from x = record {
 unfoldable pub input_files_at : ℕ → Reader InputFiles
 input_files_at room ts = made_at input_files_from (pair_at name_at (pair_at flags_at (λ ts. past_at (is_word (codes "from")) (roots_at room) ts))) ts
 
+-- what stands behind a word that sets a task before or after others
+unfoldable pub order_of_at : OrderWord → Reader Clause
+order_of_at orders.DependsOn ts = made_at clauses.DependsOn (list_at text_at) ts
+order_of_at orders.MustRunAfter ts = made_at clauses.MustRunAfter (list_at text_at) ts
+order_of_at orders.FinalizedBy ts = made_at clauses.FinalizedBy (list_at text_at) ts
+
+-- what stands behind a word that says what a task does, or when it does it
+unfoldable pub run_of_at : ℕ → RunWord → Reader Clause
+run_of_at room runs.DoFirst ts = made_at clauses.DoFirst (call_at room) ts
+run_of_at room runs.DoLast ts = made_at clauses.DoLast (call_at room) ts
+run_of_at room runs.OnlyIf ts = made_at clauses.OnlyIf (condition_at room) ts
+run_of_at room runs.UpToDateWhen ts = made_at clauses.UpToDateWhen (condition_at room) ts
+run_of_at room runs.Enabled ts = made_at clauses.Enabled (tree_at room) ts
+
 -- what stands behind the word of a clause
 unfoldable pub clause_of_at : ℕ → ClauseWord → Reader Clause
 clause_of_at room words.Input ts = made_at clauses.Input (assignment_at name_at room) ts
 clause_of_at room words.InputFiles ts = made_at clauses.InputFiles (input_files_at room) ts
 clause_of_at room words.OutputFile ts = made_at clauses.OutputFile (assignment_at name_at room) ts
 clause_of_at room words.OutputDir ts = made_at clauses.OutputDir (assignment_at name_at room) ts
-clause_of_at room words.DependsOn ts = made_at clauses.DependsOn (list_at text_at) ts
-clause_of_at room words.MustRunAfter ts = made_at clauses.MustRunAfter (list_at text_at) ts
-clause_of_at room words.FinalizedBy ts = made_at clauses.FinalizedBy (list_at text_at) ts
-clause_of_at room words.DoFirst ts = made_at clauses.DoFirst (call_at room) ts
-clause_of_at room words.DoLast ts = made_at clauses.DoLast (call_at room) ts
-clause_of_at room words.OnlyIf ts = made_at clauses.OnlyIf (condition_at room) ts
-clause_of_at room words.UpToDateWhen ts = made_at clauses.UpToDateWhen (condition_at room) ts
-clause_of_at room words.Enabled ts = made_at clauses.Enabled (tree_at room) ts
+clause_of_at room (words.Order word) ts = order_of_at word ts
+clause_of_at room (words.Run word) ts = run_of_at room word ts
 
 unfoldable pub clause_at : ℕ → Reader Clause
 clause_at room ts = do
@@ -212,14 +226,18 @@ configuration_from x = record { name = x.0; block = x.1 }
 unfoldable pub configuration_at : ℕ → Reader Configuration
 configuration_at room ts = made_at configuration_from (pair_at name_at (block_at room)) ts
 
+-- what stands behind a word that says something of a property
+unfoldable pub property_of_at : ℕ → PropertyWord → Reader Statement
+property_of_at room properties.Declare ts = made_at statements.Property property_at ts
+property_of_at room properties.Set ts = made_at statements.Set (assignment_at property_at room) ts
+property_of_at room properties.Convention ts = made_at statements.Convention (assignment_at property_at room) ts
+property_of_at room properties.Unset ts = made_at statements.Unset property_at ts
+property_of_at room properties.DisallowChanges ts = made_at statements.DisallowChanges property_at ts
+
 -- what stands behind the word of a statement
 unfoldable pub statement_of_at : ℕ → StatementWord → Reader Statement
 statement_of_at room begins_with.DefaultTasks ts = made_at statements.DefaultTasks (list_at text_at) ts
-statement_of_at room begins_with.Property ts = made_at statements.Property property_at ts
-statement_of_at room begins_with.Set ts = made_at statements.Set (assignment_at property_at room) ts
-statement_of_at room begins_with.Convention ts = made_at statements.Convention (assignment_at property_at room) ts
-statement_of_at room begins_with.Unset ts = made_at statements.Unset property_at ts
-statement_of_at room begins_with.DisallowChanges ts = made_at statements.DisallowChanges property_at ts
+statement_of_at room (begins_with.Property word) ts = property_of_at room word ts
 statement_of_at room begins_with.Register ts = made_at statements.Register (registration_at room) ts
 statement_of_at room begins_with.Named ts = made_at statements.Named (configuration_at room) ts
 

@@ -7,8 +7,11 @@ use Rattle.gb_script.specs.declared.words.StepWord.{StepWord}
 use Rattle.gb_script.specs.declared.words.StepWord.TheVariants as steps
 use Rattle.gb_script.specs.declared.words.ClauseWord.{ClauseWord}
 use Rattle.gb_script.specs.declared.words.ClauseWord.TheVariants as clauses
+use Rattle.gb_script.specs.declared.words.OrderWord.TheVariants as orders
+use Rattle.gb_script.specs.declared.words.RunWord.TheVariants as runs
 use Rattle.gb_script.specs.declared.words.StatementWord.{StatementWord}
 use Rattle.gb_script.specs.declared.words.StatementWord.TheVariants as statements
+use Rattle.gb_script.specs.declared.words.PropertyWord.TheVariants as properties
 
 -- words, each with its meaning
 abbrev pub Meanings : Type 0 → Type 0
@@ -51,25 +54,25 @@ clause_words =
     ∷ (codes "inputFiles", clauses.InputFiles)
     ∷ (codes "outputFile", clauses.OutputFile)
     ∷ (codes "outputDir", clauses.OutputDir)
-    ∷ (codes "dependsOn", clauses.DependsOn)
-    ∷ (codes "mustRunAfter", clauses.MustRunAfter)
-    ∷ (codes "finalizedBy", clauses.FinalizedBy)
-    ∷ (codes "doFirst", clauses.DoFirst)
-    ∷ (codes "doLast", clauses.DoLast)
-    ∷ (codes "onlyIf", clauses.OnlyIf)
-    ∷ (codes "upToDateWhen", clauses.UpToDateWhen)
-    ∷ (codes "enabled", clauses.Enabled)
+    ∷ (codes "dependsOn", clauses.Order orders.DependsOn)
+    ∷ (codes "mustRunAfter", clauses.Order orders.MustRunAfter)
+    ∷ (codes "finalizedBy", clauses.Order orders.FinalizedBy)
+    ∷ (codes "doFirst", clauses.Run runs.DoFirst)
+    ∷ (codes "doLast", clauses.Run runs.DoLast)
+    ∷ (codes "onlyIf", clauses.Run runs.OnlyIf)
+    ∷ (codes "upToDateWhen", clauses.Run runs.UpToDateWhen)
+    ∷ (codes "enabled", clauses.Run runs.Enabled)
     ∷ []
 
 -- the words that begin a statement
 abbrev pub statement_words : Meanings StatementWord
 statement_words =
     (codes "defaultTasks", statements.DefaultTasks)
-    ∷ (codes "property", statements.Property)
-    ∷ (codes "set", statements.Set)
-    ∷ (codes "convention", statements.Convention)
-    ∷ (codes "unset", statements.Unset)
-    ∷ (codes "disallowChanges", statements.DisallowChanges)
+    ∷ (codes "property", statements.Property properties.Declare)
+    ∷ (codes "set", statements.Property properties.Set)
+    ∷ (codes "convention", statements.Property properties.Convention)
+    ∷ (codes "unset", statements.Property properties.Unset)
+    ∷ (codes "disallowChanges", statements.Property properties.DisallowChanges)
     ∷ (codes "register", statements.Register)
     ∷ (codes "named", statements.Named)
     ∷ []

@@ -3,7 +3,7 @@ ghost use Rattle.std.specs.Prelude.{◌≡◌, ◌<◌, ◌≤◌, length, IfOk,
 ghost use Rattle.gb_script.specs.Lexing.{begins};
 ghost use Rattle.gb_script.specs.Words.{clause_words};
 ghost use Rattle.gb_script.specs.Reading.{Gives, is_sign, no_matter, name_at, property_at, meaning_at, maybe_at, many_at, past_at};
-ghost use Rattle.gb_script.specs.Readers.{in_block, tree_at, bracketed_values_at, call_at, assignment_at, condition_at, input_files_at, clause_of_at, clause_at, block_at};
+ghost use Rattle.gb_script.specs.Readers.{in_block, tree_at, bracketed_values_at, call_at, assignment_at, condition_at, input_files_at, order_of_at, run_of_at, clause_of_at, clause_at, block_at};
 
 use crate::expression::{Expression, Expressions};
 use crate::reading::{
@@ -13,7 +13,7 @@ use crate::script::{Assignment, Block, Call, Clause, Condition, InputFiles};
 use crate::stop::Stop;
 use crate::token::{Sign, Token};
 use crate::values::{expression, expressions};
-use crate::words::{ClauseWord, clause_word};
+use crate::words::{ClauseWord, OrderWord, RunWord, clause_word};
 use std::alloc::Global;
 
 /// Values in brackets.
@@ -128,6 +128,63 @@ fn input_files(alloc: Global, tokens: &[Token], room: u32) -> Result<(InputFiles
     ))
 }
 
+/// What stands behind a word that sets a task before or after others.
+#[tactic(auto, unfolding(crate::specs::Readers::order_of_at))]
+fn order_of(alloc: Global, word: OrderWord, tokens: &[Token]) -> Result<(Clause, &[Token]), Stop>
+    ensures exact { Gives (λ x. (x.0, x.1.now)) result (order_of_at word tokens.now) }
+    ensures shorter { IfOk result (λ x. length x.1.now < length tokens.now) }
+{
+    match word {
+        OrderWord::DependsOn => {
+            let (tasks, rest) = texts(alloc, tokens)?;
+            Ok((Clause::DependsOn(tasks), rest))
+        }
+        OrderWord::MustRunAfter => {
+            let (tasks, rest) = texts(alloc, tokens)?;
+            Ok((Clause::MustRunAfter(tasks), rest))
+        }
+        OrderWord::FinalizedBy => {
+            let (tasks, rest) = texts(alloc, tokens)?;
+            Ok((Clause::FinalizedBy(tasks), rest))
+        }
+    }
+}
+
+/// What stands behind a word that says what a task does, or when it does it.
+#[tactic(auto, unfolding(crate::specs::Readers::run_of_at))]
+fn run_of(
+    alloc: Global,
+    word: RunWord,
+    tokens: &[Token],
+    room: u32,
+) -> Result<(Clause, &[Token]), Stop>
+    ensures exact { Gives (λ x. (x.0, x.1.now)) result (run_of_at room word tokens.now) }
+    ensures shorter { IfOk result (λ x. length x.1.now < length tokens.now) }
+{
+    match word {
+        RunWord::DoFirst => {
+            let (action, rest) = call(alloc, tokens, room)?;
+            Ok((Clause::DoFirst(action), rest))
+        }
+        RunWord::DoLast => {
+            let (action, rest) = call(alloc, tokens, room)?;
+            Ok((Clause::DoLast(action), rest))
+        }
+        RunWord::OnlyIf => {
+            let (condition, rest) = condition(alloc, tokens, room)?;
+            Ok((Clause::OnlyIf(condition), rest))
+        }
+        RunWord::UpToDateWhen => {
+            let (condition, rest) = condition(alloc, tokens, room)?;
+            Ok((Clause::UpToDateWhen(condition), rest))
+        }
+        RunWord::Enabled => {
+            let (value, rest) = expression(alloc, tokens, room)?;
+            Ok((Clause::Enabled(value), rest))
+        }
+    }
+}
+
 /// What stands behind the word of a clause.
 #[tactic(auto, unfolding(crate::specs::Readers::clause_of_at))]
 fn clause_of(
@@ -156,38 +213,8 @@ fn clause_of(
             let (output, rest) = assignment(alloc, tokens, room)?;
             Ok((Clause::OutputDir(output), rest))
         }
-        ClauseWord::DependsOn => {
-            let (tasks, rest) = texts(alloc, tokens)?;
-            Ok((Clause::DependsOn(tasks), rest))
-        }
-        ClauseWord::MustRunAfter => {
-            let (tasks, rest) = texts(alloc, tokens)?;
-            Ok((Clause::MustRunAfter(tasks), rest))
-        }
-        ClauseWord::FinalizedBy => {
-            let (tasks, rest) = texts(alloc, tokens)?;
-            Ok((Clause::FinalizedBy(tasks), rest))
-        }
-        ClauseWord::DoFirst => {
-            let (action, rest) = call(alloc, tokens, room)?;
-            Ok((Clause::DoFirst(action), rest))
-        }
-        ClauseWord::DoLast => {
-            let (action, rest) = call(alloc, tokens, room)?;
-            Ok((Clause::DoLast(action), rest))
-        }
-        ClauseWord::OnlyIf => {
-            let (condition, rest) = condition(alloc, tokens, room)?;
-            Ok((Clause::OnlyIf(condition), rest))
-        }
-        ClauseWord::UpToDateWhen => {
-            let (condition, rest) = condition(alloc, tokens, room)?;
-            Ok((Clause::UpToDateWhen(condition), rest))
-        }
-        ClauseWord::Enabled => {
-            let (value, rest) = expression(alloc, tokens, room)?;
-            Ok((Clause::Enabled(value), rest))
-        }
+        ClauseWord::Order(word) => order_of(alloc, word, tokens),
+        ClauseWord::Run(word) => run_of(alloc, word, tokens, room),
     }
 }
 

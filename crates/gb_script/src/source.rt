@@ -1,14 +1,15 @@
 //! Bytes to scripts and settings.
-ghost use Rattle.std.specs.Prelude.{◌≡◌, ℕ, ◌<◌, ◌≤◌, ◌↔◌, ◌⊎◌, List, length, Result, Err, IfOk, IsErrOf, IsUtf8};
+ghost use Rattle.std.specs.Prelude.{◌≡◌, ℕ, ◌<◌, ◌≤◌, ◌↔◌, ◌⊎◌, List, length, Result, Err, IfOk, IfErr, IsErrOf, IsUtf8};
 ghost use Rattle.gb_script.specs.Grammar.{script_spelled, settings_spelled};
 ghost use Rattle.gb_script.specs.Fits.{IsScript, IsSettings};
 ghost use Rattle.gb_script.specs.Notation.{IsSyntaxFault, IsDepthFault};
+ghost use Rattle.gb_script.specs.Telling.{IsTextFault, fault_told};
 ghost use Rattle.gb_script.specs.Script.{Spells, Says, SpellsSettings, SaysAsSettings};
 ghost use Rattle.gb_script.specs.declared.fault.ScriptFault.{ScriptFault};
 ghost use Rattle.gb_script.specs.declared.script.Statement.{Statement};
 
 use crate::fault::ScriptFault;
-use crate::lexing::lex;
+use crate::lexing::{Lexed, lex};
 use crate::script::{Script, Settings};
 use crate::statements::{whole_script, whole_settings};
 use crate::stop::{Fault, Stop};
@@ -16,6 +17,31 @@ use std::alloc::Global;
 
 /// The most bytes that a text may have: 1 MiB.
 const MAX_BYTES: usize = 1_048_576;
+
+/// The text that the bytes are.
+fn text_of(bytes: &[u8]) -> Result<&str, ScriptFault>
+    ensures same { IfOk result (λ text. text.now ≡ bytes.now) }
+    ensures short { IfOk result (λ text. length bytes.now ≤ 1048576) }
+    ensures utf8 { IfOk result (λ text. IsUtf8 bytes.now) }
+    ensures fault { IfErr result (IsTextFault bytes.now) }
+{
+    if bytes.len() > MAX_BYTES {
+        return Err(ScriptFault::TooLong);
+    }
+    std::str::from_utf8(bytes).map_err(|_| ScriptFault::NotUtf8)
+}
+
+/// The fault of a text where reading its tokens stopped.
+fn fault_of(text: &str, lexed: &Lexed, stop: Stop) -> ScriptFault
+    requires { length text.now ≤ 1048576 }
+    ensures { result ≡ fault_told text.now lexed.now.lines.items stop }
+{
+    match stop {
+        Stop::Memory => ScriptFault::OutOfMemory,
+        Stop::Fault(Fault::Stray(left)) => ScriptFault::Syntax(lexed.line_of(text, left)),
+        Stop::Fault(Fault::Deep(left)) => ScriptFault::TooDeep(lexed.line_of(text, left)),
+    }
+}
 
 /// The script that the bytes are.
 ///
@@ -34,18 +60,11 @@ pub fn read_script(alloc: Global, bytes: &[u8]) -> Result<Script, ScriptFault>
     ensures syntax { (line : ℕ) → result ≡ Err (ScriptFault.Syntax line) → IsSyntaxFault IsScript script_spelled bytes.now line }
     ensures too_deep { (line : ℕ) → result ≡ Err (ScriptFault.TooDeep line) → IsDepthFault IsScript script_spelled bytes.now line }
 {
-    if bytes.len() > MAX_BYTES {
-        return Err(ScriptFault::TooLong);
-    }
-    let Ok(text) = std::str::from_utf8(bytes) else {
-        return Err(ScriptFault::NotUtf8);
-    };
+    let text = text_of(bytes)?;
     let lexed = lex(alloc, text)?;
     match whole_script(alloc, &lexed.tokens) {
         Ok(script) => Ok(script),
-        Err(Stop::Memory) => Err(ScriptFault::OutOfMemory),
-        Err(Stop::Fault(Fault::Stray(left))) => Err(ScriptFault::Syntax(lexed.line_of(text, left))),
-        Err(Stop::Fault(Fault::Deep(left))) => Err(ScriptFault::TooDeep(lexed.line_of(text, left))),
+        Err(stop) => Err(fault_of(text, &lexed, stop)),
     }
 }
 
@@ -62,17 +81,10 @@ pub fn read_settings(alloc: Global, bytes: &[u8]) -> Result<Settings, ScriptFaul
     ensures syntax { (line : ℕ) → result ≡ Err (ScriptFault.Syntax line) → IsSyntaxFault IsSettings settings_spelled bytes.now line }
     ensures too_deep { (line : ℕ) → result ≡ Err (ScriptFault.TooDeep line) → IsDepthFault IsSettings settings_spelled bytes.now line }
 {
-    if bytes.len() > MAX_BYTES {
-        return Err(ScriptFault::TooLong);
-    }
-    let Ok(text) = std::str::from_utf8(bytes) else {
-        return Err(ScriptFault::NotUtf8);
-    };
+    let text = text_of(bytes)?;
     let lexed = lex(alloc, text)?;
     match whole_settings(alloc, &lexed.tokens) {
         Ok(settings) => Ok(settings),
-        Err(Stop::Memory) => Err(ScriptFault::OutOfMemory),
-        Err(Stop::Fault(Fault::Stray(left))) => Err(ScriptFault::Syntax(lexed.line_of(text, left))),
-        Err(Stop::Fault(Fault::Deep(left))) => Err(ScriptFault::TooDeep(lexed.line_of(text, left))),
+        Err(stop) => Err(fault_of(text, &lexed, stop)),
     }
 }

@@ -3,14 +3,14 @@ ghost use Rattle.std.specs.Prelude.{◌≡◌, ◌<◌, ◌≤◌, length, IfOk,
 ghost use Rattle.gb_script.specs.Lexing.{begins};
 ghost use Rattle.gb_script.specs.Words.{statement_words};
 ghost use Rattle.gb_script.specs.Reading.{Gives, is_any, meaning_at, all_at};
-ghost use Rattle.gb_script.specs.Readers.{action_at, registration_at, configuration_at, statement_of_at, statement_at, script_at, include_at, settings_at};
+ghost use Rattle.gb_script.specs.Readers.{action_at, registration_at, configuration_at, property_of_at, statement_of_at, statement_at, script_at, include_at, settings_at};
 
 use crate::clauses::{block, call, property_assignment};
 use crate::reading::{begins, name, property, skip, skip_word, stray, texts};
 use crate::script::{Call, Configuration, Registration, Script, Settings, Statement};
 use crate::stop::Stop;
 use crate::token::{Sign, Token};
-use crate::words::{StatementWord, statement_word};
+use crate::words::{PropertyWord, StatementWord, statement_word};
 use gb_core::text::Texts;
 use std::alloc::Global;
 
@@ -68,6 +68,41 @@ fn configuration(
     Ok((Configuration { name, block }, rest))
 }
 
+/// What stands behind a word that says something of a property.
+#[tactic(auto, unfolding(crate::specs::Readers::property_of_at))]
+fn property_of(
+    alloc: Global,
+    word: PropertyWord,
+    tokens: &[Token],
+    room: u32,
+) -> Result<(Statement, &[Token]), Stop>
+    ensures exact { Gives (λ x. (x.0, x.1.now)) result (property_of_at room word tokens.now) }
+    ensures shorter { IfOk result (λ x. length x.1.now < length tokens.now) }
+{
+    match word {
+        PropertyWord::Declare => {
+            let (name, rest) = property(tokens)?;
+            Ok((Statement::Property(name), rest))
+        }
+        PropertyWord::Set => {
+            let (assignment, rest) = property_assignment(alloc, tokens, room)?;
+            Ok((Statement::Set(assignment), rest))
+        }
+        PropertyWord::Convention => {
+            let (assignment, rest) = property_assignment(alloc, tokens, room)?;
+            Ok((Statement::Convention(assignment), rest))
+        }
+        PropertyWord::Unset => {
+            let (name, rest) = property(tokens)?;
+            Ok((Statement::Unset(name), rest))
+        }
+        PropertyWord::DisallowChanges => {
+            let (name, rest) = property(tokens)?;
+            Ok((Statement::DisallowChanges(name), rest))
+        }
+    }
+}
+
 /// What stands behind the word of a statement.
 #[tactic(auto, unfolding(crate::specs::Readers::statement_of_at))]
 fn statement_of(
@@ -84,26 +119,7 @@ fn statement_of(
             let (tasks, rest) = texts(alloc, tokens)?;
             Ok((Statement::DefaultTasks(tasks), rest))
         }
-        StatementWord::Property => {
-            let (name, rest) = property(tokens)?;
-            Ok((Statement::Property(name), rest))
-        }
-        StatementWord::Set => {
-            let (assignment, rest) = property_assignment(alloc, tokens, room)?;
-            Ok((Statement::Set(assignment), rest))
-        }
-        StatementWord::Convention => {
-            let (assignment, rest) = property_assignment(alloc, tokens, room)?;
-            Ok((Statement::Convention(assignment), rest))
-        }
-        StatementWord::Unset => {
-            let (name, rest) = property(tokens)?;
-            Ok((Statement::Unset(name), rest))
-        }
-        StatementWord::DisallowChanges => {
-            let (name, rest) = property(tokens)?;
-            Ok((Statement::DisallowChanges(name), rest))
-        }
+        StatementWord::Property(word) => property_of(alloc, word, tokens, room),
         StatementWord::Register => {
             let (task, rest) = registration(alloc, tokens, room)?;
             Ok((Statement::Register(task), rest))

@@ -50,6 +50,24 @@ pub fn step_word(word: &str) -> Option<StepWord>
     }
 }
 
+/// A word that sets a task before or after others.
+#[derive(Clone, Copy, Debug)]
+pub enum OrderWord {
+    DependsOn,
+    MustRunAfter,
+    FinalizedBy,
+}
+
+/// A word that says what a task does, or when it does it.
+#[derive(Clone, Copy, Debug)]
+pub enum RunWord {
+    DoFirst,
+    DoLast,
+    OnlyIf,
+    UpToDateWhen,
+    Enabled,
+}
+
 /// A word that begins a clause.
 #[derive(Clone, Copy, Debug)]
 pub enum ClauseWord {
@@ -57,14 +75,8 @@ pub enum ClauseWord {
     InputFiles,
     OutputFile,
     OutputDir,
-    DependsOn,
-    MustRunAfter,
-    FinalizedBy,
-    DoFirst,
-    DoLast,
-    OnlyIf,
-    UpToDateWhen,
-    Enabled,
+    Order(OrderWord),
+    Run(RunWord),
 }
 
 pub fn clause_word(word: &str) -> Option<ClauseWord>
@@ -75,27 +87,33 @@ pub fn clause_word(word: &str) -> Option<ClauseWord>
         "inputFiles" => Some(ClauseWord::InputFiles),
         "outputFile" => Some(ClauseWord::OutputFile),
         "outputDir" => Some(ClauseWord::OutputDir),
-        "dependsOn" => Some(ClauseWord::DependsOn),
-        "mustRunAfter" => Some(ClauseWord::MustRunAfter),
-        "finalizedBy" => Some(ClauseWord::FinalizedBy),
-        "doFirst" => Some(ClauseWord::DoFirst),
-        "doLast" => Some(ClauseWord::DoLast),
-        "onlyIf" => Some(ClauseWord::OnlyIf),
-        "upToDateWhen" => Some(ClauseWord::UpToDateWhen),
-        "enabled" => Some(ClauseWord::Enabled),
+        "dependsOn" => Some(ClauseWord::Order(OrderWord::DependsOn)),
+        "mustRunAfter" => Some(ClauseWord::Order(OrderWord::MustRunAfter)),
+        "finalizedBy" => Some(ClauseWord::Order(OrderWord::FinalizedBy)),
+        "doFirst" => Some(ClauseWord::Run(RunWord::DoFirst)),
+        "doLast" => Some(ClauseWord::Run(RunWord::DoLast)),
+        "onlyIf" => Some(ClauseWord::Run(RunWord::OnlyIf)),
+        "upToDateWhen" => Some(ClauseWord::Run(RunWord::UpToDateWhen)),
+        "enabled" => Some(ClauseWord::Run(RunWord::Enabled)),
         _ => None,
     }
+}
+
+/// A word that says something of a property.
+#[derive(Clone, Copy, Debug)]
+pub enum PropertyWord {
+    Declare,
+    Set,
+    Convention,
+    Unset,
+    DisallowChanges,
 }
 
 /// A word that begins a statement.
 #[derive(Clone, Copy, Debug)]
 pub enum StatementWord {
     DefaultTasks,
-    Property,
-    Set,
-    Convention,
-    Unset,
-    DisallowChanges,
+    Property(PropertyWord),
     Register,
     Named,
 }
@@ -105,11 +123,11 @@ pub fn statement_word(word: &str) -> Option<StatementWord>
 {
     match word {
         "defaultTasks" => Some(StatementWord::DefaultTasks),
-        "property" => Some(StatementWord::Property),
-        "set" => Some(StatementWord::Set),
-        "convention" => Some(StatementWord::Convention),
-        "unset" => Some(StatementWord::Unset),
-        "disallowChanges" => Some(StatementWord::DisallowChanges),
+        "property" => Some(StatementWord::Property(PropertyWord::Declare)),
+        "set" => Some(StatementWord::Property(PropertyWord::Set)),
+        "convention" => Some(StatementWord::Property(PropertyWord::Convention)),
+        "unset" => Some(StatementWord::Property(PropertyWord::Unset)),
+        "disallowChanges" => Some(StatementWord::Property(PropertyWord::DisallowChanges)),
         "register" => Some(StatementWord::Register),
         "named" => Some(StatementWord::Named),
         _ => None,

@@ -1,33 +1,46 @@
-use Rattle.std.proofs.Common.{◌≡◌, ℕ, List, ap, subst, ◌∙◌, unwrap_or, [], IsTrue}
+use Rattle.std.proofs.Common.{◌≡◌, ◌||◌, ◌&&◌, not, ℕ, List, ap, subst, ◌∙◌, unwrap_or, [], bytes_eq, IsTrue}
+use Rattle.std.specs.BTreeSet.{contains}
 use Rattle.std.specs.FinMap.Entries.{find, is_sorted}
-use Rattle.std.specs.List.{list_all}
+use Rattle.std.specs.List.{list_all, list_any}
+use Rattle.bstr.specs.Text.{lines_of}
 use Rattle.gb_core.specs.Place.{is_rel_path}
 use Rattle.gb_action.specs.Files.{byte_order, Tree, file_at, tree_at}
-use Rattle.gb_action.specs.Outputs.{files_of}
-use Rattle.gb_action.specs.Shapes.{source}
+use Rattle.gb_action.specs.Outputs.{files_of, stands_at}
+use Rattle.gb_action.specs.Shapes.{source, target}
 use Rattle.gb_action.specs.declared.change.Change.{Change}
 use Rattle.gb_kinds.specs.ByFile.{source_changes}
-use Rattle.gb_kinds.specs.Carried.{knows, lines_where, IsCarried}
+use Rattle.gb_kinds.specs.Carried.{IsCarried}
 use Rattle.gb_kinds.specs.Remade.{standing}
-use Rattle.gb_kinds.specs.Words.{index_files, path_line}
-use Rattle.gb_kinds.proofs.Known.{known_in}
-use Rattle.gb_kinds.proofs.CarriedLines.{is_found}
+use Rattle.gb_kinds.specs.Words.{index_files}
+use Rattle.gb_kinds.proofs.CarriedFound.{is_found, same_entry}
+use Rattle.gb_kinds.proofs.RemadeLaw.{stood_at}
 use Rattle.gb_kinds.proofs.carried.carried_index.Goals as goal
 
 pub returns : goal.returns
 returns c =
     let request = c.args.request.now in
+    let old = standing request.outputs in
     let output_is = c.in_ok-output.ensures in
-    let stood : c.standing.result.now ≡ standing request.outputs = c.standing.ensures.files ∙ ap (λ name. unwrap_or (files_of request.outputs name) []) output_is in
-    let changes_are : c.changes_of-changes.result.now ≡ source_changes request.changes.lists = c.changes_of-changes.ensures ∙ ap (λ name. unwrap_or (find byte_order name request.changes.lists) []) c.in_ok-name.ensures in
+    let changed = c.in_ok-changed.changed in
+    let gone = contains byte_order changed.lines in
+    let new = index_files changed.index in
+    let index = index_files c.in_ok-made.made in
+    let stood : c.standing.result.now ≡ old = c.standing.ensures.files ∙ ap (λ name. unwrap_or (files_of request.outputs name) []) output_is in
+    let changes_are : c.changes_of.result.now ≡ source_changes request.changes.lists = c.changes_of.ensures ∙ ap (λ name. unwrap_or (find byte_order name request.changes.lists) []) c.in_ok-name.ensures in
     let files_are : c.files_of.result.now ≡ tree_at request.files source = c.files_of.ensures.files ∙ ap (tree_at request.files) c.in_ok-name.ensures in
-    subst (λ (changes : List Change). IsCarried (standing request.outputs) changes (tree_at request.files source) (index_files c.in_ok-index.index)) changes_are
-    (is_found (standing request.outputs) c.changes_of-changes.result.now (tree_at request.files source) (index_files c.in_ok-index.index) c.in_ok-known.known c.learn_changes.new.known
+    let there = λ (file : List ℕ) (line : List ℕ). (list_any (bytes_eq line) (lines_of file) && not (gone line)) in
+    subst (λ (changes : List Change). IsCarried old changes (tree_at request.files source) (contains byte_order c.add_told.new.words) index) changes_are
+    (is_found old c.changes_of.result.now (tree_at request.files source) index new gone (contains byte_order c.add_told.new.words) (contains byte_order changed.words)
     (subst (λ name. IsTrue (is_sorted byte_order (unwrap_or (files_of request.outputs name) []))) output_is c.standing.ensures.ordered)
-    (subst (λ (index : Tree). (line word : List ℕ) → knows c.in_ok-known.known line word ≡ known_in line word index) stood c.in_ok-known.ensures)
-    c.in_ok-learn_changes.ensures.words
-    (subst (λ (files : Tree). (word : List ℕ) → file_at (index_files c.in_ok-index.index) word ≡ lines_where (λ file. knows c.learn_changes.new.known (path_line file.0) word) files) files_are c.in_ok-index.ensures.entries)
-    c.in_ok-index.ensures.ordered
+    c.in_ok-changed.ensures.lines c.in_ok-changed.ensures.words c.in_ok-changed.ensures.entries
+    (subst (λ (files : Tree). (word : List ℕ) → contains byte_order c.add_told.new.words word ≡ (contains byte_order changed.words word || list_any (λ (f : List ℕ × List ℕ). bytes_eq f.0 word && list_any gone (lines_of f.1)) files)) stood c.in_ok-add_told.ensures)
+    c.in_ok-changed.ensures.paths
+    c.in_ok-made.ensures.ordered
+    (λ word at. same_entry
+    (λ line. (list_any (bytes_eq line) (lines_of (unwrap_or (stands_at request.outputs target word) [])) && not (gone line)) || list_any (bytes_eq line) (lines_of (unwrap_or (file_at new word) [])))
+    (λ line. (list_any (bytes_eq line) (lines_of (unwrap_or (file_at old word) [])) && not (gone line)) || list_any (bytes_eq line) (lines_of (unwrap_or (file_at new word) [])))
+    (λ line. ap (λ o. (list_any (bytes_eq line) (lines_of (unwrap_or o [])) && not (gone line)) || list_any (bytes_eq line) (lines_of (unwrap_or (file_at new word) []))) (stood_at request.outputs target word))
+    (file_at index word) (c.in_ok-made.ensures.entries word at))
+    c.in_ok-made.ensures.others
     (subst (λ name. IsTrue (is_sorted byte_order (tree_at request.files name))) c.in_ok-name.ensures c.files_of.ensures.ordered)
-    (subst (λ (files : Tree). IsTrue (list_all (λ (file : List ℕ × List ℕ). is_rel_path file.0) files)) files_are c.in_ok-index.ensures.paths)
-    c.in_ok-learn_changes.ensures.paths)
+    (subst (λ (files : Tree). IsTrue (list_all (λ (file : List ℕ × List ℕ). is_rel_path file.0) files)) files_are c.meet_paths.ensures))

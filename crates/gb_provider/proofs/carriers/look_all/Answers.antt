@@ -9,10 +9,10 @@ past_tasks-at-requires-clause-before c = past_tasks (known c.args.states.now) c.
 
 pub returns-then-is_none-clause-reads : goal.returns-then-is_none-clause-reads
 returns-then-is_none-clause-reads c =
-    let reads = tasks_read (known c.args.states.now) c.args.operands.now [] c.past_tasks-at.result c.past_tasks-at.ensures c.if-at-operands.true in
+    let reads = tasks_read (known c.args.states.now) c.args.operands.now [] c.past_tasks-at.result c.past_tasks-at.ensures.before c.if-at-operands.true in
     sym (reads_wait (known c.args.states.now) _ c.past_tasks-at.result (carry_all [] c.args.operands.now) reads (sym c.known_at.ensures ∙ none_copied c.known_at.result c.if-is_none.ensures))
 
 pub returns-then-is_none-clause-past : goal.returns-then-is_none-clause-past
 returns-then-is_none-clause-past c =
-    let reads = tasks_read (known c.args.states.now) c.args.operands.now [] c.past_tasks-at.result c.past_tasks-at.ensures c.if-at-operands.true in
+    let reads = tasks_read (known c.args.states.now) c.args.operands.now [] c.past_tasks-at.result c.past_tasks-at.ensures.before c.if-at-operands.true in
     reads_past (known c.args.states.now) _ c.past_tasks-at.result (carry_all [] c.args.operands.now) reads
