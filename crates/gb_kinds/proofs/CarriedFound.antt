@@ -7,14 +7,11 @@ use Rattle.bstr.proofs.lemmas.LineLemmas.{lines-nil}
 use Rattle.gb_core.specs.Place.{is_rel_path}
 use Rattle.gb_action.specs.Files.{byte_order, Tree, file_at}
 use Rattle.gb_action.specs.declared.change.Change.{Change}
-use Rattle.gb_kinds.specs.Carried.{as_files, holds_in, is_carried, is_looked_at, is_of_change, lines_where, path_of, told_at, IsCarried, IsEntry}
+use Rattle.gb_kinds.specs.Carried.{as_files, holds_in, is_carried, is_line_of, is_looked_at, is_of_change, lines_where, path_of, told_at, IsCarried, IsEntry}
 use Rattle.gb_kinds.specs.Words.{path_line}
 use Rattle.gb_kinds.proofs.CarriedLines.{are_lines, at_path, first_is, lines_cut, on, path_is_line, second_is, tells}
 use Rattle.gb_kinds.proofs.LinesWhere.{told_so_far}
-
-both : (a b : Bool) → a ≡ true → b ≡ true → (a && b) ≡ true
-both true b p q = q
-both false b p q = p
+use Rattle.gb_kinds.proofs.WordFiles.{both}
 
 pub same_any : {X : Type 0} (left right : X → Bool) → ((x : X) → left x ≡ right x) → (xs : List X) → list_any left xs ≡ list_any right xs
 same_any left right h [] = refl
@@ -49,7 +46,7 @@ module _ (standing : Tree) (changes : List Change) (files index new : Tree) (gon
       by None = ap (list_any gone) (sym lines-nil)
       by (Some told) = refl
 
-  carried : (word line : List ℕ) → ((list_any (bytes_eq line) (lines_of (unwrap_or (file_at standing word) [])) && not (gone line)) || list_any (bytes_eq line) (lines_of (unwrap_or (file_at new word) []))) ≡ is_carried standing changes files word line
+  carried : (word line : List ℕ) → is_line_of (unwrap_or (file_at standing word) []) gone (unwrap_or (file_at new word) []) line ≡ is_carried standing changes files word line
   carried word line =
       let chosen = λ (f : List ℕ × List ℕ). holds_in (file_at files f.0) word in
       ap (λ b. (list_any (bytes_eq line) (told_at standing word) && not b) || list_any (bytes_eq line) (lines_of (unwrap_or (file_at new word) []))) (lines line)
@@ -61,13 +58,13 @@ module _ (standing : Tree) (changes : List Change) (files index new : Tree) (gon
       ∙ of_changes (λ path. bytes_eq (path_line path) line && holds_in (file_at files path) word) changes)
 
   pub is_found : IsTrue (is_sorted byte_order index)
-      → ((word : List ℕ) → looked_at word ≡ true → IsEntry (λ line. (list_any (bytes_eq line) (lines_of (unwrap_or (file_at standing word) [])) && not (gone line)) || list_any (bytes_eq line) (lines_of (unwrap_or (file_at new word) []))) (file_at index word))
+      → ((word : List ℕ) → looked_at word ≡ true → IsEntry (is_line_of (unwrap_or (file_at standing word) []) gone (unwrap_or (file_at new word) [])) (file_at index word))
       → ((word : List ℕ) → looked_at word ≡ false → file_at index word ≡ None)
       → IsTrue (is_sorted byte_order files) → IsTrue (list_all (λ (f : List ℕ × List ℕ). is_rel_path f.0) files) → IsCarried standing changes files looked_at index
   is_found ordered entries others in_order paths = record {
     looked = looked;
     ordered = ordered;
-    entries = λ word at. same_entry (λ line. (list_any (bytes_eq line) (lines_of (unwrap_or (file_at standing word) [])) && not (gone line)) || list_any (bytes_eq line) (lines_of (unwrap_or (file_at new word) []))) (is_carried standing changes files word) (carried word) (file_at index word) (entries word (looked word ∙ at));
+    entries = λ word at. same_entry (is_line_of (unwrap_or (file_at standing word) []) gone (unwrap_or (file_at new word) [])) (is_carried standing changes files word) (carried word) (file_at index word) (entries word (looked word ∙ at));
     others = λ word at. others word (looked word ∙ at);
     in_order = in_order;
     paths = paths;

@@ -25,7 +25,7 @@ use Rattle.gb_kinds.specs.Remade.{as_made, standing}
 use Rattle.gb_kinds.specs.Words.{holds_word, index_of, path_line}
 use Rattle.gb_kinds.proofs.CarriedFound.{same_any}
 use Rattle.gb_kinds.proofs.CarriedLines.{are_lines, at_path as one_at_path, first_is, is_one_line, lines_cut, on, path_is_line, second_is, tells}
-use Rattle.gb_kinds.proofs.Carrying.{has_line, same_line}
+use Rattle.gb_kinds.proofs.Carrying.{either, has_line, same_line}
 use Rattle.gb_kinds.proofs.ByFileAnswers.{same_ok, source_told, tree_ordered}
 use Rattle.gb_kinds.proofs.FileLaw.{and_false, and_true, differs, itself, or_false, or_itself}
 use Rattle.gb_kinds.proofs.Filtered.{filter_sorted, kept, kept_at, kept_none, lines_are, lines_rise, same_lines}
@@ -33,16 +33,8 @@ use Rattle.gb_kinds.proofs.LinesWhere.{told_so_far}
 use Rattle.gb_kinds.proofs.Paths.{at_path}
 use Rattle.gb_kinds.proofs.RemadeAnswers.{IsRightAt}
 use Rattle.gb_kinds.proofs.RemadeLaw.{stood_at}
-use Rattle.gb_kinds.proofs.WordFiles.{entry_of, index-entry, index-sorted}
+use Rattle.gb_kinds.proofs.WordFiles.{both, entry_of, index-entry, index-sorted}
 use Rattle.gb_kinds.proofs.Writing.{written_at-by_file}
-
-both : (a b : Bool) → a ≡ true → b ≡ true → (a && b) ≡ true
-both true b p q = q
-both false b p q = p
-
-either : (a : Bool) → (a || true) ≡ true
-either true = refl
-either false = refl
 
 left_false : (a b : Bool) → (a || b) ≡ false → a ≡ false
 left_false true b e = e

@@ -15,18 +15,11 @@ use Rattle.gb_action.specs.declared.change.Change.{Change}
 use Rattle.gb_kinds.specs.Carried.{as_files, file_of_lines, holds_in, lines_where, path_of}
 use Rattle.gb_kinds.specs.Words.{path_line, with_path}
 use Rattle.gb_kinds.proofs.LinesWhere.{lines_where_more}
-use Rattle.gb_kinds.proofs.WordFiles.{first_of, not_later}
+use Rattle.gb_kinds.proofs.WordFiles.{both, first_of, not_later}
 use Rattle.gb_kinds.proofs.WordSets.{or_false}
+use Rattle.gb_kinds.proofs.Writing.{or_none}
 
-both : (a b : Bool) → a ≡ true → b ≡ true → (a && b) ≡ true
-both true b p q = q
-both false b p q = p
-
-pub and_true : (a b : Bool) → b ≡ true → (a && b) ≡ a
-and_true true b e = e
-and_true false b e = refl
-
-either : (a : Bool) → (a || true) ≡ true
+pub either : (a : Bool) → (a || true) ≡ true
 either true = refl
 either false = refl
 
@@ -165,10 +158,6 @@ module _ (Is : List ℕ → Option (List ℕ) → Type 0) (has : List ℕ → Bo
       by : (b : Bool) → bytes_eq word q ≡ b → b ≡ false
       by true same = sym (within word here) ∙ ap has ((bytes_decides word q).0 same) ∙ e
       by false same = refl
-
-  or_none : (o : Option (List ℕ)) → option_or o None ≡ o
-  or_none None = refl
-  or_none (Some x) = refl
 
   pub entries_later : (q : List ℕ) → has q ≡ true → list_any (eq_by_cmp byte_order q) rest ≡ false → Is q (file_at after q)
   entries_later q e gone = by (bytes_eq word q) refl

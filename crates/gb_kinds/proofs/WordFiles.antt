@@ -75,7 +75,7 @@ is_found q es = by (lookup (is_at (byte_order q)) es) ∙ ap is_some (sym (found
     by None = refl
     by (Some x) = refl
 
-both : (a b : Bool) → a ≡ true → b ≡ true → (a && b) ≡ true
+pub both : (a b : Bool) → a ≡ true → b ≡ true → (a && b) ≡ true
 both true b p q = q
 both false b p q = p
 

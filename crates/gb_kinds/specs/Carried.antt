@@ -73,6 +73,10 @@ pub record IsIndexFor (request : Request) (looked_at : List ℕ → Bool) (index
 
 -- ---- As it is built
 
+-- the line stood and is not gone, or it is new
+abbrev pub is_line_of : List ℕ → (List ℕ → Bool) → List ℕ → List ℕ → Bool
+is_line_of stood gone new line = (list_any (bytes_eq line) (lines_of stood) && not (gone line)) || list_any (bytes_eq line) (lines_of new)
+
 -- the changed paths as those of files
 abbrev pub as_files : List Change → Tree
 as_files changes = map (λ change. (path_of change, [])) changes

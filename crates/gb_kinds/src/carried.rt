@@ -11,7 +11,7 @@ ghost use Rattle.gb_action.specs.Files.{byte_order, file_at, tree_at};
 ghost use Rattle.gb_action.specs.Outputs.{stands_at};
 ghost use Rattle.gb_action.specs.Shapes.{source as source_is, target};
 ghost use Rattle.gb_kinds.specs.ByFile.{source_changes};
-ghost use Rattle.gb_kinds.specs.Carried.{as_files, file_of_lines, holds_in, is_of_change, lines_where, path_of, IsCarried, IsEntry};
+ghost use Rattle.gb_kinds.specs.Carried.{as_files, file_of_lines, holds_in, is_line_of, is_of_change, lines_where, path_of, IsCarried, IsEntry};
 ghost use Rattle.gb_kinds.specs.Remade.{standing as standing_in};
 ghost use Rattle.gb_kinds.specs.Words.{index_files, path_line, with_path};
 
@@ -45,7 +45,8 @@ struct Changed {
 }
 
 /// The index at the words that changed files hold or held. Of the files that did not change no
-/// bytes are read. Takes n log n steps in the bytes of the old index and of the changed files.
+/// bytes are read. Takes n log n steps in the bytes of the old index and of the changed files, and
+/// one for each path.
 pub fn carried_index(alloc: Global, request: &Request) -> Result<Remade, AllocError>
     ensures { IfOk result (λ remade. IsCarried (standing_in request.now.outputs) (source_changes request.now.changes.lists) (tree_at request.now.files source_is) (contains byte_order remade.looked_at) (index_files remade.made)) }
 {
@@ -63,7 +64,7 @@ pub fn carried_index(alloc: Global, request: &Request) -> Result<Remade, AllocEr
     Ok(Remade { looked_at, made })
 }
 
-/// That each path is one is known of a path only where it is met.
+/// Walks the paths, for the proof alone: that a path holds no line feed is known of one that is met.
 fn meet_paths(files: &[(RelPath, Bytes)])
     ensures { IsTrue (list_all (λ file. is_rel_path file.0) files.now) }
 {
@@ -195,7 +196,7 @@ fn index_at(
     new: &Index,
 ) -> Result<Index, AllocError>
     ensures ordered { IfOk result (λ index. IsTrue (is_sorted byte_order (index_files index))) }
-    ensures entries { IfOk result (λ index. (word : _) → contains byte_order words.now word ≡ true → IsEntry (λ line. (list_any (bytes_eq line) (lines_of (unwrap_or (stands_at request.now.outputs target word) [])) && not (contains byte_order gone.now line)) || list_any (bytes_eq line) (lines_of (unwrap_or (file_at (index_files new.now) word) []))) (file_at (index_files index) word)) }
+    ensures entries { IfOk result (λ index. (word : _) → contains byte_order words.now word ≡ true → IsEntry (is_line_of (unwrap_or (stands_at request.now.outputs target word) []) (contains byte_order gone.now) (unwrap_or (file_at (index_files new.now) word) [])) (file_at (index_files index) word)) }
     ensures others { IfOk result (λ index. (word : _) → contains byte_order words.now word ≡ false → file_at (index_files index) word ≡ None) }
 {
     let output = output_name(alloc)?;
@@ -230,7 +231,7 @@ fn told_at<'a>(index: &'a Index, word: &RelPath) -> &'a [u8]
 
 /// The lines that stood without those that are gone, and the new ones.
 fn carried_lines(alloc: Global, stood: &[u8], gone: &Lines, new: &[u8]) -> Result<Lines, AllocError>
-    ensures { IfOk result (λ lines. (line : _) → contains byte_order lines line ≡ ((list_any (bytes_eq line) (lines_of stood.now) && not (contains byte_order gone.now line)) || list_any (bytes_eq line) (lines_of new.now))) }
+    ensures { IfOk result (λ lines. (line : _) → contains byte_order lines line ≡ is_line_of stood.now (contains byte_order gone.now) new.now line) }
 {
     let mut lines = BTreeSet::new(alloc);
     add_others(alloc, &mut lines, stood, gone)?;

@@ -50,11 +50,11 @@ module _ {A B : Type 0} {P : A → Type 0} {m : A → List Leveled} {e : A → O
 
 -- ---- two, one after the other
 
-module _ {A B : Type 0} {P1 : A → Type 0} {m1 : A → List Leveled} {e1 : A → Option Token → Bool} {r1 : Reader A}
-    {P2 : B → Type 0} {m2 : B → List Leveled} {e2 : B → Option Token → Bool} {r2 : Reader B}
-    (R1 : Reads P1 m1 e1 r1) (R2 : Reads P2 m2 e2 r2) (some : (b : B) × P2 b) where
+module _ {A B : Type 0} {FitsFirst : A → Type 0} {m1 : A → List Leveled} {e1 : A → Option Token → Bool} {r1 : Reader A}
+    {FitsSecond : B → Type 0} {m2 : B → List Leveled} {e2 : B → Option Token → Bool} {r2 : Reader B}
+    (reads_first : Reads FitsFirst m1 e1 r1) (reads_second : Reads FitsSecond m2 e2 r2) (some : (b : B) × FitsSecond b) where
   abbrev pub ArePair : A × B → Type 0
-  ArePair x = P1 x.0 × P2 x.1
+  ArePair x = FitsFirst x.0 × FitsSecond x.1
 
   abbrev pub pair_marks : A × B → List Leveled
   pair_marks x = m1 x.0 ++ m2 x.1
@@ -63,25 +63,25 @@ module _ {A B : Type 0} {P1 : A → Type 0} {m1 : A → List Leveled} {e1 : A �
   pair_ends x o = e1 x.0 (first_or (m2 x.1) o) && e2 x.1 o
 
   abbrev IsWith : A → A × B → Type 0
-  IsWith a x = (x.0 ≡ a) × P2 x.1
+  IsWith a x = (x.0 ≡ a) × FitsSecond x.1
 
   abbrev with_first : A → B → A × B
   with_first a b = (a, b)
 
   Reads-second : (a : A) → Reads (IsWith a) (λ x. m2 x.1) (λ x. e2 x.1) (made_at (with_first a) r2)
   Reads-second a =
-      Reads-into R2 (with_first a) (IsWith a) (λ x. m2 x.1) (λ x. e2 x.1)
+      Reads-into reads_second (with_first a) (IsWith a) (λ x. m2 x.1) (λ x. e2 x.1)
       (λ x q. (x.1, ap (λ (z : A). with_first z x.1) q.0, q.1))
       (λ b p. (refl, p))
       (λ b p. refl) (λ b o p. refl)
 
   pub Reads-pair : Reads ArePair pair_marks pair_ends (pair_at r1 r2)
   Reads-pair =
-      Reads-bind {r2 = λ a. made_at (with_first a) r2} R1 (λ a p. Reads-second a)
+      Reads-bind {r2 = λ a. made_at (with_first a) r2} reads_first (λ a p. Reads-second a)
       (λ a p. (with_first a some.0, (refl, some.1)))
       ArePair pair_marks pair_ends
       (λ x p. (x.0, p.0, (refl, p.1)))
-      (λ a x p q. (subst P1 (sym q.0) p, q.1))
+      (λ a x p q. (subst FitsFirst (sym q.0) p, q.1))
       (λ a x p q. ap (λ (z : A). m1 z ++ m2 x.1) q.0)
       (λ a x o p q h. let t = both_true (e1 x.0 (first_or (m2 x.1) o)) (e2 x.1 o) h in (ap (λ (z : A). e1 z (first_or (m2 x.1) o)) (sym q.0) ∙ t.0, t.1))
       (λ a x o p q h g. and_true (e1 x.0 (first_or (m2 x.1) o)) (e2 x.1 o) (ap (λ (z : A). e1 z (first_or (m2 x.1) o)) q.0 ∙ h) g)
@@ -115,13 +115,13 @@ Reads-opened {P} {m} {e} r s room d sum some R = Reads-open P m e r s d some roo
 
 -- ---- one or the other, by the first token
 
-module _ {A : Type 0} {P1 P2 : A → Type 0} {m : A → List Leveled} {e : A → Option Token → Bool} {r1 r2 : Reader A} (test : Token → Bool) (R1 : Reads P1 m e r1) (R2 : Reads P2 m e r2)
-    (begun1 : (a : A) → P1 a → Begun test (m a)) (begun2 : (a : A) → P2 a → Begun (λ t. not (test t)) (m a)) where
+module _ {A : Type 0} {FitsFirst FitsSecond : A → Type 0} {m : A → List Leveled} {e : A → Option Token → Bool} {r1 r2 : Reader A} (test : Token → Bool) (reads_first : Reads FitsFirst m e r1) (reads_second : Reads FitsSecond m e r2)
+    (begun1 : (a : A) → FitsFirst a → Begun test (m a)) (begun2 : (a : A) → FitsSecond a → Begun (λ t. not (test t)) (m a)) where
   abbrev pub either_at : Reader A
   either_at ts = cond (begins test ts) (r1 ts) (r2 ts)
 
   abbrev pub IsEither : A → Type 0
-  IsEither a = P1 a ⊎ P2 a
+  IsEither a = FitsFirst a ⊎ FitsSecond a
 
   one : (ts : List Token) → begins test ts ≡ true → either_at ts ≡ r1 ts
   one ts h = rw h refl
@@ -129,7 +129,7 @@ module _ {A : Type 0} {P1 P2 : A → Type 0} {m : A → List Leveled} {e : A →
   other_one : (ts : List Token) → begins test ts ≡ false → either_at ts ≡ r2 ts
   other_one ts h = rw h refl
 
-  not_begun : (a : A) (k : List Token) → P2 a → begins test (tokens_of (m a) ++ k) ≡ false
+  not_begun : (a : A) (k : List Token) → FitsSecond a → begins test (tokens_of (m a) ++ k) ≡ false
   not_begun a k p =
       let b = begun2 a p in
       ap (λ (l : List Leveled). begins test (tokens_of l ++ k)) b.whole ∙ not_true (test b.head.0) b.passes
@@ -142,7 +142,7 @@ module _ {A : Type 0} {P1 P2 : A → Type 0} {m : A → List Leveled} {e : A →
   either_strays ts n h =
       elim (cases_bool (begins test ts)) [
         | inl y ↦
-            let s = R1.strays ts n (sym (one ts y) ∙ h) in
+            let s = reads_first.strays ts n (sym (one ts y) ∙ h) in
             record {
               value = s.value;
               fits = inl s.fits;
@@ -158,7 +158,7 @@ module _ {A : Type 0} {P1 P2 : A → Type 0} {m : A → List Leveled} {e : A →
                   ∙ s.only b rest other at;
             }
         | inr y ↦
-            let s = R2.strays ts n (sym (other_one ts y) ∙ h) in
+            let s = reads_second.strays ts n (sym (other_one ts y) ∙ h) in
             record {
               value = s.value;
               fits = inr s.fits;
@@ -179,7 +179,7 @@ module _ {A : Type 0} {P1 P2 : A → Type 0} {m : A → List Leveled} {e : A →
   either_deeps ts n h =
       elim (cases_bool (begins test ts)) [
         | inl y ↦
-            let s = R1.deeps ts n (sym (one ts y) ∙ h) in
+            let s = reads_first.deeps ts n (sym (one ts y) ∙ h) in
             record {
               value = s.value;
               fits = inl s.fits;
@@ -195,7 +195,7 @@ module _ {A : Type 0} {P1 P2 : A → Type 0} {m : A → List Leveled} {e : A →
               only = λ other. one (tokens_of s.front ++ s.over.0 ∷ other) (begins_front test s.front s.over.0 other s.rest ∙ ap (begins test) (sym s.spelled) ∙ y) ∙ s.only other;
             }
         | inr y ↦
-            let s = R2.deeps ts n (sym (other_one ts y) ∙ h) in
+            let s = reads_second.deeps ts n (sym (other_one ts y) ∙ h) in
             record {
               value = s.value;
               fits = inr s.fits;
@@ -215,8 +215,8 @@ module _ {A : Type 0} {P1 P2 : A → Type 0} {m : A → List Leveled} {e : A →
   either_takes : (ts rest : List Token) (a : A) → either_at ts ≡ Ok (a, rest) → Taken IsEither m e ts a rest
   either_takes ts rest a h =
       elim (cases_bool (begins test ts)) [
-        | inl y ↦ (let t = R1.takes ts rest a (sym (one ts y) ∙ h) in record { fits = inl t.fits; spelled = t.spelled; within = t.within; ends_there = t.ends_there })
-        | inr y ↦ (let t = R2.takes ts rest a (sym (other_one ts y) ∙ h) in record { fits = inr t.fits; spelled = t.spelled; within = t.within; ends_there = t.ends_there })
+        | inl y ↦ (let t = reads_first.takes ts rest a (sym (one ts y) ∙ h) in record { fits = inl t.fits; spelled = t.spelled; within = t.within; ends_there = t.ends_there })
+        | inr y ↦ (let t = reads_second.takes ts rest a (sym (other_one ts y) ∙ h) in record { fits = inr t.fits; spelled = t.spelled; within = t.within; ends_there = t.ends_there })
       ]
 
   pub Reads-either : Reads IsEither m e either_at
@@ -224,8 +224,8 @@ module _ {A : Type 0} {P1 P2 : A → Type 0} {m : A → List Leveled} {e : A →
     takes = either_takes;
     again = λ a k q h.
         elim q [
-          | inl p ↦ one (tokens_of (m a) ++ k) (begun_begins test (m a) k (begun1 a p)) ∙ R1.again a k p h
-          | inr p ↦ other_one (tokens_of (m a) ++ k) (not_begun a k p) ∙ R2.again a k p h
+          | inl p ↦ one (tokens_of (m a) ++ k) (begun_begins test (m a) k (begun1 a p)) ∙ reads_first.again a k p h
+          | inr p ↦ other_one (tokens_of (m a) ++ k) (not_begun a k p) ∙ reads_second.again a k p h
         ];
     strays = either_strays;
     deeps = either_deeps;

@@ -126,16 +126,16 @@ Reads-done {A} a = record {
 
 -- ---- one reader after another
 
-module _ {A B : Type 0} {P1 : A → Type 0} {m1 : A → List Leveled} {e1 : A → Option Token → Bool} {r1 : Reader A}
-    {P2 : A → B → Type 0} {m2 : A → B → List Leveled} {e2 : A → B → Option Token → Bool} {r2 : A → Reader B}
-    (R1 : Reads P1 m1 e1 r1) (R2 : (a : A) → P1 a → Reads (P2 a) (m2 a) (e2 a) (r2 a))
-    (some : (a : A) → P1 a → (b : B) × P2 a b)
+module _ {A B : Type 0} {FitsFirst : A → Type 0} {m1 : A → List Leveled} {e1 : A → Option Token → Bool} {r1 : Reader A}
+    {FitsSecond : A → B → Type 0} {m2 : A → B → List Leveled} {e2 : A → B → Option Token → Bool} {r2 : A → Reader B}
+    (reads_first : Reads FitsFirst m1 e1 r1) (reads_second : (a : A) → FitsFirst a → Reads (FitsSecond a) (m2 a) (e2 a) (r2 a))
+    (some : (a : A) → FitsFirst a → (b : B) × FitsSecond a b)
     (P : B → Type 0) (m : B → List Leveled) (e : B → Option Token → Bool)
-    (split : (b : B) → P b → (a : A) × P1 a × P2 a b)
-    (join : (a : A) (b : B) → P1 a → P2 a b → P b)
-    (seam : (a : A) (b : B) → P1 a → P2 a b → m b ≡ m1 a ++ m2 a b)
-    (ends_both : (a : A) (b : B) (o : Option Token) → P1 a → P2 a b → e b o ≡ true → (e1 a (first_or (m2 a b) o) ≡ true) × (e2 a b o ≡ true))
-    (ends_whole : (a : A) (b : B) (o : Option Token) → P1 a → P2 a b → e1 a (first_or (m2 a b) o) ≡ true → e2 a b o ≡ true → e b o ≡ true) where
+    (split : (b : B) → P b → (a : A) × FitsFirst a × FitsSecond a b)
+    (join : (a : A) (b : B) → FitsFirst a → FitsSecond a b → P b)
+    (seam : (a : A) (b : B) → FitsFirst a → FitsSecond a b → m b ≡ m1 a ++ m2 a b)
+    (ends_both : (a : A) (b : B) (o : Option Token) → FitsFirst a → FitsSecond a b → e b o ≡ true → (e1 a (first_or (m2 a b) o) ≡ true) × (e2 a b o ≡ true))
+    (ends_whole : (a : A) (b : B) (o : Option Token) → FitsFirst a → FitsSecond a b → e1 a (first_or (m2 a b) o) ≡ true → e2 a b o ≡ true → e b o ≡ true) where
   both : Reader B
   both ts = r1 ts >>= λ x. r2 x.0 x.1
 
@@ -143,8 +143,8 @@ module _ {A B : Type 0} {P1 : A → Type 0} {m1 : A → List Leveled} {e1 : A �
   both_takes ts rest b h =
       let x = bind_ok (r1 ts) (λ x. r2 x.0 x.1) (b, rest) h in
       let a = x.0.0 in
-      let t1 = R1.takes ts x.0.1 a x.1 in
-      let t2 = (R2 a t1.fits).takes x.0.1 rest b x.2 in
+      let t1 = reads_first.takes ts x.0.1 a x.1 in
+      let t2 = (reads_second a t1.fits).takes x.0.1 rest b x.2 in
       let s = seam a b t1.fits t2.fits in
       record {
         fits = join a b t1.fits t2.fits;
@@ -160,8 +160,8 @@ module _ {A B : Type 0} {P1 : A → Type 0} {m1 : A → List Leveled} {e1 : A �
       let n = ends_both a b (first k) x.1 x.2 h in
       let s = seam a b x.1 x.2 in
       let rest = tokens_of (m2 a b) ++ k in
-      let one = R1.again a rest x.1 (ap (e1 a) (first_is (m2 a b) k) ∙ n.0) in
-      let two = (R2 a x.1).again b k x.2 n.1 in
+      let one = reads_first.again a rest x.1 (ap (e1 a) (first_is (m2 a b) k) ∙ n.0) in
+      let two = (reads_second a x.1).again b k x.2 n.1 in
       ap (λ (l : List Token). r1 l >>= λ x. r2 x.0 x.1) (ap (λ (l : List Leveled). tokens_of l ++ k) s ∙ tokens_of-append (m1 a) (m2 a b) k)
       ∙ ap (λ read. read >>= λ x. r2 x.0 x.1) one
       ∙ checked-bind (m1 a) rest (Ok (a, rest)) (λ x. r2 x.0 x.1)
@@ -170,18 +170,18 @@ module _ {A B : Type 0} {P1 : A → Type 0} {m1 : A → List Leveled} {e1 : A �
       ∙ ap (λ (l : List Leveled). checked l k (Ok (b, k))) (sym s)
 
   -- what the first reader took is taken again, whatever follows the bad token
-  again_before : (ts rest : List Token) (a : A) (front : List Leveled) (b : Token) (bad other : List Token) → Taken P1 m1 e1 ts a rest → rest ≡ tokens_of front ++ b ∷ bad → r1 (tokens_of (m1 a ++ front) ++ b ∷ other) ≡ Ok (a, tokens_of front ++ b ∷ other)
+  again_before : (ts rest : List Token) (a : A) (front : List Leveled) (b : Token) (bad other : List Token) → Taken FitsFirst m1 e1 ts a rest → rest ≡ tokens_of front ++ b ∷ bad → r1 (tokens_of (m1 a ++ front) ++ b ∷ other) ≡ Ok (a, tokens_of front ++ b ∷ other)
   again_before ts rest a front b bad other t at =
       let k = tokens_of front ++ b ∷ other in
       ap r1 (tokens_of-append (m1 a) front (b ∷ other))
-      ∙ R1.again a k t.fits (ap (e1 a) (first_same front b other bad ∙ ap first (sym at)) ∙ t.ends_there)
+      ∙ reads_first.again a k t.fits (ap (e1 a) (first_same front b other bad ∙ ap first (sym at)) ∙ t.ends_there)
       ∙ checked-within (m1 a) k (Ok (a, k)) t.within
 
   both_strays : (ts : List Token) (n : ℕ) → (r1 ts >>= λ x. r2 x.0 x.1) ≡ Err (Stray n) → StrayIn P m (λ ts. r1 ts >>= λ x. r2 x.0 x.1) ts n
   both_strays ts n h =
       elim (bind_err (r1 ts) (λ x. r2 x.0 x.1) (Stray n) h) [
         | inl f ↦
-            let s = R1.strays ts n f in
+            let s = reads_first.strays ts n f in
             let b = some s.value s.fits in
             record {
               value = b.0;
@@ -197,8 +197,8 @@ module _ {A B : Type 0} {P1 : A → Type 0} {m1 : A → List Leveled} {e1 : A �
             }
         | inr x ↦
             let a = x.0.0 in
-            let t1 = R1.takes ts x.0.1 a x.1 in
-            let s = (R2 a t1.fits).strays x.0.1 n x.2 in
+            let t1 = reads_first.takes ts x.0.1 a x.1 in
+            let s = (reads_second a t1.fits).strays x.0.1 n x.2 in
             record {
               value = s.value;
               fits = join a s.value t1.fits s.fits;
@@ -219,7 +219,7 @@ module _ {A B : Type 0} {P1 : A → Type 0} {m1 : A → List Leveled} {e1 : A �
   both_deeps ts n h =
       elim (bind_err (r1 ts) (λ x. r2 x.0 x.1) (Deep n) h) [
         | inl f ↦
-            let s = R1.deeps ts n f in
+            let s = reads_first.deeps ts n f in
             let b = some s.value s.fits in
             record {
               value = b.0;
@@ -237,8 +237,8 @@ module _ {A B : Type 0} {P1 : A → Type 0} {m1 : A → List Leveled} {e1 : A �
             }
         | inr x ↦
             let a = x.0.0 in
-            let t1 = R1.takes ts x.0.1 a x.1 in
-            let s = (R2 a t1.fits).deeps x.0.1 n x.2 in
+            let t1 = reads_first.takes ts x.0.1 a x.1 in
+            let s = (reads_second a t1.fits).deeps x.0.1 n x.2 in
             record {
               value = s.value;
               fits = join a s.value t1.fits s.fits;

@@ -68,7 +68,7 @@ pub fn read_script(alloc: Global, bytes: &[u8]) -> Result<Script, ScriptFault>
     }
 }
 
-/// The settings that the bytes are. The faults are those of `read_settings`, in the same order.
+/// The settings that the bytes are. The faults are those of `read_script`, in the same order.
 pub fn read_settings(alloc: Global, bytes: &[u8]) -> Result<Settings, ScriptFault>
     // What is read is what the bytes spell.
     ensures found { IfOk result (λ settings. SpellsSettings bytes.now settings) }

@@ -3,7 +3,8 @@ use Rattle.std.specs.BTreeSet.{contains}
 use Rattle.std.specs.List.{list_any}
 use Rattle.bstr.specs.Text.{lines_of}
 use Rattle.gb_action.specs.Files.{byte_order}
-use Rattle.gb_kinds.proofs.Carrying.{and_true, or_more}
+use Rattle.gb_kinds.proofs.Carrying.{or_more}
+use Rattle.gb_kinds.proofs.FileLaw.{and_true}
 use Rattle.gb_kinds.proofs.carried.add_where_told.Goals as goal
 
 pub returns-in_ok-insert : goal.returns-in_ok-insert

@@ -1,4 +1,4 @@
-use Rattle.std.proofs.Common.{◌≡◌, ◌||◌, ◌&&◌, not, ℕ, List, ap, subst, ◌∙◌, unwrap_or, [], bytes_eq, IsTrue}
+use Rattle.std.proofs.Common.{◌≡◌, ◌||◌, ◌&&◌, ℕ, List, ap, subst, ◌∙◌, unwrap_or, [], bytes_eq, IsTrue}
 use Rattle.std.specs.BTreeSet.{contains}
 use Rattle.std.specs.FinMap.Entries.{find, is_sorted}
 use Rattle.std.specs.List.{list_all, list_any}
@@ -9,7 +9,7 @@ use Rattle.gb_action.specs.Outputs.{files_of, stands_at}
 use Rattle.gb_action.specs.Shapes.{source, target}
 use Rattle.gb_action.specs.declared.change.Change.{Change}
 use Rattle.gb_kinds.specs.ByFile.{source_changes}
-use Rattle.gb_kinds.specs.Carried.{IsCarried}
+use Rattle.gb_kinds.specs.Carried.{is_line_of, IsCarried}
 use Rattle.gb_kinds.specs.Remade.{standing}
 use Rattle.gb_kinds.specs.Words.{index_files}
 use Rattle.gb_kinds.proofs.CarriedFound.{is_found, same_entry}
@@ -28,7 +28,6 @@ returns c =
     let stood : c.standing.result.now ≡ old = c.standing.ensures.files ∙ ap (λ name. unwrap_or (files_of request.outputs name) []) output_is in
     let changes_are : c.changes_of.result.now ≡ source_changes request.changes.lists = c.changes_of.ensures ∙ ap (λ name. unwrap_or (find byte_order name request.changes.lists) []) c.in_ok-name.ensures in
     let files_are : c.files_of.result.now ≡ tree_at request.files source = c.files_of.ensures.files ∙ ap (tree_at request.files) c.in_ok-name.ensures in
-    let there = λ (file : List ℕ) (line : List ℕ). (list_any (bytes_eq line) (lines_of file) && not (gone line)) in
     subst (λ (changes : List Change). IsCarried old changes (tree_at request.files source) (contains byte_order c.add_told.new.words) index) changes_are
     (is_found old c.changes_of.result.now (tree_at request.files source) index new gone (contains byte_order c.add_told.new.words) (contains byte_order changed.words)
     (subst (λ name. IsTrue (is_sorted byte_order (unwrap_or (files_of request.outputs name) []))) output_is c.standing.ensures.ordered)
@@ -37,9 +36,9 @@ returns c =
     c.in_ok-changed.ensures.paths
     c.in_ok-made.ensures.ordered
     (λ word at. same_entry
-    (λ line. (list_any (bytes_eq line) (lines_of (unwrap_or (stands_at request.outputs target word) [])) && not (gone line)) || list_any (bytes_eq line) (lines_of (unwrap_or (file_at new word) [])))
-    (λ line. (list_any (bytes_eq line) (lines_of (unwrap_or (file_at old word) [])) && not (gone line)) || list_any (bytes_eq line) (lines_of (unwrap_or (file_at new word) [])))
-    (λ line. ap (λ o. (list_any (bytes_eq line) (lines_of (unwrap_or o [])) && not (gone line)) || list_any (bytes_eq line) (lines_of (unwrap_or (file_at new word) []))) (stood_at request.outputs target word))
+    (is_line_of (unwrap_or (stands_at request.outputs target word) []) gone (unwrap_or (file_at new word) []))
+    (is_line_of (unwrap_or (file_at old word) []) gone (unwrap_or (file_at new word) []))
+    (λ line. ap (λ o. is_line_of (unwrap_or o []) gone (unwrap_or (file_at new word) []) line) (stood_at request.outputs target word))
     (file_at index word) (c.in_ok-made.ensures.entries word at))
     c.in_ok-made.ensures.others
     (subst (λ name. IsTrue (is_sorted byte_order (tree_at request.files name))) c.in_ok-name.ensures c.files_of.ensures.ordered)

@@ -1,13 +1,12 @@
-use Rattle.std.proofs.Common.{◌≡◌, ◌∷◌, ◌||◌, ◌&&◌, not, [], List, ℕ, Option, None, true, false, refl, ap, subst, ◌∙◌, unwrap_or, bytes_eq}
+use Rattle.std.proofs.Common.{◌≡◌, ◌∷◌, [], List, ℕ, Option, None, true, false, refl, ap, subst, ◌∙◌, unwrap_or}
 use Rattle.std.specs.BTreeSet.{contains}
 use Rattle.std.specs.List.{list_any}
 use Rattle.std.specs.List.Sorted.{IsStrictlySortedBy}
 use Rattle.std.specs.Ordering.{eq_by_cmp}
-use Rattle.bstr.specs.Text.{lines_of}
 use Rattle.gb_action.specs.Files.{byte_order, file_at}
 use Rattle.gb_action.specs.Outputs.{stands_at}
 use Rattle.gb_action.specs.Shapes.{target}
-use Rattle.gb_kinds.specs.Carried.{file_of_lines, IsEntry}
+use Rattle.gb_kinds.specs.Carried.{file_of_lines, is_line_of, IsEntry}
 use Rattle.gb_kinds.specs.Words.{index_files}
 use Rattle.gb_kinds.proofs.Carrying.{entries_later, has_line, left_later, others_later, within_later}
 use Rattle.gb_kinds.proofs.WordFiles.{rest_of}
@@ -19,8 +18,8 @@ loop-word-preserved c =
     let word = c.in-Some.word.now in
     let rest = c.next.new.self in
     let has = contains byte_order c.args.words.now in
-    let there = λ (w line : List ℕ). (list_any (bytes_eq line) (lines_of (unwrap_or (stands_at request.outputs target w) [])) && not (contains byte_order c.args.gone.now line)) || list_any (bytes_eq line) (lines_of (unwrap_or (file_at (index_files c.args.new.now) w) [])) in
-    let Is = λ (w : List ℕ) (entry : Option (List ℕ)). IsEntry (there w) entry in
+    let gone = contains byte_order c.args.gone.now in
+    let Is = λ (w : List ℕ) (entry : Option (List ℕ)). IsEntry (is_line_of (unwrap_or (stands_at request.outputs target w) []) gone (unwrap_or (file_at (index_files c.args.new.now) w) [])) entry in
     let lines = c.in_ok-lines.lines in
     let next : c.loop-word.word-iterator ≡ word ∷ rest = c.in-Some.ensures.steps in
     let distinct = subst (IsStrictlySortedBy byte_order) next c.loop-word.invariant.distinct in
@@ -36,8 +35,8 @@ loop-word-preserved c =
       exactly = λ line.
           has_line lines line
           ∙ c.in_ok-lines.ensures line
-          ∙ ap (λ stood. (list_any (bytes_eq line) (lines_of stood) && not (contains byte_order c.args.gone.now line)) || list_any (bytes_eq line) (lines_of c.told_at.result.now)) (c.stood_at-stood.ensures ∙ ap (λ name. unwrap_or (stands_at request.outputs name word) []) c.in_ok-output.ensures)
-          ∙ ap (λ told. (list_any (bytes_eq line) (lines_of (unwrap_or (stands_at request.outputs target word) [])) && not (contains byte_order c.args.gone.now line)) || list_any (bytes_eq line) (lines_of told)) c.told_at.ensures;
+          ∙ ap (λ stood. is_line_of stood gone c.told_at.result.now line) (c.stood_at-stood.ensures ∙ ap (λ name. unwrap_or (stands_at request.outputs name word) []) c.in_ok-output.ensures)
+          ∙ ap (λ told. is_line_of (unwrap_or (stands_at request.outputs target word) []) gone told line) c.told_at.ensures;
       joined = refl;
     } in
     record {

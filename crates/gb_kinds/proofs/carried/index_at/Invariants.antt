@@ -1,14 +1,13 @@
-use Rattle.std.proofs.Common.{◌≡◌, ◌||◌, ◌&&◌, true, false, not, [], None, unwrap_or, ℕ, List, IsTrue, bytes_eq}
+use Rattle.std.proofs.Common.{◌≡◌, true, false, [], None, unwrap_or, ℕ, List, IsTrue}
 use Rattle.std.specs.BTreeSet.{contains}
 use Rattle.std.specs.FinMap.Entries.{is_sorted}
 use Rattle.std.specs.List.{list_any}
 use Rattle.std.specs.List.Sorted.{IsStrictlySortedBy}
 use Rattle.std.specs.Ordering.{eq_by_cmp}
-use Rattle.bstr.specs.Text.{lines_of}
 use Rattle.gb_action.specs.Files.{byte_order, file_at}
 use Rattle.gb_action.specs.Outputs.{stands_at}
 use Rattle.gb_action.specs.Shapes.{target}
-use Rattle.gb_kinds.specs.Carried.{IsEntry}
+use Rattle.gb_kinds.specs.Carried.{is_line_of, IsEntry}
 use Rattle.gb_kinds.specs.Words.{index_files}
 use Rattle.gb_kinds.proofs.carried.index_at.Given as goal
 
@@ -18,7 +17,7 @@ invariant-loop-word l = record {
   distinct : IsStrictlySortedBy byte_order l.word-iterator;
   within : (word : List ℕ) → list_any (eq_by_cmp byte_order word) l.word-iterator ≡ true → contains byte_order l.words word ≡ true;
   entries : (word : List ℕ) → contains byte_order l.words word ≡ true → list_any (eq_by_cmp byte_order word) l.word-iterator ≡ false
-      → IsEntry (λ line. (list_any (bytes_eq line) (lines_of (unwrap_or (stands_at l.request.outputs target word) [])) && not (contains byte_order l.gone line)) || list_any (bytes_eq line) (lines_of (unwrap_or (file_at (index_files l.new) word) []))) (file_at (index_files l.index) word);
+      → IsEntry (is_line_of (unwrap_or (stands_at l.request.outputs target word) []) (contains byte_order l.gone) (unwrap_or (file_at (index_files l.new) word) [])) (file_at (index_files l.index) word);
   left : (word : List ℕ) → list_any (eq_by_cmp byte_order word) l.word-iterator ≡ true → file_at (index_files l.index) word ≡ None;
   others : (word : List ℕ) → contains byte_order l.words word ≡ false → file_at (index_files l.index) word ≡ None;
 }
