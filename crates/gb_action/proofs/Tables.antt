@@ -4,7 +4,7 @@ use Rattle.std.specs.Result.{IsErrAnd, IsErrOf}
 use Rattle.std.specs.Cmp.Lexicographic.{bytes_decides}
 use Rattle.std.specs.FinMap.Entries.{find}
 use Rattle.std.specs.Map.{lookup}
-use Rattle.gb_action.specs.Files.{byte_order}
+use Rattle.gb_core.specs.Lists.{byte_order}
 use Rattle.gb_action.proofs.Found.{find-same, find-other}
 use Rattle.gb_action.specs.declared.table.TableFault.{TableFault}
 use Rattle.gb_action.specs.declared.table.TableFault.TheVariants.{DuplicateAction, OutOfMemory}

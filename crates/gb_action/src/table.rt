@@ -1,7 +1,7 @@
 //! The actions of a build by name.
 ghost use Rattle.std.specs.Prelude.{◌≡◌, [], ◌∷◌, ◌++◌, ◌↔◌, None, Some, MatchResult, OnOk, OnErr, IsErrOf, IsSome};
 ghost use Rattle.std.specs.FinMap.Entries.{find};
-ghost use Rattle.gb_action.specs.Files.{byte_order};
+ghost use Rattle.gb_core.specs.Lists.{byte_order};
 
 use gb_core::name::Name;
 use indexmap::IndexMap;

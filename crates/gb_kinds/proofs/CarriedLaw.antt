@@ -10,7 +10,8 @@ use Rattle.std.specs.Option.{option_map}
 use Rattle.bstr.specs.Text.{lines_of}
 use Rattle.gb_core.specs.Place.{is_rel_path}
 use Rattle.gb_action.specs.Changes.{change_at, changes_between}
-use Rattle.gb_action.specs.Files.{byte_order, Tree, Trees, file_at, tree_at}
+use Rattle.gb_core.specs.Lists.{byte_order}
+use Rattle.gb_action.specs.Files.{Tree, Trees, file_at, tree_at}
 use Rattle.gb_action.specs.Meanings.{Making}
 use Rattle.gb_action.specs.Outputs.{written_at}
 use Rattle.gb_action.specs.Replies.{FollowsOn}

@@ -3,7 +3,7 @@ use Rattle.std.specs.String.{string_eq}
 use Rattle.std.specs.FinMap.Entries.{find}
 use Rattle.std.specs.Map.{lookup}
 use Rattle.indexmap.proofs.CallerLemmas.{insert_entry-new}
-use Rattle.gb_action.specs.Files.{byte_order}
+use Rattle.gb_core.specs.Lists.{byte_order}
 use Rattle.gb_action.proofs.Tables.{is_none, no_memory, ok_is_no_fault, named, found-by, named-append}
 use Rattle.gb_action.proofs.table.ActionTable.add.Given.{Over}
 use Rattle.gb_action.proofs.table.ActionTable.add.Goals as goal
