@@ -4,3 +4,4 @@ pub mod LastColon
 pub mod TaskPaths
 pub mod Splits
 pub mod Parts
+pub mod Found
