@@ -6,12 +6,14 @@ use Rattle.gb_folder.specs.Files.{Place, Contents, IsFolder, HasRisen, file_at, 
 use Rattle.gb_folder.specs.declared.folder.FolderFault.{FolderFault}
 use Rattle.gb_folder.specs.declared.folder.FolderFault.TheVariants as folders
 use Rattle.gb_report.specs.declared.fault.Fault.{Fault}
-use Rattle.gb_exec.specs.Faults.{told_at}
-use Rattle.gb_exec.specs.Making.{max_file}
-use Rattle.gb_exec.specs.Turn.{ChangesOnly, IsOfMachine}
-use Rattle.gb_exec.proofs.Emptied.{emptied_place}
-use Rattle.gb_exec.proofs.Machine.{machine_before}
-use Rattle.gb_build.specs.Events.{LostStep, PutStep, RemoveStep, is_at}
+use Rattle.gb_store.specs.Faults.{told_at}
+use Rattle.gb_folder.specs.Limits.{max_file}
+use Rattle.gb_store.specs.Changes.{ChangesOnly}
+use Rattle.gb_store.specs.Faults.{IsOfMachine}
+use Rattle.gb_store.proofs.Emptied.{emptied_place}
+use Rattle.gb_store.proofs.Machine.{machine_before}
+use Rattle.gb_store.specs.Changes.{is_at}
+use Rattle.gb_build.specs.Events.{LostStep, PutStep, RemoveStep}
 
 -- a place is at itself
 pub at_itself : (place : Place) → is_at place place ≡ true

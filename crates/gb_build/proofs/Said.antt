@@ -5,7 +5,7 @@ use Rattle.gb_report.specs.declared.fault.Fault.{Fault}
 use Rattle.gb_report.specs.declared.fault.Fault.TheVariants as faults
 use Rattle.gb_script.specs.declared.fault.ScriptFault.TheVariants as scripts
 use Rattle.gb_project.specs.declared.plain.Statement.{Statement}
-use Rattle.gb_exec.proofs.Emptied.{free_at}
+use Rattle.gb_store.proofs.Emptied.{free_at}
 use Rattle.gb_build.specs.Scripts.{FileSays, ScriptSays, script_place}
 
 -- the script stands, and its bytes say this

@@ -16,7 +16,7 @@ use Rattle.gb_project.specs.Task.{Rows, seen_outputs}
 use Rattle.gb_project.specs.declared.task.Action.{Action}
 use Rattle.gb_project.specs.declared.task.Output.{Output}
 use Rattle.gb_project.specs.declared.task.TaskDeclaration.{TaskDeclaration}
-use Rattle.gb_exec.proofs.Machine.{machine_before}
+use Rattle.gb_store.proofs.Machine.{machine_before}
 use Rattle.gb_exec.specs.Kinds.{Kinds}
 use Rattle.gb_exec.specs.Scratch.{HasActionsForOutputs}
 use Rattle.gb_exec.specs.Turn.{Ended, HasRun, Runs, StopsAt, Turn, emptied_start}

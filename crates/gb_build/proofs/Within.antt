@@ -9,7 +9,7 @@ use Rattle.gb_folder.specs.Files.{Place, Files, Contents, files_where}
 use Rattle.gb_project.specs.Declaration.{is_built}
 use Rattle.gb_project.specs.declared.task.Output.{Output}
 use Rattle.gb_exec.specs.Making.{is_output_at}
-use Rattle.gb_exec.specs.Turn.{ChangesOnly}
+use Rattle.gb_store.specs.Changes.{ChangesOnly}
 use Rattle.gb_build.specs.Build.{is_of_build}
 
 -- ---- a wider test

@@ -16,7 +16,8 @@ use Rattle.gb_core.specs.Lists.{first_of}
 use Rattle.gb_project.specs.Words.{selected}
 use Rattle.gb_exec.specs.Kinds.{kinds_of}
 use Rattle.gb_exec.specs.Scratch.{from_scratch}
-use Rattle.gb_exec.specs.Turn.{IsOfMachine, Turn}
+use Rattle.gb_store.specs.Faults.{IsOfMachine}
+use Rattle.gb_exec.specs.Turn.{Turn}
 use Rattle.gb_build.specs.Scripts.{ScriptSays}
 
 -- a task failed

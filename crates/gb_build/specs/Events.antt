@@ -6,18 +6,16 @@ use Rattle.gb_project.specs.Task.{Rows}
 use Rattle.gb_report.specs.declared.fault.Fault.{Fault}
 use Rattle.gb_report.specs.declared.fault.Fault.TheVariants as faults
 use Rattle.gb_report.specs.declared.report.Report.{Report}
-use Rattle.gb_exec.specs.Making.{max_file}
-use Rattle.gb_exec.specs.Turn.{ChangesOnly, IsOfMachine}
+use Rattle.gb_folder.specs.Limits.{max_file}
+use Rattle.gb_store.specs.Changes.{ChangesOnly}
+use Rattle.gb_store.specs.Faults.{IsOfMachine}
+use Rattle.gb_store.specs.Changes.{is_at}
 use Rattle.gb_build.specs.Blame.{is_of_device, times_blamed_by}
 use Rattle.gb_build.specs.Build.{Invokes, is_of_build}
 use Rattle.gb_build.specs.declared.events.Event.{Event}
 use Rattle.gb_build.specs.declared.events.Event.TheVariants as events
 use Rattle.gb_build.specs.declared.events.Answer.{Answer}
 use Rattle.gb_build.specs.declared.events.Answer.TheVariants as answers
-
--- the place itself
-abbrev pub is_at : Place → Place → Bool
-is_at place other = bytes_eq other place
 
 -- An edit was stopped: by want of memory, and nothing changed, or by the device, and at most its place did.
 abbrev pub IsStopped : Place → ℕ → Contents → Fault → ℕ → Contents → Type 0

@@ -1,16 +1,17 @@
 //! Edits from outside.
 ghost use Rattle.std.specs.Prelude.{◌≡◌, ◌≤◌, ℕ, List, Err, IsTrue, MatchResult};
 ghost use Rattle.gb_folder.specs.Files.{HasRisen, is_own};
-ghost use Rattle.gb_exec.specs.Turn.{ChangesOnly};
-ghost use Rattle.gb_build.specs.Events.{LostStep, PutStep, RemoveStep, is_at};
+ghost use Rattle.gb_store.specs.Changes.{ChangesOnly};
+ghost use Rattle.gb_store.specs.Changes.{is_at};
+ghost use Rattle.gb_build.specs.Events.{LostStep, PutStep, RemoveStep};
 
 use crate::script::good_place;
 use gb_core::bytes::Bytes;
 use gb_core::place::{Place, lies_beneath};
-use gb_exec::faults::fault_of;
-use gb_exec::listing::listed_at;
-use gb_exec::removal::remove_all;
-use gb_exec::writing::MAX_FILE;
+use gb_store::faults::fault_of;
+use gb_store::listing::listed_at;
+use gb_store::removal::remove_all;
+use gb_folder::limits::MAX_FILE;
 use gb_folder::folder::Folder;
 use gb_report::fault::Fault;
 use std::alloc::{AllocError, Global};

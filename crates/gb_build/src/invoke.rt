@@ -1,6 +1,6 @@
 //! One build.
 ghost use Rattle.std.specs.Prelude.{◌≡◌, ◌≤◌, IsTrue};
-ghost use Rattle.gb_exec.specs.Turn.{ChangesOnly};
+ghost use Rattle.gb_store.specs.Changes.{ChangesOnly};
 ghost use Rattle.gb_build.specs.Blame.{HasFailed, times_blamed_by};
 ghost use Rattle.gb_build.specs.Build.{Invokes, is_of_build};
 

@@ -4,7 +4,7 @@ ghost use Rattle.gb_core.specs.Place.{is_place};
 ghost use Rattle.gb_folder.specs.Files.{HasRisen};
 ghost use Rattle.gb_script.specs.Lexing.{newlines};
 ghost use Rattle.gb_script.specs.Script.{Spells};
-ghost use Rattle.gb_exec.specs.Turn.{IsOfMachine};
+ghost use Rattle.gb_store.specs.Faults.{IsOfMachine};
 ghost use Rattle.gb_build.specs.Scripts.{IsFaultOf, ScriptSays, SpellsPlain, last_line, script_place};
 
 use gb_core::place::Place;

@@ -12,7 +12,9 @@ use Rattle.gb_project.specs.declared.task.Output.{Output}
 use Rattle.gb_report.specs.declared.fault.Fault.{Fault}
 use Rattle.gb_report.specs.declared.fault.Fault.TheVariants as faults
 use Rattle.gb_exec.specs.Kinds.{Kinds}
-use Rattle.gb_exec.specs.Making.{Made, ◌>>=◌, full_outputs, is_output_at, made_so_far, max_file, output_named, placed, placed_in, put_in, shown, step, take_places, unless_full, written_by}
+use Rattle.gb_folder.specs.Limits.{max_file}
+use Rattle.gb_store.specs.Changes.{put_in, shown}
+use Rattle.gb_exec.specs.Making.{Made, ◌>>=◌, full_outputs, is_output_at, made_so_far, output_named, placed, placed_in, step, take_places, unless_full, written_by}
 
 -- errors of one result are one
 pub err_is : {T E : Type 0} (r : Result T E) (y z w : E) → r ≡ Err y → y ≡ z → r ≡ Err w → z ≡ w
@@ -110,15 +112,6 @@ all_append P (x ∷ xs) ys a b = (a.0, all_append P xs ys a.1 b)
 pub placed_at_outputs : (outputs : List Output) (written : List Written) → AllByRecursion (λ (f : Place × Bytes). is_output_at outputs f.0 ≡ true) (placed outputs written)
 placed_at_outputs outputs [] = tt
 placed_at_outputs outputs (file ∷ written) = all_append (λ (f : Place × Bytes). is_output_at outputs f.0 ≡ true) _ (placed outputs written) (at_named outputs file.output file) (placed_at_outputs outputs written)
-
--- the files at or beneath a place lie there
-pub all_under : (files : Files) (root : Place) → AllByRecursion (λ place. is_under place root ≡ true) (places_under files root)
-all_under [] root = tt
-all_under (file ∷ files) root =
-    elim (is_under file.0 root) as (λ b. is_under file.0 root ≡ b → AllByRecursion (λ place. is_under place root ≡ true) (map (λ f. f.0) (cond b (file ∷ files_under files root) (files_under files root)))) [
-      | true ↦ λ is. (is, all_under files root)
-      | false ↦ λ _. all_under files root
-    ] refl
 
 all_more : (output : Output) (outputs : List Output) (places : List Place) → AllByRecursion (λ place. is_output_at outputs place ≡ true) places → AllByRecursion (λ place. is_output_at (output ∷ outputs) place ≡ true) places
 all_more output outputs [] h = tt

@@ -2,4 +2,3 @@ pub mod Kinds
 pub mod Making
 pub mod Turn
 pub mod Scratch
-pub mod Faults

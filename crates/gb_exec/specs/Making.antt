@@ -5,6 +5,8 @@ use Rattle.std.specs.List.{flat_map, filter, list_any}
 use Rattle.gb_core.specs.Place.{is_place, is_under, beneath}
 use Rattle.gb_core.specs.Lists.{first_of}
 use Rattle.gb_folder.specs.Files.{Place, Bytes, Files, with_file, files_where, files_under, is_blocked}
+use Rattle.gb_folder.specs.Limits.{max_file, max_files}
+use Rattle.gb_store.specs.Changes.{put_in}
 use Rattle.gb_action.specs.declared.reply.Written.{Written}
 use Rattle.gb_report.specs.declared.fault.Fault.{Fault}
 use Rattle.gb_report.specs.declared.fault.Fault.TheVariants as faults
@@ -13,14 +15,6 @@ use Rattle.gb_project.specs.declared.task.Action.{Action}
 use Rattle.gb_project.specs.declared.task.Output.{Output}
 use Rattle.gb_project.specs.declared.task.TaskDeclaration.{TaskDeclaration}
 use Rattle.gb_exec.specs.Kinds.{Kinds}
-
--- the most bytes of a file
-abbrev pub max_file : ℕ
-max_file = 8388608
-
--- the most files of an output
-abbrev pub max_files : ℕ
-max_files = 65536
 
 -- ---- Steps that may fail
 
@@ -45,10 +39,6 @@ placed_in (Some output) file = (beneath output.place file.path, file.bytes) ∷ 
 abbrev pub placed : List Output → List Written → List (Place × Bytes)
 placed outputs written = flat_map (λ file. placed_in (output_named outputs file.output) file) written
 
--- files whose bytes are borrowed
-abbrev pub shown : List (Place × Bor Bytes) → List (Place × Bytes)
-shown files = map (λ file. (file.0, file.1.now)) files
-
 -- Files take their places beside those that the task's files take so far, which stand as empty files. Each is a
 -- place, no other file is in its way, and it is not too large.
 abbrev pub take_places : Files → List (Place × Bytes) → Result Files Fault
@@ -66,11 +56,6 @@ full_outputs outputs taken = filter (λ output. nat_lt max_files (length (files_
 abbrev pub unless_full : Files → List Output → Result Files Fault
 unless_full taken [] = Ok taken
 unless_full taken (output ∷ outputs) = Err (faults.TooManyFiles output.name)
-
--- files put into the folder, where no other file is in the way
-abbrev pub put_in : Files → List (Place × Bytes) → Result Files Fault
-put_in folder [] = Ok folder
-put_in folder (file ∷ files) = if is_blocked folder file.0 then Err (faults.Blocked file.0) else put_in (with_file folder file.0 file.1) files
 
 -- ---- All actions
 

@@ -8,16 +8,14 @@ use Rattle.gb_report.specs.declared.fault.Fault.TheVariants as faults
 use Rattle.gb_report.specs.declared.report.Outcome.{Outcome}
 use Rattle.gb_report.specs.declared.report.Outcome.TheVariants as outcomes
 use Rattle.gb_report.specs.declared.report.TaskReport.{TaskReport}
+use Rattle.gb_store.specs.Changes.{ChangesOnly}
+use Rattle.gb_store.specs.Faults.{IsOfMachine}
 use Rattle.gb_project.specs.Task.{is_output_of}
 use Rattle.gb_project.specs.declared.task.Action.{Action}
 use Rattle.gb_project.specs.declared.task.Output.{Output}
 use Rattle.gb_project.specs.declared.task.TaskDeclaration.{TaskDeclaration}
 use Rattle.gb_exec.specs.Kinds.{Kinds}
 use Rattle.gb_exec.specs.Making.{Made, ends, nothing_over, others}
-
--- memory ran out, or the device failed between these counts
-abbrev pub IsOfMachine : ℕ → ℕ → Fault → Type 0
-IsOfMachine before after fault = (fault ≡ faults.OutOfMemory) ⊎ ((place : Place) × (fault ≡ faults.Device place) × HasRisen before after)
 
 -- the outputs beneath which something stands that no place can name
 abbrev pub odd_outputs : List Output → Contents → List Output
@@ -85,11 +83,6 @@ Ended kinds task before old outcomes.Skipped lines after new = ⊥
 Ended kinds task before old outcomes.NoSource lines after new = ⊥
 Ended kinds task before old (outcomes.Failed fault) lines after new = HasRun kinds task before old (Err fault) lines after new
 Ended kinds task before old outcomes.NotRun lines after new = ⊥
-
--- Files differ at the task's outputs alone; what is odd stays.
-pub record ChangesOnly (test : Place → Bool) (old new : Contents) : Type 0 where
-  pub elsewhere : DiffersOnlyAt test old.files new.files
-  pub odd : new.odd ≡ old.odd
 
 -- The turn of a task, from a folder and a count of failures to the next.
 pub record Turn (kinds : Kinds) (task : TaskDeclaration) (before : ℕ) (old : Contents) (report : TaskReport) (after : ℕ) (new : Contents) : Type 0 where

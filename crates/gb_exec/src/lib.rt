@@ -12,11 +12,8 @@
 #![tactic(auto)]
 
 mod asking;
-pub mod faults;
 pub mod laws;
-pub mod listing;
+mod listing;
 mod places;
-pub mod removal;
 mod run;
 pub mod turn;
-pub mod writing;

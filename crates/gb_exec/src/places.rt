@@ -5,10 +5,11 @@
 ghost use Rattle.std.specs.Prelude.{◌≡◌, ◌⊎◌, ℕ, [], ◌∷◌, false, None, Some, Ok, IsTrue, IfOk, IfErr, OnOk, MatchOption, Err};
 ghost use Rattle.std.specs.Option.{option_copied};
 ghost use Rattle.gb_core.specs.Place.{is_place, beneath};
-ghost use Rattle.gb_exec.specs.Making.{full_outputs, output_named, placed, placed_in, shown, take_places, unless_full};
+ghost use Rattle.gb_store.specs.Changes.{shown};
+ghost use Rattle.gb_exec.specs.Making.{full_outputs, output_named, placed, placed_in, take_places, unless_full};
 
-use crate::faults::fault_at;
-use crate::writing::MAX_FILE;
+use gb_store::faults::fault_at;
+use gb_folder::limits::{MAX_FILE, MAX_FILES};
 use gb_action::reply::Written;
 use gb_core::bytes::Bytes;
 use gb_core::name::Name;
@@ -19,9 +20,6 @@ use gb_folder::memory::MemoryFolder;
 use gb_project::task::Output;
 use gb_report::fault::Fault;
 use std::alloc::Global;
-
-/// The most files of an output.
-const MAX_FILES: usize = 65_536;
 
 /// Takes the places of the files that an action writes, beside those taken before.
 pub fn take_places<'a>(

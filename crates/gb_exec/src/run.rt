@@ -5,13 +5,15 @@ ghost use Rattle.gb_project.specs.Task.{IsReady, IsReadyAction, is_output_of};
 ghost use Rattle.gb_project.specs.declared.task.Action.{Action};
 ghost use Rattle.gb_exec.specs.Kinds.{kinds_of};
 ghost use Rattle.gb_exec.specs.Making.{Made, ends, is_output_at, made_so_far, nothing_over, step};
-ghost use Rattle.gb_exec.specs.Turn.{ChangesOnly, IsOfMachine, Runs, StopsAt};
+ghost use Rattle.gb_store.specs.Changes.{ChangesOnly};
+ghost use Rattle.gb_store.specs.Faults.{IsOfMachine};
+ghost use Rattle.gb_exec.specs.Turn.{Runs, StopsAt};
 
 use crate::asking::ask;
 use crate::listing::listed_outputs;
 use crate::places::{check_counts, take_places};
-use crate::removal::remove_all;
-use crate::writing::write_all;
+use gb_store::removal::remove_all;
+use gb_store::writing::write_all;
 use gb_action::actions::Actions;
 use gb_core::text::Texts;
 use gb_folder::folder::Folder;

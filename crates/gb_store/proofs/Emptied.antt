@@ -6,17 +6,15 @@ use Rattle.std.proofs.lemmas.List.Folds.{list_any-append}
 use Rattle.std.specs.Cmp.{unsigned_ties}
 use Rattle.std.specs.Cmp.Lexicographic.{slice_cmp, lists_ties, bytes_decides}
 use Rattle.std.specs.FinMap.Entries.{find}
-use Rattle.std.specs.List.{list_any, list_all, flat_map}
+use Rattle.std.specs.List.{AllByRecursion, list_any, list_all, flat_map}
 use Rattle.std.specs.Ordering.{nat_cmp, is_eq}
 use Rattle.std.specs.Prelude.{bytes_eq}
 use Rattle.gb_core.specs.Place.{is_under}
 use Rattle.gb_core.specs.Lists.{byte_order}
-use Rattle.gb_folder.specs.Files.{Place, Files, IsFolder, file_at, files_where, is_blocked, places_under, without}
+use Rattle.gb_folder.specs.Files.{Place, Files, IsFolder, file_at, files_under, files_where, is_blocked, places_under, without}
 use Rattle.gb_folder.proofs.Changes.{file_at-files_where, file_at-without, same_files}
 use Rattle.gb_folder.proofs.Held.{equal_from}
 use Rattle.gb_folder.proofs.Sound.{sound_where, same_from}
-use Rattle.gb_action.specs.declared.output.Form.TheVariants.{File}
-use Rattle.gb_project.specs.declared.task.Output.{Output}
 
 -- where no file stands none is taken away
 pub without_none : (files : Files) (place : Place) → IsFolder files → file_at files place ≡ None → without files place ≡ files
@@ -74,15 +72,15 @@ stands_where test (file ∷ files) q =
     joined true b c = refl
     joined false b c = refl
 
--- the places of the files at the outputs
-stands_at_outputs : (outputs : List Output) (files : Files) (q : Place) → list_any (bytes_eq q) (flat_map (λ (output : Output). places_under files output.place) outputs)
-    ≡ (list_any (λ (output : Output). is_under q output.place) outputs && is_some (file_at files q))
-stands_at_outputs [] files q = refl
-stands_at_outputs (output ∷ outputs) files q =
-    list_any-append (bytes_eq q) (places_under files output.place) (flat_map (λ (o : Output). places_under files o.place) outputs)
-    ∙ ap (λ a. a || list_any (bytes_eq q) (flat_map (λ (o : Output). places_under files o.place) outputs)) (stands_where (λ p. is_under p output.place) files q)
-    ∙ ap (λ a. is_under q output.place && is_some (file_at files q) || a) (stands_at_outputs outputs files q)
-    ∙ joined (is_under q output.place) (list_any (λ (o : Output). is_under q o.place) outputs) (is_some (file_at files q))
+-- the places of the files beneath some roots
+stands_beneath : {X : Type 0} (root : X → Place) (xs : List X) (files : Files) (q : Place)
+    → list_any (bytes_eq q) (flat_map (λ x. places_under files (root x)) xs) ≡ (list_any (λ x. is_under q (root x)) xs && is_some (file_at files q))
+stands_beneath root [] files q = refl
+stands_beneath root (x ∷ xs) files q =
+    list_any-append (bytes_eq q) (places_under files (root x)) (flat_map (λ y. places_under files (root y)) xs)
+    ∙ ap (λ a. a || list_any (bytes_eq q) (flat_map (λ y. places_under files (root y)) xs)) (stands_where (λ p. is_under p (root x)) files q)
+    ∙ ap (λ a. is_under q (root x) && is_some (file_at files q) || a) (stands_beneath root xs files q)
+    ∙ joined (is_under q (root x)) (list_any (λ y. is_under q (root y)) xs) (is_some (file_at files q))
   where
     joined : (a b c : Bool) → (a && c || b && c) ≡ ((a || b) && c)
     joined true true true = refl
@@ -96,15 +94,15 @@ left_over true None = refl
 left_over true (Some bytes) = refl
 left_over false o = refl
 
--- Once each file at the outputs is taken away, those elsewhere are left.
-pub emptied : (outputs : List Output) (files : Files) → IsFolder files
-    → fold without files (flat_map (λ (output : Output). places_under files output.place) outputs) ≡ files_where (λ q. not (list_any (λ (output : Output). is_under q output.place) outputs)) files
-emptied outputs files sound =
-    let places = flat_map (λ (output : Output). places_under files output.place) outputs in
-    let is_output : Place → Bool = λ q. list_any (λ (output : Output). is_under q output.place) outputs in
-    same_files _ _ (sound_removed places files sound) (sound_where files (λ q. not (is_output q)) sound) (λ q.
-    at_removed places files q ∙ ap (λ b. cond b None (file_at files q)) (stands_at_outputs outputs files q) ∙ left_over (is_output q) (file_at files q)
-    ∙ sym (file_at-files_where files (λ p. not (is_output p)) q))
+-- Once each file beneath some roots is taken away, those elsewhere are left.
+pub emptied : {X : Type 0} (root : X → Place) (xs : List X) (files : Files) → IsFolder files
+    → fold without files (flat_map (λ x. places_under files (root x)) xs) ≡ files_where (λ q. not (list_any (λ x. is_under q (root x)) xs)) files
+emptied root xs files sound =
+    let places = flat_map (λ x. places_under files (root x)) xs in
+    let is_rooted : Place → Bool = λ q. list_any (λ x. is_under q (root x)) xs in
+    same_files _ _ (sound_removed places files sound) (sound_where files (λ q. not (is_rooted q)) sound) (λ q.
+    at_removed places files q ∙ ap (λ b. cond b None (file_at files q)) (stands_beneath root xs files q) ∙ left_over (is_rooted q) (file_at files q)
+    ∙ sym (file_at-files_where files (λ p. not (is_rooted p)) q))
 
 free_among : (all files : Files) (place bytes : List ℕ) → list_all (λ (file : List ℕ × List ℕ). not (is_blocked all file.0)) files ≡ true → file_at files place ≡ Some bytes → is_blocked all place ≡ false
 free_among all [] place bytes sound stands = absurd (none-some bytes stands)
@@ -143,5 +141,14 @@ no_more (x ∷ xs) = ap (λ ys. x ∷ ys) (no_more xs)
 -- once each file at or beneath a place is taken away, those elsewhere are left
 pub emptied_place : (place : Place) (files : Files) → IsFolder files → fold without files (places_under files place) ≡ files_where (λ q. not (is_under q place)) files
 emptied_place place files sound =
-    ap (fold without files) (sym (no_more (places_under files place))) ∙ emptied (record { name = []; form = File; place = place } ∷ []) files sound
+    ap (fold without files) (sym (no_more (places_under files place))) ∙ emptied (λ p. p) (place ∷ []) files sound
     ∙ same_tests (λ q. not (is_under q place || false)) (λ q. not (is_under q place)) (λ q. unsplit (is_under q place)) files
+
+-- the files at or beneath a place lie there
+pub all_under : (files : Files) (root : Place) → AllByRecursion (λ place. is_under place root ≡ true) (places_under files root)
+all_under [] root = tt
+all_under (file ∷ files) root =
+    elim (is_under file.0 root) as (λ b. is_under file.0 root ≡ b → AllByRecursion (λ place. is_under place root ≡ true) (map (λ f. f.0) (cond b (file ∷ files_under files root) (files_under files root)))) [
+      | true ↦ λ is. (is, all_under files root)
+      | false ↦ λ _. all_under files root
+    ] refl

@@ -1,7 +1,7 @@
 -- Loops over slices, by what is left.
-use Rattle.std.proofs.Common.{◌≡◌, ◌<◌, ◌+◌, ℕ, List, [], ◌∷◌, drop, length, get_or, subst, sym, ◌∙◌, ap}
+use Rattle.std.proofs.Common.{◌≡◌, ◌<◌, ◌+◌, ℕ, zero, suc, Bool, true, false, ◌||◌, List, [], ◌∷◌, drop, length, get_or, subst, sym, ◌∙◌, ap, refl, arith}
 use Rattle.std.proofs.lemmas.List.{at_drop_more}
-use Rattle.std.specs.List.{AllByRecursion}
+use Rattle.std.specs.List.{AllByRecursion, list_any}
 
 -- what is left begins with this element
 pub step_here : {X Y : Type 0} (F : List X → Y) (xs : List X) (i : ℕ) (x : X) → i < length xs → x ≡ get_or xs i x → F (drop i xs) ≡ F (x ∷ drop (i + 1) xs)
@@ -10,3 +10,19 @@ step_here F xs i x within is = at_drop_more F xs i x within ∙ ap (λ y. F (y �
 -- what holds of all that is left holds of this element, and of the rest
 pub all_here : {X : Type 0} (P : X → Type 0) (xs : List X) (i : ℕ) (x : X) → i < length xs → x ≡ get_or xs i x → AllByRecursion P (drop i xs) → P x × AllByRecursion P (drop (i + 1) xs)
 all_here P xs i x within is all = subst (λ (ys : List _). AllByRecursion P ys) (step_here (λ ys. ys) xs i x within is) all
+
+or_true : (b : Bool) → (b || true) ≡ true
+or_true true = refl
+or_true false = refl
+
+-- what holds of an element holds of some element
+pub any_here : {X : Type 0} (t : X → Bool) (xs : List X) (i : ℕ) (x : X) → i < length xs → x ≡ get_or xs i x → t x ≡ true → list_any t xs ≡ true
+any_here t [] i x within is h = absurd (omega (arith, within))
+any_here t (y ∷ ys) zero x within is h = ap (λ z. t z || list_any t ys) (sym is) ∙ ap (λ b. b || list_any t ys) h
+any_here t (y ∷ ys) (suc i) x within is h = ap (λ b. t y || b) (any_here t ys i x (omega (arith, within)) is h) ∙ or_true (t y)
+
+-- what holds of all elements holds of this one
+pub all_at : {X : Type 0} (P : X → Type 0) (xs : List X) (i : ℕ) (x : X) → i < length xs → x ≡ get_or xs i x → AllByRecursion P xs → P x
+all_at P [] i x within is all = absurd (omega (arith, within))
+all_at P (y ∷ ys) zero x within is all = subst P (sym is) all.0
+all_at P (y ∷ ys) (suc i) x within is all = all_at P ys i x (omega (arith, within)) is all.1

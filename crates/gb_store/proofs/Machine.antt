@@ -6,8 +6,9 @@ use Rattle.gb_folder.specs.declared.folder.FolderFault.{FolderFault}
 use Rattle.gb_folder.specs.declared.folder.FolderFault.TheVariants as folders
 use Rattle.gb_report.specs.declared.fault.Fault.{Fault}
 use Rattle.gb_report.specs.declared.fault.Fault.TheVariants as faults
-use Rattle.gb_exec.specs.Faults.{told_at}
-use Rattle.gb_exec.specs.Turn.{ChangesOnly, IsOfMachine}
+use Rattle.gb_store.specs.Faults.{told_at}
+use Rattle.gb_store.specs.Changes.{ChangesOnly}
+use Rattle.gb_store.specs.Faults.{IsOfMachine}
 
 -- the count goes on rising after a call
 pub machine_after : (first second third : ℕ) (fault : Fault) → second ≤ third → IsOfMachine first second fault → IsOfMachine first third fault
@@ -84,3 +85,11 @@ is_device folders.Missing = inr (λ e. cc)
 is_device folders.Blocked = inr (λ e. cc)
 is_device folders.TooLarge = inr (λ e. cc)
 is_device folders.BadFileName = inr (λ e. cc)
+
+-- errors of one result are one
+err_is : {T E : Type 0} (r : Result T E) (y w : E) → r ≡ Err y → r ≡ Err w → y ≡ w
+err_is r y w a b = cc
+
+-- who blames the device blames it as the call did whose fault is handed on
+pub handed_on : {T U : Type 0} (r : Result T Fault) (call : Result U Fault) (y z : Fault) (place : Place) → r ≡ Err y → y ≡ z → call ≡ Err z → r ≡ Err (faults.Device place) → call ≡ Err (faults.Device place)
+handed_on r call y z place told same is device = is ∙ ap Err (sym same ∙ err_is r y (faults.Device place) told device)

@@ -1,5 +1,6 @@
--- A folder's fault, as a build tells it.
-use Rattle.gb_folder.specs.Files.{Place}
+-- Faults of a folder, as a build tells them, and what the machine has to do with them.
+use Rattle.std.specs.Prelude.{ℕ, ◌≡◌, ◌⊎◌, Bool, Result, Err, IsTrue}
+use Rattle.gb_folder.specs.Files.{Place, HasRisen}
 use Rattle.gb_folder.specs.declared.folder.FolderFault.{FolderFault}
 use Rattle.gb_folder.specs.declared.folder.FolderFault.TheVariants as folders
 use Rattle.gb_report.specs.declared.fault.Fault.{Fault}
@@ -13,3 +14,15 @@ told_at place folders.Missing = faults.Missing place
 told_at place folders.Blocked = faults.Blocked place
 told_at place folders.TooLarge = faults.TooLarge place
 told_at place folders.BadFileName = faults.BadFileName place
+
+-- memory ran out, or the device failed between these counts
+abbrev pub IsOfMachine : ℕ → ℕ → Fault → Type 0
+IsOfMachine before after fault = (fault ≡ faults.OutOfMemory) ⊎ ((place : Place) × (fault ≡ faults.Device place) × HasRisen before after)
+
+-- the device is blamed only where it failed between these counts
+abbrev pub Blames : {T : Type 0} → Result T Fault → ℕ → ℕ → Type 0
+Blames result before after = (place : Place) → result ≡ Err (faults.Device place) → HasRisen before after
+
+-- the device is blamed at no other places than these
+abbrev pub BlamesOnly : {T : Type 0} → (Place → Bool) → Result T Fault → Type 0
+BlamesOnly may result = (place : Place) → result ≡ Err (faults.Device place) → IsTrue (may place)

@@ -1,6 +1,6 @@
 //! A folder's fault, as a build tells it.
 ghost use Rattle.std.specs.Prelude.{◌≡◌, ◌⊎◌};
-ghost use Rattle.gb_exec.specs.Faults.{told_at};
+ghost use Rattle.gb_store.specs.Faults.{told_at};
 
 use gb_core::place::Place;
 use gb_folder::folder::FolderFault;

@@ -1,21 +1,25 @@
-//! Emptying output places.
-ghost use Rattle.std.specs.Prelude.{◌≡◌, ◌≢◌, ◌≤◌, ◌⊎◌, ℕ, List, Bool, true, Err, IsTrue, IfErr, OnOk, fold};
+//! Taking files away.
+ghost use Rattle.std.specs.Prelude.{◌≡◌, ◌≢◌, ◌≤◌, ◌⊎◌, Bool, List, ℕ, [], ◌∷◌, None, true, IsTrue, IfErr, OnOk};
 ghost use Rattle.std.specs.List.{AllByRecursion};
-ghost use Rattle.gb_folder.specs.Files.{DiffersOnlyAt, HasRisen, without};
-ghost use Rattle.gb_exec.specs.Faults.{told_at};
-ghost use Rattle.gb_exec.specs.Turn.{ChangesOnly, IsOfMachine};
+ghost use Rattle.gb_folder.specs.Files.{SameTearing};
+ghost use Rattle.gb_store.specs.Changes.{ChangesOnly, IsCutShort, IsHindered, is_among, is_at, without_all};
+ghost use Rattle.gb_store.specs.Faults.{Blames, BlamesOnly, IsOfMachine, told_at};
 
-use crate::faults::fault_at;
+use crate::faults::fault_of;
 use gb_core::place::Place;
 use gb_folder::folder::{Folder, FolderFault};
 use gb_report::fault::Fault;
 
-/// Takes the files at these places away.
+/// Takes the files at these places away, one after another. A place where none stands counts as done.
 pub fn remove_all<F: Folder>(folder: &mut F, places: &[Place]) -> Result<(), Fault>
     ensures count { F.failures folder.old ≤ F.failures folder.new }
-    ensures blame { (place : List ℕ) → result ≡ Err (Fault.Device place) → HasRisen (F.failures folder.old) (F.failures folder.new) }
-    ensures ok { IsTrue F.tells → OnOk result ((F.contents folder.new).files ≡ fold without (F.contents folder.old).files places.now) }
-    ensures err { IsTrue F.tells → IfErr result (λ fault. IsOfMachine (F.failures folder.old) (F.failures folder.new) fault) }
+    ensures blame { Blames result (F.failures folder.old) (F.failures folder.new) }
+    ensures blamed { BlamesOnly (is_among places.now) result }
+    ensures tearing { SameTearing (F.may_leave folder.old) (F.may_leave folder.new) }
+    ensures ok { IsTrue F.tells → OnOk result (F.contents folder.new ≡ without_all (F.contents folder.old) places.now) }
+    ensures err { IsTrue F.tells → IfErr result (IsOfMachine (F.failures folder.old) (F.failures folder.new)) }
+    ensures cut { IsTrue F.tells → IfErr result
+        (λ fault. IsCutShort (F.may_leave folder.old) places.now (F.contents folder.old) fault (F.contents folder.new)) }
     ensures changes { IsTrue F.tells → (test : List ℕ → Bool) → AllByRecursion (λ place. test place ≡ true) places.now
         → ChangesOnly test (F.contents folder.old) (F.contents folder.new) }
 {
@@ -25,32 +29,37 @@ pub fn remove_all<F: Folder>(folder: &mut F, places: &[Place]) -> Result<(), Fau
     Ok(())
 }
 
-/// Takes the file at a place away, if one stands there.
+/// Takes the file at a place away, if one stands there. The place is copied first, so that a failure of the device
+/// is told at it whatever memory is left.
 fn remove_at<F: Folder>(folder: &mut F, place: &Place) -> Result<(), Fault>
     ensures count { F.failures folder.old ≤ F.failures folder.new }
-    ensures blame { (place : List ℕ) → result ≡ Err (Fault.Device place) → HasRisen (F.failures folder.old) (F.failures folder.new) }
-    ensures ok { IsTrue F.tells → OnOk result ((F.contents folder.new).files ≡ without (F.contents folder.old).files place.now) }
-    ensures err { IsTrue F.tells → IfErr result (λ fault. IsOfMachine (F.failures folder.old) (F.failures folder.new) fault) }
+    ensures blame { Blames result (F.failures folder.old) (F.failures folder.new) }
+    ensures blamed { BlamesOnly (is_at place.now) result }
+    ensures tearing { SameTearing (F.may_leave folder.old) (F.may_leave folder.new) }
+    ensures ok { IsTrue F.tells → OnOk result (F.contents folder.new ≡ without_all (F.contents folder.old) (place.now ∷ [])) }
+    ensures err { IsTrue F.tells → IfErr result (IsOfMachine (F.failures folder.old) (F.failures folder.new)) }
+    ensures hindered { IsTrue F.tells → IfErr result
+        (λ fault. IsHindered (F.may_leave folder.old) place.now None (F.contents folder.old) fault (F.contents folder.new)) }
     ensures changes { IsTrue F.tells → (test : List ℕ → Bool) → test place.now ≡ true
         → ChangesOnly test (F.contents folder.old) (F.contents folder.new) }
 {
+    let at = place.copy()?;
     match folder.remove(place) {
         Ok(()) => Ok(()),
-        Err(fault) => unless_absent(fault, place),
+        Err(fault) => unless_absent(fault, at),
     }
 }
 
 /// A fault in a removal, unless it says that there is no file to remove.
-fn unless_absent(fault: FolderFault, place: &Place) -> Result<(), Fault>
+fn unless_absent(fault: FolderFault, place: Place) -> Result<(), Fault>
     ensures ok { OnOk result ((fault ≡ FolderFault.Missing) ⊎ (fault ≡ FolderFault.Blocked)) }
-    ensures err { IfErr result (λ told. (fault ≢ FolderFault.Missing) × (fault ≢ FolderFault.Blocked)
-        × ((told ≡ Fault.OutOfMemory) ⊎ (told ≡ told_at place.now fault))) }
+    ensures err { IfErr result (λ told. (fault ≢ FolderFault.Missing) × (fault ≢ FolderFault.Blocked) × (told ≡ told_at place fault)) }
 {
     match fault {
         FolderFault::Missing | FolderFault::Blocked => Ok(()),
         FolderFault::OutOfMemory
         | FolderFault::Device
         | FolderFault::TooLarge
-        | FolderFault::BadFileName => Err(fault_at(fault, place)),
+        | FolderFault::BadFileName => Err(fault_of(fault, place)),
     }
 }

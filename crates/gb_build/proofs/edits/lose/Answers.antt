@@ -3,7 +3,7 @@ use Rattle.std.specs.List.{AllByRecursion}
 use Rattle.std.specs.Prelude.{codes}
 use Rattle.std.proofs.lemmas.Result.{on_ok_weaker}
 use Rattle.gb_folder.specs.Files.{Contents, is_own, places_under, without}
-use Rattle.gb_exec.proofs.Machine.{changes_chain, changes_none}
+use Rattle.gb_store.proofs.Machine.{changes_chain, changes_none}
 use Rattle.gb_exec.proofs.Placing.{all_under}
 use Rattle.gb_build.proofs.Editing.{lost_from}
 use Rattle.gb_build.proofs.edits.lose.Goals as goal

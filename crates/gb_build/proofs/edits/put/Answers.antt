@@ -1,8 +1,8 @@
 use Rattle.std.proofs.Common.{◌<◌, ℕ, List, length, subst, Err, ap, sym, ◌∙◌, inl, inr}
-use Rattle.gb_exec.specs.Faults.{told_at}
-use Rattle.gb_exec.specs.Making.{max_file}
-use Rattle.gb_exec.proofs.Machine.{changes_with, changes_left, changes_none, is_device}
-use Rattle.gb_build.specs.Events.{is_at}
+use Rattle.gb_store.specs.Faults.{told_at}
+use Rattle.gb_folder.specs.Limits.{max_file}
+use Rattle.gb_store.proofs.Machine.{changes_with, changes_left, changes_none, is_device}
+use Rattle.gb_store.specs.Changes.{is_at}
 use Rattle.gb_build.proofs.Editing.{at_itself, put_failed}
 use Rattle.gb_build.proofs.edits.put.Goals as goal
 

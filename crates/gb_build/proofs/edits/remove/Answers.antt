@@ -1,7 +1,7 @@
 use Rattle.std.proofs.Common.{Err, ap, sym, ◌∙◌, inl, inr}
-use Rattle.gb_exec.specs.Faults.{told_at}
-use Rattle.gb_exec.proofs.Machine.{changes_without, changes_left, changes_none, is_device}
-use Rattle.gb_build.specs.Events.{is_at}
+use Rattle.gb_store.specs.Faults.{told_at}
+use Rattle.gb_store.proofs.Machine.{changes_without, changes_left, changes_none, is_device}
+use Rattle.gb_store.specs.Changes.{is_at}
 use Rattle.gb_build.proofs.Editing.{at_itself, remove_failed}
 use Rattle.gb_build.proofs.edits.remove.Goals as goal
 

@@ -7,7 +7,7 @@ use Rattle.gb_project.specs.Words.{selected}
 use Rattle.gb_project.specs.declared.task.TaskDeclaration.{TaskDeclaration}
 use Rattle.gb_exec.specs.Kinds.{kinds_of}
 use Rattle.gb_exec.specs.Turn.{Turn}
-use Rattle.gb_exec.proofs.Machine.{at_err, changes_chain, changes_none}
+use Rattle.gb_store.proofs.Machine.{at_err, changes_chain, changes_none}
 use Rattle.gb_exec.proofs.Scratched.{success_left}
 use Rattle.gb_build.specs.Blame.{HasFailed, is_of_device, times_blamed_by}
 use Rattle.gb_build.specs.Build.{is_of_build}

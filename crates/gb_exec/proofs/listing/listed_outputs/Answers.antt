@@ -6,9 +6,10 @@ use Rattle.gb_folder.specs.Files.{Contents, is_odd_under}
 use Rattle.gb_project.specs.declared.task.Output.{Output}
 use Rattle.gb_report.specs.declared.fault.Fault.{Fault}
 use Rattle.gb_report.specs.declared.fault.Fault.TheVariants as faults
-use Rattle.gb_exec.specs.Turn.{IsOfMachine, odd_outputs}
-use Rattle.gb_exec.proofs.Machine.{at_err, machine_before}
-use Rattle.gb_exec.proofs.Loops.{step_here}
+use Rattle.gb_store.specs.Faults.{IsOfMachine}
+use Rattle.gb_exec.specs.Turn.{odd_outputs}
+use Rattle.gb_store.proofs.Machine.{at_err, machine_before}
+use Rattle.gb_store.proofs.Loops.{step_here}
 use Rattle.gb_exec.proofs.listing.listed_outputs.Goals as goal
 
 -- an output beneath which something odd stands is the first of those that are left

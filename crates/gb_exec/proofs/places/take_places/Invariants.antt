@@ -1,5 +1,6 @@
 use Rattle.std.proofs.Common.{◌≡◌, ◌++◌, drop}
-use Rattle.gb_exec.specs.Making.{placed, shown, take_places}
+use Rattle.gb_store.specs.Changes.{shown}
+use Rattle.gb_exec.specs.Making.{placed, take_places}
 use Rattle.gb_exec.proofs.places.take_places.Given as goal
 
 abbrev pub invariant-loop-file : goal.invariant-loop-file

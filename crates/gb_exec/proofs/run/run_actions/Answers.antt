@@ -8,9 +8,11 @@ use Rattle.gb_project.specs.declared.task.Output.{Output}
 use Rattle.gb_report.specs.declared.fault.Fault.{Fault}
 use Rattle.gb_exec.specs.Kinds.{kinds_of}
 use Rattle.gb_exec.specs.Making.{Made, ends, is_output_at, made_so_far, nothing_over, step}
-use Rattle.gb_exec.specs.Turn.{ChangesOnly, IsOfMachine, StopsAt}
+use Rattle.gb_store.specs.Changes.{ChangesOnly}
+use Rattle.gb_store.specs.Faults.{IsOfMachine}
+use Rattle.gb_exec.specs.Turn.{StopsAt}
 use Rattle.gb_exec.proofs.Endings.{ends_more, ends_with, none_left, with_none}
-use Rattle.gb_exec.proofs.Machine.{at_err, changes_chain, machine_before}
+use Rattle.gb_store.proofs.Machine.{at_err, changes_chain, machine_before}
 use Rattle.gb_exec.proofs.run.run_actions.Goals as goal
 
 pub loop-action-preserved : goal.loop-action-preserved

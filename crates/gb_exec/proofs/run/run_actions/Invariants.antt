@@ -5,7 +5,7 @@ use Rattle.std.specs.List.{AllByRecursion}
 use Rattle.gb_project.specs.declared.task.Action.{Action}
 use Rattle.gb_exec.specs.Kinds.{kinds_of}
 use Rattle.gb_exec.specs.Making.{ends, made_so_far, nothing_over}
-use Rattle.gb_exec.specs.Turn.{ChangesOnly}
+use Rattle.gb_store.specs.Changes.{ChangesOnly}
 use Rattle.gb_exec.proofs.run.run_actions.Given as goal
 
 abbrev pub invariant-loop-action : goal.invariant-loop-action

@@ -3,9 +3,11 @@ use Rattle.std.proofs.lemmas.Result.{err_from_is_err_and}
 use Rattle.gb_report.specs.declared.fault.Fault.{Fault}
 use Rattle.gb_report.specs.declared.fault.Fault.TheVariants as faults
 use Rattle.gb_exec.specs.Kinds.{kinds_of}
-use Rattle.gb_exec.specs.Making.{max_file, is_output_at, made_so_far, placed, put_in, shown, step}
-use Rattle.gb_exec.specs.Turn.{IsOfMachine}
-use Rattle.gb_exec.proofs.Machine.{at_err}
+use Rattle.gb_folder.specs.Limits.{max_file}
+use Rattle.gb_store.specs.Changes.{put_in, shown}
+use Rattle.gb_exec.specs.Making.{is_output_at, made_so_far, placed, step}
+use Rattle.gb_store.specs.Faults.{IsOfMachine}
+use Rattle.gb_store.proofs.Machine.{at_err}
 use Rattle.gb_exec.proofs.Placing.{err_is, taking_blames_none, counting_blames_none, small_taken, placed_at_outputs, all_shown, step_blocked}
 use Rattle.gb_exec.proofs.run.run_one.Goals as goal
 

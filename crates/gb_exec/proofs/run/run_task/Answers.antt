@@ -7,9 +7,10 @@ use Rattle.gb_project.specs.declared.task.TaskDeclaration.{TaskDeclaration}
 use Rattle.gb_report.specs.declared.fault.Fault.{Fault}
 use Rattle.gb_exec.specs.Kinds.{Kinds, kinds_of}
 use Rattle.gb_exec.specs.Making.{Made, ends, nothing_over, others}
-use Rattle.gb_exec.specs.Turn.{ChangesOnly, Runs, StopsAt, emptied_start}
-use Rattle.gb_exec.proofs.Emptied.{emptied}
-use Rattle.gb_exec.proofs.Machine.{changes_chain, changes_none, machine_before}
+use Rattle.gb_store.specs.Changes.{ChangesOnly}
+use Rattle.gb_exec.specs.Turn.{Runs, StopsAt, emptied_start}
+use Rattle.gb_store.proofs.Emptied.{emptied}
+use Rattle.gb_store.proofs.Machine.{changes_chain, changes_none, machine_before}
 use Rattle.gb_exec.proofs.Placing.{listed_at_outputs}
 use Rattle.gb_exec.proofs.run.run_task.Goals as goal
 
@@ -62,6 +63,6 @@ returns-clause-runs g c = λ tells.
     c.in_ok-remove_all.ensures.ok tells
     ∙ ap (λ (places : List (List ℕ)). fold without (contents c.listed_outputs.new.folder).files places) listed
     ∙ ap (λ (folder : Contents). fold without folder.files (flat_map (λ (output : Output). places_under old.files output.place) task.outputs)) (c.listed_outputs.ensures.same tells)
-    ∙ emptied task.outputs old.files (g.met.F.Folder.sound c.args.folder.now) in
+    ∙ emptied (λ (output : Output). output.place) task.outputs old.files (g.met.F.Folder.sound c.args.folder.now) in
     runs_from (kinds_of g.A.Actions.meanings c.args.tables.now.actions) task (failures c.args.folder.now) (failures c.remove_all.new.folder) old _ c.run_actions.result c.run_actions.new.lines
     (failures c.run_actions.new.folder) (contents c.run_actions.new.folder) (omega arith) c.run_actions.ensures.count (ap nothing_over mid) (c.run_actions.ensures.ok tells) (c.run_actions.ensures.err tells)

@@ -1,31 +1,50 @@
-use Rattle.std.proofs.Common.{arith, ◌≡◌, ◌<◌, ℕ, List, Bool, true, IsTrue, fold, drop, length, get_or, subst, sym, ◌∙◌, ap, ◌+◌}
-use Rattle.std.proofs.lemmas.List.{at_drop_more}
-use Rattle.std.specs.List.{AllByRecursion}
-use Rattle.gb_folder.specs.Files.{without}
-use Rattle.gb_exec.proofs.Machine.{changes_chain}
-use Rattle.gb_exec.proofs.Loops.{all_here, step_here}
-use Rattle.gb_exec.proofs.removal.remove_all.Goals as goal
-
-pub returns-in_err-remove_at-clause-changes : goal.returns-in_err-remove_at-clause-changes
-returns-in_err-remove_at-clause-changes g c = λ tells test all.
-    let so_far = c.loop-place.invariant.changes tells test all in
-    let here = all_here (λ place. test place ≡ true) c.args.places.now c.loop-place.place-index c.place-item.result c.loop-place-test.true c.place-item.is so_far.1 in
-    changes_chain test _ _ _ so_far.0 (c.remove_at.ensures.changes tells test here.0)
+use Rattle.std.proofs.Common.{arith, ◌≡◌, ◌+◌, List, Bool, true, IsTrue, IfErr, take, length, refl, sym, ◌∙◌, ap}
+use Rattle.std.proofs.lemmas.Result.{err_from_is_err_and}
+use Rattle.std.proofs.lemmas.List.{take_all}
+use Rattle.gb_folder.proofs.Changes.{SameTearing-chain, SameTearing-same}
+use Rattle.gb_report.specs.declared.fault.Fault.{Fault}
+use Rattle.gb_store.specs.Changes.{IsCutShort, is_at, without_all}
+use Rattle.gb_store.proofs.Machine.{at_err, changes_chain, handed_on}
+use Rattle.gb_store.proofs.Loops.{all_at, any_here}
+use Rattle.gb_store.proofs.Removing.{changes_so_far, cut_at, without_more}
+use Rattle.gb_store.proofs.removal.remove_all.Goals as goal
 
 pub loop-place-preserved : goal.loop-place-preserved
 loop-place-preserved g c =
     record {
       count = omega arith;
+      tearing = SameTearing-chain _ _ _ c.loop-place.invariant.tearing c.remove_at.ensures.tearing;
       removed = λ tells.
-          let places = c.args.places.now in
-          ap (λ files. fold without files (drop (c.loop-place.place-index + 1) places)) (c.in_ok-remove_at.ensures.ok tells)
-          ∙ sym (step_here (fold without (g.F.Folder.contents c.loop-place.folder).files) places c.loop-place.place-index c.place-item.result c.loop-place-test.true c.place-item.is)
-          ∙ c.loop-place.invariant.removed tells;
-      changes = λ tells test all.
-          let so_far = c.loop-place.invariant.changes tells test all in
-          let here = all_here (λ place. test place ≡ true) c.args.places.now c.loop-place.place-index c.place-item.result c.loop-place-test.true c.place-item.is so_far.1 in
-          (changes_chain test _ _ _ so_far.0 (c.remove_at.ensures.changes tells test here.0), here.1);
+          without_more _ _ _ c.args.places.now c.loop-place.place-index c.place-item.result c.loop-place-test.true c.place-item.is (c.loop-place.invariant.removed tells) (c.in_ok-remove_at.ensures.ok tells);
     }
 
+pub returns-in_err-remove_at-clause-tearing : goal.returns-in_err-remove_at-clause-tearing
+returns-in_err-remove_at-clause-tearing g c = SameTearing-chain _ _ _ c.loop-place.invariant.tearing c.remove_at.ensures.tearing
+
+pub returns-in_err-remove_at-clause-blamed : goal.returns-in_err-remove_at-clause-blamed
+returns-in_err-remove_at-clause-blamed g c = λ place device.
+    let p = err_from_is_err_and c.from_residual.result c.from_residual.ensures.1 in
+    any_here (λ other. is_at other place) c.args.places.now c.loop-place.place-index c.place-item.result c.loop-place-test.true c.place-item.is
+    (c.remove_at.ensures.blamed place (handed_on c.from_residual.result c.remove_at.result p.0 c.in_err-remove_at.field-0.0 place p.1 p.2 c.in_err-remove_at.was device))
+
+pub returns-in_err-remove_at-clause-cut : goal.returns-in_err-remove_at-clause-cut
+returns-in_err-remove_at-clause-cut g c = λ tells.
+    let p = err_from_is_err_and c.from_residual.result c.from_residual.ensures.1 in
+    let F = g.F.Folder in
+    let IsFault : Fault → Type 0 = λ fault. IsCutShort (F.may_leave c.args.folder.now) c.args.places.now (F.contents c.args.folder.now) fault (F.contents c.remove_at.new.folder) in
+    at_err (λ r. IfErr r IsFault) c.from_residual.result p.0 c.in_err-remove_at.field-0.0 p.1 p.2
+    (cut_at _ _ _ _ _ c.args.places.now c.loop-place.place-index c.place-item.result _ c.loop-place-test.true c.place-item.is c.loop-place.invariant.tearing (c.loop-place.invariant.removed tells) (c.in_err-remove_at.ensures.hindered tells))
+
+pub returns-in_err-remove_at-clause-changes : goal.returns-in_err-remove_at-clause-changes
+returns-in_err-remove_at-clause-changes g c = λ tells test all.
+    let here = all_at (λ place. test place ≡ true) c.args.places.now c.loop-place.place-index c.place-item.result c.loop-place-test.true c.place-item.is all in
+    changes_chain test _ _ _ (changes_so_far test c.args.places.now c.loop-place.place-index _ _ all (c.loop-place.invariant.removed tells)) (c.remove_at.ensures.changes tells test here)
+
+pub returns-clause-tearing : goal.returns-clause-tearing
+returns-clause-tearing g c = c.loop-place.invariant.tearing
+
+pub returns-clause-ok : goal.returns-clause-ok
+returns-clause-ok g c = λ tells. c.loop-place.invariant.removed tells ∙ ap (without_all (g.F.Folder.contents c.args.folder.now)) (take_all c.loop-place.place-index c.args.places.now c.loop-place-test.false)
+
 pub returns-clause-changes : goal.returns-clause-changes
-returns-clause-changes g c = λ tells test all. (c.loop-place.invariant.changes tells test all).0
+returns-clause-changes g c = λ tells test all. changes_so_far test c.args.places.now c.loop-place.place-index _ _ all (c.loop-place.invariant.removed tells)

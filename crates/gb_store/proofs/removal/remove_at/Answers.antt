@@ -1,14 +1,22 @@
-use Rattle.std.proofs.Common.{◌≡◌, ◌≢◌, ◌⊎◌, ℕ, List, refl, sym, ap, inl, inr, Ok, Err, ◌∙◌}
+use Rattle.std.proofs.Common.{◌≡◌, ◌≢◌, ◌⊎◌, ◌∷◌, [], ℕ, List, None, refl, sym, ap, subst, inl, inr, Ok, Err, ◌∙◌}
+use Rattle.std.specs.Cmp.Lexicographic.{bytes_decides}
 use Rattle.std.proofs.lemmas.Result.{on_ok_weaker, IfErr-weaker, IfErr-at_err}
 use Rattle.gb_folder.specs.declared.folder.FolderFault.{FolderFault}
 use Rattle.gb_folder.specs.declared.folder.FolderFault.TheVariants as folders
-use Rattle.gb_folder.specs.Files.{without, file_at}
-use Rattle.gb_exec.proofs.Emptied.{without_none, blocked_none}
-use Rattle.gb_exec.proofs.Machine.{blames_device, changes_without, changes_none, changes_left, is_device, of_machine}
-use Rattle.gb_exec.proofs.removal.remove_at.Goals as goal
+use Rattle.gb_folder.specs.Files.{Contents, IsFolder, Place, without, file_at}
+use Rattle.gb_store.specs.Changes.{IsHindered, without_all}
+use Rattle.gb_store.specs.Faults.{told_at}
+use Rattle.gb_store.proofs.Removing.{hindered_by, told_place}
+use Rattle.gb_store.proofs.Emptied.{without_none, blocked_none}
+use Rattle.gb_store.proofs.Machine.{blames_device, changes_without, changes_none, changes_left, is_device, of_machine}
+use Rattle.gb_store.proofs.removal.remove_at.Goals as goal
 
 pub returns-in-Ok-clause-changes : goal.returns-in-Ok-clause-changes
 returns-in-Ok-clause-changes g c = λ tells test holds. changes_without test _ _ c.args.place.now (c.in-Ok.ensures.removed tells) holds
+
+-- where no file stands the folder is as without one
+none_left : (old new : Contents) (place : Place) → IsFolder old.files → new ≡ old → file_at old.files place ≡ None → new ≡ without_all old (place ∷ [])
+none_left old new place sound same none = same ∙ ap (λ files. record old { files = files }) (sym (without_none old.files place sound none))
 
 -- a fault that is neither of these is the device's or want of memory
 other_fault : (fault : FolderFault) → fault ≢ folders.Missing → fault ≢ folders.Blocked → fault ≢ folders.TooLarge → fault ≢ folders.BadFileName → fault ≢ folders.OutOfMemory → fault ≢ folders.Device → ⊥
@@ -27,26 +35,32 @@ returns-in-Err g c =
     let place = c.args.place.now in
     let fault = c.in-Err.fault in
     let sound = g.met.F.Folder.sound c.args.folder.now in
+    let asked = c.remove.ensures in
+    let as_told : told_at c.in_ok-at.at fault ≡ told_at place fault = ap (λ p. told_at p fault) c.in_ok-at.ensures in
     record {
-      count = c.remove.ensures.count;
+      count = asked.count;
       blame = λ at is.
           let told = IfErr-at_err _ is c.unless_absent.ensures.err in
-          c.remove.ensures.device (c.in-Err.is ∙ ap Err (blames_device place fault _ told.2 at refl));
+          asked.device (c.in-Err.is ∙ ap Err (blames_device place fault _ (inr (told.2 ∙ as_told)) at refl));
+      blamed = λ at is.
+          let told = IfErr-at_err _ is c.unless_absent.ensures.err in
+          (bytes_decides at place).1 (sym (told_place place at fault (sym (told.2 ∙ as_told))));
+      tearing = asked.tearing;
       ok = λ tells. on_ok_weaker c.unless_absent.result (λ absent.
           elim absent [
-            | inl missing ↦
-                let same = c.in-Err.ensures.same tells (λ e. cc) in
-                ap (λ r. r.files) same ∙ sym (without_none old.files place sound (c.remove.ensures.missing tells (c.in-Err.is ∙ ap Err missing)))
-            | inr blocked ↦
-                let same = c.in-Err.ensures.same tells (λ e. cc) in
-                ap (λ r. r.files) same ∙ sym (without_none old.files place sound (blocked_none old.files place sound (c.remove.ensures.blocked tells (c.in-Err.is ∙ ap Err blocked))))
+            | inl missing ↦ none_left old new place sound (c.in-Err.ensures.same tells (λ e. cc)) (asked.missing tells (c.in-Err.is ∙ ap Err missing))
+            | inr blocked ↦ none_left old new place sound (c.in-Err.ensures.same tells (λ e. cc)) (blocked_none old.files place sound (asked.blocked tells (c.in-Err.is ∙ ap Err blocked)))
           ]) c.unless_absent.ensures.ok;
       err = λ tells. IfErr-weaker c.unless_absent.result _ _ (λ told h.
-          of_machine _ _ place fault told h.2 (λ d. c.remove.ensures.device (c.in-Err.is ∙ ap Err d))
-          (λ a b. other_fault fault h.0 h.1 (λ e. c.remove.ensures.not_large (c.in-Err.is ∙ ap Err e)) (λ e. c.remove.ensures.not_named (c.in-Err.is ∙ ap Err e)) a b)) c.unless_absent.ensures.err;
+          of_machine _ _ place fault told (inr (h.2 ∙ as_told)) (λ d. asked.device (c.in-Err.is ∙ ap Err d))
+          (λ a b. other_fault fault h.0 h.1 (λ e. asked.not_large (c.in-Err.is ∙ ap Err e)) (λ e. asked.not_named (c.in-Err.is ∙ ap Err e)) a b)) c.unless_absent.ensures.err;
+      hindered = λ tells. IfErr-weaker c.unless_absent.result _ _ (λ told h.
+          subst (λ t. IsHindered (F.may_leave c.args.folder.now) place None old t new) (sym (h.2 ∙ as_told))
+          (hindered_by (F.may_leave c.args.folder.now) place None old new fault h.0 h.1 (λ e. asked.not_large (c.in-Err.is ∙ ap Err e)) (λ e. asked.not_named (c.in-Err.is ∙ ap Err e))
+          (c.in-Err.ensures.same tells) (λ d. asked.torn tells (c.in-Err.is ∙ ap Err d)))) c.unless_absent.ensures.err;
       changes = λ tells test holds.
           elim (is_device fault) [
-            | inl device ↦ let torn = c.remove.ensures.torn tells (c.in-Err.is ∙ ap Err device) in changes_left test old new place torn.0 torn.2 holds
+            | inl device ↦ let torn = asked.torn tells (c.in-Err.is ∙ ap Err device) in changes_left test old new place torn.0 torn.2 holds
             | inr not_device ↦ changes_none test old new (c.in-Err.ensures.same tells not_device)
           ];
     }

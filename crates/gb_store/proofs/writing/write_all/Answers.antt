@@ -1,12 +1,16 @@
 use Rattle.std.proofs.Common.{arith, ◌≡◌, ◌≤◌, ◌<◌, ◌+◌, ◌∷◌, ℕ, List, Bool, true, false, cond, IsTrue, Result, Err, Ok, length, drop, sym, ◌∙◌, ap}
 use Rattle.std.specs.List.{AllByRecursion}
+use Rattle.std.proofs.lemmas.Result.{err_from_is_err_and}
+use Rattle.gb_store.specs.Changes.{is_at}
 use Rattle.gb_folder.specs.Files.{Files, is_blocked, with_file}
+use Rattle.gb_folder.proofs.Changes.{SameTearing-chain}
 use Rattle.gb_report.specs.declared.fault.Fault.{Fault}
 use Rattle.gb_report.specs.declared.fault.Fault.TheVariants as faults
-use Rattle.gb_exec.specs.Making.{max_file, put_in, shown}
-use Rattle.gb_exec.proofs.Machine.{changes_chain}
-use Rattle.gb_exec.proofs.Loops.{all_here, step_here}
-use Rattle.gb_exec.proofs.writing.write_all.Goals as goal
+use Rattle.gb_folder.specs.Limits.{max_file}
+use Rattle.gb_store.specs.Changes.{put_in, shown}
+use Rattle.gb_store.proofs.Machine.{changes_chain, handed_on}
+use Rattle.gb_store.proofs.Loops.{all_here, any_here, step_here}
+use Rattle.gb_store.proofs.writing.write_all.Goals as goal
 
 pub returns-in_err-write_at-clause-changes : goal.returns-in_err-write_at-clause-changes
 returns-in_err-write_at-clause-changes g c = λ tells test all.
@@ -29,6 +33,7 @@ loop-file-preserved g c =
     let left = shown (drop (index + 1) files) in
     record {
       count = omega arith;
+      tearing = SameTearing-chain _ _ _ c.loop-file.invariant.tearing c.write_at.ensures.tearing;
       small = (all_here (λ file. length file.1.now ≤ max_file) files index item c.loop-file-test.true c.file-item.is c.loop-file.invariant.small).1;
       put = λ tells.
           put_one (contents c.loop-file.folder).files (contents c.write_at.new.folder).files item.0 item.1.now left (c.in_ok-write_at.ensures.free tells) (c.in_ok-write_at.ensures.ok tells)
@@ -42,3 +47,15 @@ loop-file-preserved g c =
 
 pub returns-clause-changes : goal.returns-clause-changes
 returns-clause-changes g c = λ tells test all. (c.loop-file.invariant.changes tells test all).0
+
+pub returns-in_err-write_at-clause-tearing : goal.returns-in_err-write_at-clause-tearing
+returns-in_err-write_at-clause-tearing g c = SameTearing-chain _ _ _ c.loop-file.invariant.tearing c.write_at.ensures.tearing
+
+pub returns-clause-tearing : goal.returns-clause-tearing
+returns-clause-tearing g c = c.loop-file.invariant.tearing
+
+pub returns-in_err-write_at-clause-blamed : goal.returns-in_err-write_at-clause-blamed
+returns-in_err-write_at-clause-blamed g c = λ place device.
+    let p = err_from_is_err_and c.from_residual.result c.from_residual.ensures.1 in
+    any_here (λ file. is_at file.0 place) c.args.files.now c.loop-file.file-index c.file-item.result c.loop-file-test.true c.file-item.is
+    (c.write_at.ensures.blamed place (handed_on c.from_residual.result c.write_at.result p.0 c.in_err-write_at.field-0.0 place p.1 p.2 c.in_err-write_at.was device))

@@ -1,6 +1,6 @@
 use Rattle.std.proofs.Common.{◌≡◌, ◌≢◌, ◌⊎◌, Err, ap, ◌∙◌, inl, inr}
-use Rattle.gb_exec.proofs.Machine.{changes_with, changes_none, changes_left, is_device}
-use Rattle.gb_exec.proofs.writing.write_at.Goals as goal
+use Rattle.gb_store.proofs.Machine.{changes_with, changes_none, changes_left, is_device}
+use Rattle.gb_store.proofs.writing.write_at.Goals as goal
 
 pub returns-in-Ok-clause-changes : goal.returns-in-Ok-clause-changes
 returns-in-Ok-clause-changes g c = λ tells test holds. changes_with test _ _ c.args.place.now _ (c.in-Ok.ensures.written tells) holds

@@ -1,0 +1,4 @@
+pub mod Machine
+pub mod Emptied
+pub mod Loops
+pub mod Removing

@@ -1,0 +1,79 @@
+-- Removals, one after another, and where they are cut short.
+use Rattle.std.proofs.Common.{◌≡◌, ◌≢◌, ◌<◌, ◌+◌, ◌⊎◌, inl, inr, ℕ, zero, suc, Bool, true, List, [], ◌∷◌, ◌++◌, Option, None, fold, take, drop, length, get_or, refl, sym, ap, subst, ◌∙◌, arith}
+use Rattle.std.proofs.lemmas.List.{take-append-drop, take_more}
+use Rattle.std.specs.List.{AllByRecursion}
+use Rattle.gb_folder.specs.Files.{Place, Bytes, Contents, Files, SameTearing, Tearing, without}
+use Rattle.gb_folder.specs.declared.folder.FolderFault.{FolderFault}
+use Rattle.gb_folder.specs.declared.folder.FolderFault.TheVariants as folders
+use Rattle.gb_report.specs.declared.fault.Fault.{Fault}
+use Rattle.gb_report.specs.declared.fault.Fault.TheVariants as faults
+use Rattle.gb_store.specs.Changes.{ChangesOnly, IsCutShort, IsHindered, IsTorn, without_all}
+use Rattle.gb_store.specs.Faults.{told_at}
+use Rattle.gb_store.proofs.Loops.{step_here}
+use Rattle.gb_store.proofs.Machine.{changes_chain, changes_none, changes_without}
+
+-- the place of a device's fault is the one at which it came
+pub told_place : (place at : Place) (fault : FolderFault) → told_at place fault ≡ faults.Device at → place ≡ at
+told_place place at folders.OutOfMemory e = absurd (cc)
+told_place place at folders.Device e = cc
+told_place place at folders.Missing e = absurd (cc)
+told_place place at folders.Blocked e = absurd (cc)
+told_place place at folders.TooLarge e = absurd (cc)
+told_place place at folders.BadFileName e = absurd (cc)
+
+-- a removal that is told as a fault
+pub hindered_by : (may_leave : Tearing) (place : Place) (next : Option Bytes) (old new : Contents) (fault : FolderFault) → fault ≢ folders.Missing → fault ≢ folders.Blocked → fault ≢ folders.TooLarge → fault ≢ folders.BadFileName
+    → (fault ≢ folders.Device → new ≡ old) → (fault ≡ folders.Device → IsTorn may_leave place next old new) → IsHindered may_leave place next old (told_at place fault) new
+hindered_by may_leave place next old new folders.OutOfMemory a b d e same torn = inl (refl, same (λ h. cc))
+hindered_by may_leave place next old new folders.Device a b d e same torn = inr (refl, torn refl)
+hindered_by may_leave place next old new folders.Missing a b d e same torn = absurd (a refl)
+hindered_by may_leave place next old new folders.Blocked a b d e same torn = absurd (b refl)
+hindered_by may_leave place next old new folders.TooLarge a b d e same torn = absurd (d refl)
+hindered_by may_leave place next old new folders.BadFileName a b d e same torn = absurd (e refl)
+
+-- what may be left may be left of a folder before
+pub hindered_before : (first second : Tearing) (place : Place) (next : Option Bytes) (old new : Contents) (fault : Fault) → SameTearing first second → IsHindered second place next old fault new → IsHindered first place next old fault new
+hindered_before first second place next old new fault same (inl memory) = inl memory
+hindered_before first second place next old new fault same (inr torn) = inr (torn.0, (torn.1.0, (same place _ next torn.1.0).0 torn.1.1, torn.1.2))
+
+fold_append : (files : Files) (gone more : List Place) → fold without files (gone ++ more) ≡ fold without (fold without files gone) more
+fold_append files [] more = refl
+fold_append files (place ∷ gone) more = fold_append (without files place) gone more
+
+-- one place more
+pub without_more : (old now new : Contents) (places : List Place) (i : ℕ) (place : Place) → i < length places → place ≡ get_or places i place
+    → now ≡ without_all old (take i places) → new ≡ without_all now (place ∷ []) → new ≡ without_all old (take (i + 1) places)
+without_more old now new places i place within is before after =
+    after ∙ ap (λ folder. without_all folder (place ∷ [])) before
+    ∙ ap (λ files. record old { files = files }) (sym (fold_append old.files (take i places) (place ∷ [])))
+    ∙ ap (λ p. without_all old (take i places ++ p ∷ [])) is
+    ∙ ap (without_all old) (sym (take_more places i place within))
+
+-- the removal of all was cut short at this place
+pub cut_at : (first second : Tearing) (old now new : Contents) (places : List Place) (i : ℕ) (place : Place) (fault : Fault) → i < length places → place ≡ get_or places i place
+    → SameTearing first second → now ≡ without_all old (take i places) → IsHindered second place None now fault new → IsCutShort first places old fault new
+cut_at first second old now new places i place fault within is same before hindered =
+    record {
+      gone = take i places;
+      place = place;
+      left = drop (i + 1) places;
+      all = sym (take-append-drop i places) ∙ step_here (λ rest. take i places ++ rest) places i place within is;
+      hindered = hindered_before first second place None (without_all old (take i places)) new fault same (subst (λ folder. IsHindered second place None folder fault new) before hindered);
+    }
+
+all_taken : (P : Place → Type 0) (places : List Place) (i : ℕ) → AllByRecursion P places → AllByRecursion P (take i places)
+all_taken P [] zero all = tt
+all_taken P [] (suc i) all = tt
+all_taken P (place ∷ places) zero all = tt
+all_taken P (place ∷ places) (suc i) all = (all.0, all_taken P places i all.1)
+
+-- only where files were taken away does the folder differ
+pub changes_without_all : (test : Place → Bool) (places : List Place) (old : Contents) → AllByRecursion (λ place. test place ≡ true) places → ChangesOnly test old (without_all old places)
+changes_without_all test [] old all = changes_none test old (without_all old []) refl
+changes_without_all test (place ∷ places) old all =
+    changes_chain test old (without_all old (place ∷ [])) (without_all old (place ∷ places))
+    (changes_without test old (without_all old (place ∷ [])) place refl all.0)
+    (changes_without_all test places (without_all old (place ∷ [])) all.1)
+
+pub changes_so_far : (test : Place → Bool) (places : List Place) (i : ℕ) (old now : Contents) → AllByRecursion (λ place. test place ≡ true) places → now ≡ without_all old (take i places) → ChangesOnly test old now
+changes_so_far test places i old now all is = subst (ChangesOnly test old) (sym is) (changes_without_all test (take i places) old (all_taken (λ place. test place ≡ true) places i all))

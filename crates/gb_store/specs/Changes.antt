@@ -1,0 +1,51 @@
+-- What calls change in a folder.
+use Rattle.std.specs.Prelude.{◌≡◌, ◌⊎◌, ◌++◌, Bool, List, [], ◌∷◌, map, Option, None, Result, Ok, Err, bytes_eq, fold, if◌then◌else◌}
+use Rattle.std.specs.Borrow.{Bor}
+use Rattle.std.specs.List.{list_any}
+use Rattle.gb_folder.specs.Files.{Place, Bytes, Files, Contents, DiffersOnlyAt, Tearing, file_at, is_blocked, with_file, with_left, without}
+use Rattle.gb_report.specs.declared.fault.Fault.{Fault}
+use Rattle.gb_report.specs.declared.fault.Fault.TheVariants as faults
+
+-- the place itself
+abbrev pub is_at : Place → Place → Bool
+is_at place other = bytes_eq other place
+
+-- one of these places
+abbrev pub is_among : List Place → Place → Bool
+is_among places place = list_any (λ other. is_at other place) places
+
+-- Files differ only where the test holds; what is odd stays.
+pub record ChangesOnly (test : Place → Bool) (old new : Contents) : Type 0 where
+  pub elsewhere : DiffersOnlyAt test old.files new.files
+  pub odd : new.odd ≡ old.odd
+
+-- the folder without the files at these places
+abbrev pub without_all : Contents → List Place → Contents
+without_all folder places = record folder { files = fold without folder.files places }
+
+-- A write or a removal was stopped at a place: there stands what the device may leave.
+abbrev pub IsTorn : Tearing → Place → Option Bytes → Contents → Contents → Type 0
+IsTorn may_leave place next old new =
+    (left : Option Bytes) × may_leave place (file_at old.files place) next left × (new ≡ record old { files = with_left old.files place left })
+
+-- A write or a removal at a place came to nothing: memory ran out and nothing changed, or the device stopped it.
+abbrev pub IsHindered : Tearing → Place → Option Bytes → Contents → Fault → Contents → Type 0
+IsHindered may_leave place next old fault new =
+    ((fault ≡ faults.OutOfMemory) × (new ≡ old)) ⊎ ((fault ≡ faults.Device place) × IsTorn may_leave place next old new)
+
+-- The removal of these places was cut short: the files at some first ones are gone, and it was hindered at the next.
+pub record IsCutShort (may_leave : Tearing) (places : List Place) (old : Contents) (fault : Fault) (new : Contents) : Type 0 where
+  pub gone : List Place
+  pub place : Place
+  pub left : List Place
+  pub all : places ≡ gone ++ place ∷ left
+  pub hindered : IsHindered may_leave place None (without_all old gone) fault new
+
+-- files whose bytes are borrowed
+abbrev pub shown : List (Place × Bor Bytes) → List (Place × Bytes)
+shown files = map (λ file. (file.0, file.1.now)) files
+
+-- files put into a folder one after another, where no other file is in the way
+abbrev pub put_in : Files → List (Place × Bytes) → Result Files Fault
+put_in folder [] = Ok folder
+put_in folder (file ∷ files) = if is_blocked folder file.0 then Err (faults.Blocked file.0) else put_in (with_file folder file.0 file.1) files

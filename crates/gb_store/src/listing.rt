@@ -1,0 +1,34 @@
+//! Which files stand beneath a place.
+ghost use Rattle.std.specs.Prelude.{◌≡◌, ◌≤◌, ◌⊎◌, false, IsTrue, IfOk, IfErr, OnOk};
+ghost use Rattle.gb_folder.specs.Files.{SameTearing, is_odd_under, places_under};
+ghost use Rattle.gb_store.specs.Changes.{is_at};
+ghost use Rattle.gb_store.specs.Faults.{Blames, BlamesOnly, IsOfMachine};
+
+use crate::faults::fault_at;
+use gb_core::place::Place;
+use gb_folder::folder::Folder;
+use gb_report::fault::Fault;
+use std::alloc::Global;
+
+/// The places of the files at or beneath one place.
+pub fn listed_at<F: Folder>(
+    alloc: Global,
+    folder: &mut F,
+    place: &Place,
+) -> Result<Vec<Place>, Fault>
+    ensures count { F.failures folder.old ≤ F.failures folder.new }
+    ensures blame { Blames result (F.failures folder.old) (F.failures folder.new) }
+    ensures blamed { BlamesOnly (is_at place.now) result }
+    ensures tearing { SameTearing (F.may_leave folder.old) (F.may_leave folder.new) }
+    ensures same { IsTrue F.tells → F.contents folder.new ≡ F.contents folder.old }
+    ensures listed { IsTrue F.tells → IfOk result
+        (λ places. places.items ≡ places_under (F.contents folder.old).files place.now) }
+    ensures none_odd { IsTrue F.tells → OnOk result (is_odd_under (F.contents folder.old) place.now ≡ false) }
+    ensures odd { IsTrue F.tells → IfErr result
+        (λ fault. IsOfMachine (F.failures folder.old) (F.failures folder.new) fault
+        ⊎ (IsTrue (is_odd_under (F.contents folder.old) place.now) × (fault ≡ Fault.BadFileName place.now))) }
+{
+    folder
+        .list(alloc, place)
+        .map_err(|fault| fault_at(fault, place))
+}
