@@ -1,5 +1,5 @@
 -- Faults of the machine, and where they count.
-use Rattle.std.proofs.Common.{◌≡◌, ◌≢◌, ◌≤◌, ◌⊎◌, ◌||◌, ◌∷◌, [], true≢false, ℕ, Bool, true, false, List, Option, not, refl, sym, ◌∙◌, ap, subst, inl, inr, arith, Result, Ok, Err, IsTrue}
+use Rattle.std.proofs.Common.{◌≡◌, ◌≢◌, ◌≤◌, ◌⊎◌, ◌||◌, ◌∷◌, [], true≢false, ℕ, Bool, true, false, List, Option, not, refl, sym, ◌∙◌, ap, subst, inl, inr, Result, Err}
 use Rattle.std.specs.Cmp.Lexicographic.{bytes_decides}
 use Rattle.std.specs.List.{AllByRecursion, list_all, list_any}
 use Rattle.std.proofs.lemmas.Bool.{and_parts}

@@ -1,7 +1,7 @@
-use Rattle.std.proofs.Common.{arith, ◌≡◌, ◌+◌, List, Bool, true, IsTrue, IfErr, take, length, refl, sym, ◌∙◌, ap}
+use Rattle.std.proofs.Common.{arith, ◌≡◌, true, IfErr, ◌∙◌, ap}
 use Rattle.std.proofs.lemmas.Result.{err_from_is_err_and}
 use Rattle.std.proofs.lemmas.List.{take_all}
-use Rattle.gb_folder.proofs.Changes.{SameTearing-chain, SameTearing-same}
+use Rattle.gb_folder.proofs.Changes.{SameTearing-chain}
 use Rattle.gb_report.specs.declared.fault.Fault.{Fault}
 use Rattle.gb_store.specs.Changes.{IsCutShort, is_at, without_all}
 use Rattle.gb_store.proofs.Machine.{at_err, changes_chain, handed_on}

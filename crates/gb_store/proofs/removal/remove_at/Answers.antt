@@ -1,9 +1,9 @@
-use Rattle.std.proofs.Common.{◌≡◌, ◌≢◌, ◌⊎◌, ◌∷◌, [], ℕ, List, None, refl, sym, ap, subst, inl, inr, Ok, Err, ◌∙◌}
+use Rattle.std.proofs.Common.{◌≡◌, ◌≢◌, ◌∷◌, [], None, refl, sym, ap, subst, inl, inr, Err, ◌∙◌}
 use Rattle.std.specs.Cmp.Lexicographic.{bytes_decides}
 use Rattle.std.proofs.lemmas.Result.{on_ok_weaker, IfErr-weaker, IfErr-at_err}
 use Rattle.gb_folder.specs.declared.folder.FolderFault.{FolderFault}
 use Rattle.gb_folder.specs.declared.folder.FolderFault.TheVariants as folders
-use Rattle.gb_folder.specs.Files.{Contents, IsFolder, Place, without, file_at}
+use Rattle.gb_folder.specs.Files.{Contents, IsFolder, Place, file_at}
 use Rattle.gb_store.specs.Changes.{IsHindered, without_all}
 use Rattle.gb_store.specs.Faults.{told_at}
 use Rattle.gb_store.proofs.Removing.{hindered_by, told_place}

@@ -1,10 +1,8 @@
-use Rattle.std.proofs.Common.{arith, ◌≡◌, ◌≤◌, ◌<◌, ◌+◌, ◌∷◌, ℕ, List, Bool, true, false, cond, IsTrue, Result, Err, Ok, length, drop, sym, ◌∙◌, ap}
-use Rattle.std.specs.List.{AllByRecursion}
+use Rattle.std.proofs.Common.{arith, ◌≡◌, ◌≤◌, ◌+◌, ◌∷◌, ℕ, List, true, false, cond, Err, length, drop, sym, ◌∙◌, ap}
 use Rattle.std.proofs.lemmas.Result.{err_from_is_err_and}
 use Rattle.gb_store.specs.Changes.{is_at}
 use Rattle.gb_folder.specs.Files.{Files, is_blocked, with_file}
 use Rattle.gb_folder.proofs.Changes.{SameTearing-chain}
-use Rattle.gb_report.specs.declared.fault.Fault.{Fault}
 use Rattle.gb_report.specs.declared.fault.Fault.TheVariants as faults
 use Rattle.gb_folder.specs.Limits.{max_file}
 use Rattle.gb_store.specs.Changes.{put_in, shown}

@@ -1,4 +1,4 @@
-use Rattle.std.proofs.Common.{◌≡◌, ◌≢◌, ◌⊎◌, Err, ap, ◌∙◌, inl, inr}
+use Rattle.std.proofs.Common.{Err, ap, ◌∙◌, inl, inr}
 use Rattle.gb_store.proofs.Machine.{changes_with, changes_none, changes_left, is_device}
 use Rattle.gb_store.proofs.writing.write_at.Goals as goal
 
