@@ -109,7 +109,8 @@ impl<'a, T: Transforms> Providers<'a, T> {
         }))
     }
 
-    /// The list of the texts that these give: absent where one is, and 34 where one is no text.
+    /// The list of the texts that these give. The first from the left that is no value decides;
+    /// where all are values, 34 if one is no text.
     pub fn list(&mut self, elements: &[Node]) -> Result<Node, AllocError>
         requires { All (λ element. element.number < length self.old.nodes) elements.now }
         ensures ok { IfOk result (λ node. IsAdded self.old (Expression.Listed (numbers_of elements.now)) self.new node) }
