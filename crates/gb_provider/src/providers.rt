@@ -311,7 +311,7 @@ impl<'a, T: Transforms> Providers<'a, T> {
         self.change(node, Change::Convention(source.number))
     }
 
-    /// Makes a property final. 35 as in `set`. Takes no memory.
+    /// Makes a property final, if it is not yet. 35 where the node is no property. Takes no memory.
     pub fn disallow_changes(&mut self, node: Node) -> Result<(), Final>
         requires { node.number < length self.old.nodes }
         ensures { IsChanged Change.Finalize self.old node.number self.new result }

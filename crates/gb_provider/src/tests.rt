@@ -260,6 +260,7 @@ fn is_final<T: Transforms>(
             && asking::set(providers, p, Value::Flag(true)).is_err()
             && asking::unset(providers, p).is_err()
             && asking::convention(providers, p, constant).is_err()
+            && asking::disallow_changes(providers, p).is_ok()
             && asking::disallow_changes(providers, constant).is_err(),
     )
 }
