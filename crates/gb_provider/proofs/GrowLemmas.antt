@@ -20,7 +20,7 @@ use Rattle.gb_provider.specs.Answers.{value_of}
 use Rattle.gb_provider.specs.Called.{Called}
 use Rattle.gb_provider.specs.Indexed.{IsNoOutput}
 use Rattle.gb_provider.specs.Meanings.{Meanings, meaning_of}
-use Rattle.gb_provider.specs.Produced.{carrier, carriers, carry_all, carry_property, carry_side, choose_tasks, on_tasks, with_tasks}
+use Rattle.gb_provider.specs.Produced.{carrier, carriers, carry_all, carry_property, carry_side, choose_tasks, on_tasks, produced_by, with_tasks}
 use Rattle.gb_provider.specs.Remembered.{AreWithin, IsRemembered}
 use Rattle.gb_provider.specs.Rounds.{Rule, Answers, Reads, after_operand, and_then, answer, answer_after, reading, settled}
 use Rattle.gb_provider.specs.Rules.{OperandsWithin, PlaceWithin, SettingWithin, chosen_rule, is_output, list_rule, on_text, on_value, or_else, output_place, output_rule, property_rule, rule, rules}
@@ -237,7 +237,8 @@ module _ {M F Z S : Type 0} (meanings : Meanings M F Z S) (nodes : List (Express
           λ f. same_rule f found.0 ∙ ap (reading f) found.2,
         )
 
-    values_grown : (i : ℕ) → i < length nodes → value_of meanings (nodes ++ e ∷ []) i ≡ value_of meanings nodes i
+    -- the values stay
+    pub values_grown : (i : ℕ) → i < length nodes → value_of meanings (nodes ++ e ∷ []) i ≡ value_of meanings nodes i
     values_grown i below =
         let same : length nodes ≡ length (rules meanings nodes) = sym (length-map nodes (rule meanings nodes)) in
         same_answers (rules meanings nodes) (rules meanings (nodes ++ e ∷ [])) (longer_by (rule meanings nodes) (rule meanings (nodes ++ e ∷ []))) value_rule_within value_rule_alike i (omega (arith, below, same))
@@ -270,6 +271,12 @@ module _ {M F Z S : Type 0} (meanings : Meanings M F Z S) (nodes : List (Express
           slice_get-map (carrier meanings (nodes ++ e ∷ [])) (nodes ++ e ∷ []) i ∙ ap (option_map (carrier meanings (nodes ++ e ∷ []))) (slice_get_front nodes e found.0 i found.1),
           λ f. ap (reading f) (same_carrier found.0 (node_within i found.0 found.1) ∙ found.2),
         )
+
+    -- and so do the tasks
+    pub tasks_grown : (i : ℕ) → i < length nodes → produced_by meanings (nodes ++ e ∷ []) i ≡ produced_by meanings nodes i
+    tasks_grown i below =
+        let same : length nodes ≡ length (carriers meanings nodes) = sym (length-map nodes (carrier meanings nodes)) in
+        same_answers (carriers meanings nodes) (carriers meanings (nodes ++ e ∷ [])) (longer_by (carrier meanings nodes) (carrier meanings (nodes ++ e ∷ []))) task_rule_within task_rule_alike i (omega (arith, below, same))
 
     -- and so does what is remembered of tasks
     pub tasks_remembered : (states : List (State Produced)) → IsRemembered (carriers meanings nodes) states → IsRemembered (carriers meanings (nodes ++ e ∷ [])) states

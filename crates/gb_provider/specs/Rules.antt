@@ -33,6 +33,11 @@ abbrev pub RefusedAs : List ℕ → TransformFault → ValueFault → Type 0
 RefusedAs function (thrown.Refused refusal) fault = fault ≡ faults.Refused function refusal
 RefusedAs function thrown.OutOfMemory fault = ⊥
 
+-- a value, or nothing
+abbrev pub constant : Option Value → Outcome
+constant (Some value) = Given value
+constant None = Absent
+
 -- the answer of another expression
 abbrev pub follow : ℕ → Rule Outcome
 follow operand = Reads operand Answers
@@ -128,7 +133,7 @@ module _ {M F Z S : Type 0} (meanings : Meanings M F Z S) where
 
   -- How an expression of a table is evaluated.
   abbrev pub rule : List (Expression M F Z) → Expression M F Z → Rule Outcome
-  rule nodes (Constant value) = Answers (Given value)
+  rule nodes (Constant value) = Answers (constant value)
   rule nodes (OfProperty property) = property_rule property.setting property.convention
   rule nodes (OfOutput output) = output_rule output.chosen output.declared
   rule nodes (Listed operands) = list_rule false [] operands

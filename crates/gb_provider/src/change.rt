@@ -1,5 +1,5 @@
 //! Changes of properties.
-ghost use Rattle.std.specs.Prelude.{◌≡◌, ◌≢◌, ◌<◌, length, None, Some, slice_set, slice_get, false};
+ghost use Rattle.std.specs.Prelude.{◌≡◌, ◌≢◌, ◌<◌, length, None, Some, slice_set, slice_get};
 ghost use Rattle.std.specs.Bool.{OnTrue, OnFalse};
 ghost use Rattle.gb_provider.specs.Changes.{changed, open_property, takes, AreChanged};
 
@@ -80,9 +80,9 @@ fn take_property<M: Drop, F: Drop, Z: Drop>(
     requires within { at < length nodes.old.items }
     requires open { open_property change.now (slice_get nodes.old.items at) ≢ None }
     ensures taken { open_property change.now (slice_get nodes.old.items at) ≡ Some result }
-    ensures left { nodes.new.items ≡ slice_set nodes.old.items at (Expression.Constant (Value.Flag false)) }
+    ensures left { nodes.new.items ≡ slice_set nodes.old.items at (Expression.Constant None) }
 {
-    match mem::replace(&mut nodes[at], Expression::Constant(Value::Flag(false))) {
+    match mem::replace(&mut nodes[at], Expression::Constant(None)) {
         Expression::OfProperty(property) => property,
         _ => unreachable!(),
     }

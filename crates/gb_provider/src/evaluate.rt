@@ -4,7 +4,7 @@ ghost use Rattle.std.specs.Option.{option_copied};
 ghost use Rattle.gb_provider.specs.Indexed.{IsIndexed};
 ghost use Rattle.gb_provider.specs.Meanings.{meaning_of};
 ghost use Rattle.gb_provider.specs.Rounds.{reading, Reads};
-ghost use Rattle.gb_provider.specs.Rules.{PlaceWithin, OperandsWithin, rule, follow, or_else, property_rule, SettingWithin, output_rule, mapped, zipped, chosen_rule, map_rule, flat_map_rule, zip_rule, list_rule, refused, RefusedAs};
+ghost use Rattle.gb_provider.specs.Rules.{PlaceWithin, OperandsWithin, rule, constant, follow, or_else, property_rule, SettingWithin, output_rule, mapped, zipped, chosen_rule, map_rule, flat_map_rule, zip_rule, list_rule, refused, RefusedAs};
 ghost use Rattle.gb_provider.specs.Search.{AreBefore, IsPast, is_given, known, WaitsWithin};
 ghost use Rattle.gb_provider.specs.declared.fault.Refusal.TheVariants.{WrongValue};
 
@@ -27,6 +27,19 @@ pub(crate) fn known_at<A>(states: &[State<A>], at: usize) -> Option<&A>
     match &states[at] {
         State::Known(answer) => Some(answer),
         _ => None,
+    }
+}
+
+// A value, or nothing.
+fn read_constant(
+    alloc: Global,
+    value: &Option<Value>,
+) -> Result<Reading<Outcome>, AllocError>
+    ensures { IfOk result (λ found. found ≡ Reading.Settles (constant value.now)) }
+{
+    match value {
+        Some(value) => Ok(Reading::Settles(Outcome::Given(value.copy(alloc)?))),
+        None => Ok(Reading::Settles(Outcome::Absent)),
     }
 }
 
@@ -411,7 +424,7 @@ fn read<T: Transforms>(
     ensures within { IfOk result (λ found. WaitsWithin (length states.now) found) }
 {
     match node {
-        Expression::Constant(value) => { Ok(Reading::Settles(Outcome::Given(value.copy(alloc)?))) }
+        Expression::Constant(value) => read_constant(alloc, value),
         Expression::OfProperty(property) => read_property(alloc, states, property),
         Expression::OfOutput(output) => {
             read_output(alloc, states, &output.chosen, output.declared)

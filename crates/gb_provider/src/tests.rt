@@ -2,6 +2,7 @@
 use crate::asking::{self, is_absent, is_list, is_text, number};
 use crate::expression::Node;
 use crate::fault::{ProviderFault, TableFault};
+use crate::laws::plain_ones_keep_answers;
 use crate::produced::TaskPaths;
 use crate::providers::Providers;
 use crate::sample::{Only, Sample};
@@ -402,6 +403,63 @@ fn a_circle_comes_before_an_element_that_is_no_text(rt: HostRuntime) -> Result<(
     let alloc = rt.alloc();
     let table = sample_table(alloc)?;
     assert!(rt; try_list_runs_into_itself::<Sample>(alloc, &table));
+    Ok(())
+}
+
+/// A constant that is absent.
+fn is_nothing<T: Transforms>(
+    alloc: Global,
+    providers: &mut Providers<'_, T>,
+) -> Result<bool, ProviderFault> {
+    let nothing = providers.absent()?;
+    let text = providers.value(asking::text(alloc, "a")?)?;
+    let either = asking::or_else(providers, nothing, text)?;
+    let none = asking::producers(providers, nothing).is_ok_and(|tasks| tasks.is_empty());
+    Ok(
+        none
+            && is_absent(&asking::get(providers, nothing))
+            && is_text(&asking::get(providers, either), "a"),
+    )
+}
+
+fn try_is_nothing<T: Transforms>(
+    alloc: Global,
+    table: &TransformTable<T::Map, T::FlatMap, T::Zip, T::Test>,
+) -> bool {
+    let mut providers = Providers::<T>::new(alloc, table);
+    is_nothing(alloc, &mut providers).is_ok_and(|is_so| is_so)
+}
+
+#[test]
+fn a_constant_may_be_absent(rt: HostRuntime) -> Result<(), Fail> {
+    let alloc = rt.alloc();
+    let table = sample_table(alloc)?;
+    assert!(rt; try_is_nothing::<Sample>(alloc, &table));
+    Ok(())
+}
+
+/// What a name and a count are refused for, or 0.
+fn refused<T: Transforms>(
+    alloc: Global,
+    table: &TransformTable<T::Map, T::FlatMap, T::Zip, T::Test>,
+    name: &str,
+    count: usize,
+) -> u16 {
+    let providers = Providers::<T>::new(alloc, table);
+    match providers.accepts_test(name, count) {
+        Ok(()) => 0,
+        Err(fault) => fault.number(),
+    }
+}
+
+#[test]
+fn a_test_is_accepted_before_it_is_asked(rt: HostRuntime) -> Result<(), Fail> {
+    let alloc = rt.alloc();
+    let table = sample_table(alloc)?;
+    assert_eq!(rt; refused::<Sample>(alloc, &table, "isTrue", 0), 0);
+    assert_eq!(rt; refused::<Sample>(alloc, &table, "isTrue", 1), 32);
+    assert_eq!(rt; refused::<Sample>(alloc, &table, "concat", 7), 31);
+    plain_ones_keep_answers::<Sample>();
     Ok(())
 }
 
