@@ -1,5 +1,5 @@
 -- One more expression that is no output leaves all answers as they were.
-use Rattle.std.proofs.Common.{◌≡◌, ℕ, zero, suc, ◌+◌, ◌<◌, ◌≤◌, List, [], ◌∷◌, ◌++◌, length, refl, sym, ap, subst, ◌∙◌, arith, inl, inr, length-append, false}
+use Rattle.std.proofs.Common.{◌≡◌, ℕ, zero, suc, ◌+◌, ◌<◌, ◌≤◌, List, [], ◌∷◌, ◌++◌, length, refl, sym, ap, subst, ◌∙◌, arith, inl, inr, length-append, Bool, true, false}
 use Rattle.std.proofs.lemmas.List.{length-map}
 use Rattle.std.specs.Prelude.{All, Option, Some, None, Result, Ok, Err, slice_get, option_map, map}
 use Rattle.std.proofs.lemmas.Option.{slice_get-map, slice_get_cases, slice_get_within, get_or_from_slice_get}
@@ -20,7 +20,7 @@ use Rattle.gb_provider.specs.Answers.{value_of}
 use Rattle.gb_provider.specs.Called.{Called}
 use Rattle.gb_provider.specs.Indexed.{IsNoOutput}
 use Rattle.gb_provider.specs.Meanings.{Meanings, meaning_of}
-use Rattle.gb_provider.specs.Produced.{carrier, carriers, carry_all, carry_property, carry_side, choose_tasks, on_tasks, with_tasks}
+use Rattle.gb_provider.specs.Produced.{carrier, carriers, carry_all, carry_property, carry_side, choose_tasks, on_tasks, produced_by, with_tasks}
 use Rattle.gb_provider.specs.Remembered.{AreWithin, IsRemembered}
 use Rattle.gb_provider.specs.Rounds.{Rule, Answers, Reads, after_operand, and_then, answer, answer_after, reading, settled}
 use Rattle.gb_provider.specs.Rules.{OperandsWithin, PlaceWithin, SettingWithin, chosen_rule, is_output, list_rule, on_text, on_value, or_else, output_place, output_rule, property_rule, rule, rules}
@@ -100,19 +100,19 @@ module _ {M F Z S : Type 0} (meanings : Meanings M F Z S) (nodes : List (Express
   value_within go_on all Absent = tt
   value_within go_on all (Refused fault) = tt
 
-  text_within : (go_on : List ℕ → Rule Outcome) → ((text : List ℕ) → ReadsWithin (length nodes) (go_on text)) → (value : Value) → ReadsWithin (length nodes) (on_text go_on value)
-  text_within go_on all (values.Text text) = all text
-  text_within go_on all (values.Flag flag) = tt
-  text_within go_on all (values.List texts) = tt
-  text_within go_on all (values.Place place) = tt
-  text_within go_on all (values.Task task) = tt
+  text_within : (go_on : List ℕ → Rule Outcome) (other : Rule Outcome) → ((text : List ℕ) → ReadsWithin (length nodes) (go_on text)) → ReadsWithin (length nodes) other → (value : Value) → ReadsWithin (length nodes) (on_text go_on other value)
+  text_within go_on other all also (values.Text text) = all text
+  text_within go_on other all also (values.Flag flag) = also
+  text_within go_on other all also (values.List texts) = also
+  text_within go_on other all also (values.Place place) = also
+  text_within go_on other all also (values.Task task) = also
 
-  list_within : (operands : List ℕ) (texts : List (List ℕ)) → All (λ operand. operand < length nodes) operands → ReadsWithin (length nodes) (list_rule texts operands)
-  list_within [] texts all = tt
-  list_within (operand ∷ operands) texts all = (
+  list_within : (operands : List ℕ) (is_wrong : Bool) (texts : List (List ℕ)) → All (λ operand. operand < length nodes) operands → ReadsWithin (length nodes) (list_rule is_wrong texts operands)
+  list_within [] is_wrong texts all = tt
+  list_within (operand ∷ operands) is_wrong texts all = (
     all 0 operand (omega arith),
-    value_within (on_text (λ text. list_rule (texts ++ text ∷ []) operands))
-        (text_within (λ text. list_rule (texts ++ text ∷ []) operands) (λ text. list_within operands (texts ++ text ∷ []) (λ k d below. all (suc k) d (omega arith)))),
+    value_within (on_text (λ text. list_rule is_wrong (texts ++ text ∷ []) operands) (list_rule true texts operands))
+        (text_within (λ text. list_rule is_wrong (texts ++ text ∷ []) operands) (list_rule true texts operands) (λ text. list_within operands is_wrong (texts ++ text ∷ []) (λ k d below. all (suc k) d (omega arith))) (list_within operands true texts (λ k d below. all (suc k) d (omega arith)))),
   )
 
   chosen_within : (function : List ℕ) (reply : Result (Option Chosen) Refusal) → ReadsWithin (length nodes) (chosen_rule nodes function reply)
@@ -129,7 +129,7 @@ module _ {M F Z S : Type 0} (meanings : Meanings M F Z S) (nodes : List (Express
   rule_within (Constant value) within = tt
   rule_within (OfProperty property) within = property_within property.setting property.convention within.0 within.1
   rule_within (OfOutput output) within = output_within output.chosen output.declared within
-  rule_within (Listed operands) within = list_within operands [] within
+  rule_within (Listed operands) within = list_within operands false [] within
   rule_within (Mapped source call) within = (within, value_within _ (λ value. tt))
   rule_within (FlatMapped source call) within = (within, value_within _ (λ value. chosen_within call.name (meaning_of meanings.flat_map call.function value call.arguments)))
   rule_within (Zipped left right call) within = (within.0, value_within _ (λ a. (within.1, value_within _ (λ b. tt))))
@@ -237,7 +237,8 @@ module _ {M F Z S : Type 0} (meanings : Meanings M F Z S) (nodes : List (Express
           λ f. same_rule f found.0 ∙ ap (reading f) found.2,
         )
 
-    values_grown : (i : ℕ) → i < length nodes → value_of meanings (nodes ++ e ∷ []) i ≡ value_of meanings nodes i
+    -- the values stay
+    pub values_grown : (i : ℕ) → i < length nodes → value_of meanings (nodes ++ e ∷ []) i ≡ value_of meanings nodes i
     values_grown i below =
         let same : length nodes ≡ length (rules meanings nodes) = sym (length-map nodes (rule meanings nodes)) in
         same_answers (rules meanings nodes) (rules meanings (nodes ++ e ∷ [])) (longer_by (rule meanings nodes) (rule meanings (nodes ++ e ∷ []))) value_rule_within value_rule_alike i (omega (arith, below, same))
@@ -270,6 +271,12 @@ module _ {M F Z S : Type 0} (meanings : Meanings M F Z S) (nodes : List (Express
           slice_get-map (carrier meanings (nodes ++ e ∷ [])) (nodes ++ e ∷ []) i ∙ ap (option_map (carrier meanings (nodes ++ e ∷ []))) (slice_get_front nodes e found.0 i found.1),
           λ f. ap (reading f) (same_carrier found.0 (node_within i found.0 found.1) ∙ found.2),
         )
+
+    -- and so do the tasks
+    pub tasks_grown : (i : ℕ) → i < length nodes → produced_by meanings (nodes ++ e ∷ []) i ≡ produced_by meanings nodes i
+    tasks_grown i below =
+        let same : length nodes ≡ length (carriers meanings nodes) = sym (length-map nodes (carrier meanings nodes)) in
+        same_answers (carriers meanings nodes) (carriers meanings (nodes ++ e ∷ [])) (longer_by (carrier meanings nodes) (carrier meanings (nodes ++ e ∷ []))) task_rule_within task_rule_alike i (omega (arith, below, same))
 
     -- and so does what is remembered of tasks
     pub tasks_remembered : (states : List (State Produced)) → IsRemembered (carriers meanings nodes) states → IsRemembered (carriers meanings (nodes ++ e ∷ [])) states

@@ -95,21 +95,21 @@ same_order a b =
     ∙ (ap (λ x. x && is_eq (slice_cmp nat_cmp a.output b.output)) (is_eq-slice_cmp a.task b.task) ∙ ap (λ x. bytes_eq a.task b.task && x) (is_eq-slice_cmp a.output b.output))
 
 module _ {M F Z : Type 0} where
-  open_stands : (o : Option (Expression M F Z)) (property : Property) → open_property o ≡ Some property → (old : Property) × (o ≡ Some (OfProperty old))
-  open_stands None property is = cc
-  open_stands (Some (Constant value)) property is = cc
-  open_stands (Some (OfProperty old)) property is = (old, refl)
-  open_stands (Some (OfOutput output)) property is = cc
-  open_stands (Some (Listed operands)) property is = cc
-  open_stands (Some (Mapped source call)) property is = cc
-  open_stands (Some (FlatMapped source call)) property is = cc
-  open_stands (Some (Zipped left right call)) property is = cc
-  open_stands (Some (OrElse left right)) property is = cc
+  open_stands : (change : Change) (o : Option (Expression M F Z)) (property : Property) → open_property change o ≡ Some property → (old : Property) × (o ≡ Some (OfProperty old))
+  open_stands change None property is = cc
+  open_stands change (Some (Constant value)) property is = cc
+  open_stands change (Some (OfProperty old)) property is = (old, refl)
+  open_stands change (Some (OfOutput output)) property is = cc
+  open_stands change (Some (Listed operands)) property is = cc
+  open_stands change (Some (Mapped source call)) property is = cc
+  open_stands change (Some (FlatMapped source call)) property is = cc
+  open_stands change (Some (Zipped left right call)) property is = cc
+  open_stands change (Some (OrElse left right)) property is = cc
 
   -- a change of a property leaves all outputs where they stand
   pub places_changed : (change : Change) (old new : List (Expression M F Z)) (at : ℕ) (result : Result (Unit {0}) Final) → AreChanged change old at new result → (chosen : Chosen) → output_place new chosen ≡ output_place old chosen
   places_changed change old new at (Ok done) made chosen =
-      let stood = open_stands (slice_get old at) made.0 made.1 in
+      let stood = open_stands change (slice_get old at) made.0 made.1 in
       ap (λ nodes. output_place nodes chosen) made.2 ∙ position_set (is_output chosen) old at (OfProperty stood.0) (OfProperty (changed change made.0)) stood.1 refl
   places_changed change old new at (Err final) made chosen = ap (λ nodes. output_place nodes chosen) made.1
 

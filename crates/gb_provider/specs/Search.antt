@@ -1,6 +1,5 @@
 -- A search for the answer of one entry.
 use Rattle.std.specs.Prelude.{◌≡◌, ◌≢◌, ℕ, ◌+◌, ◌<◌, List, length, Option, Some, None, Result, Ok, Err, Vec, slice_get, slice_index, sum_by, Bool, true, false, IsTrue}
-use Rattle.gb_core.specs.declared.value.Value.TheVariants as values
 use Rattle.gb_provider.specs.declared.expression.Outcome.{Outcome}
 use Rattle.gb_provider.specs.declared.expression.Outcome.TheVariants.{Given, Absent, Refused}
 use Rattle.gb_provider.specs.declared.produced.Produced.{Produced}
@@ -89,16 +88,12 @@ IsPastAt {A} rules f entry n = (rule : Rule A) → slice_get rules entry ≡ Som
 abbrev pub AreBefore : (ℕ → Bool) → List ℕ → ℕ → Type 0
 AreBefore passes operands n = (i : ℕ) → i < n → i < length operands → IsTrue (passes (slice_index operands i))
 
--- an answer that is a text
-abbrev pub is_text : Option Outcome → Bool
-is_text (Some (Given (values.Text text))) = true
-is_text (Some (Given (values.Flag flag))) = false
-is_text (Some (Given (values.List texts))) = false
-is_text (Some (Given (values.Place place))) = false
-is_text (Some (Given (values.Task task))) = false
-is_text (Some Absent) = false
-is_text (Some (Refused fault)) = false
-is_text None = false
+-- an answer that is a value
+abbrev pub is_given : Option Outcome → Bool
+is_given (Some (Given value)) = true
+is_given (Some Absent) = false
+is_given (Some (Refused fault)) = false
+is_given None = false
 
 -- an answer that has tasks
 abbrev pub has_tasks : Option Produced → Bool

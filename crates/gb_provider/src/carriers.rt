@@ -2,7 +2,7 @@
 ghost use Rattle.std.specs.Prelude.{◌≡◌, ◌<◌, [], ◌∷◌, length, slice_index, false, IfOk, All};
 ghost use Rattle.gb_provider.specs.Answers.{value_of};
 ghost use Rattle.gb_provider.specs.Meanings.{meaning_of};
-ghost use Rattle.gb_provider.specs.Produced.{carry, carry_all, carry_property, carry_side, carrier, choose_tasks, chosen_tasks, tasks_of};
+ghost use Rattle.gb_provider.specs.Produced.{carry, carry_all, carry_property, carry_side, carrier, choose_tasks, chosen_tasks, constant_tasks, tasks_of};
 ghost use Rattle.gb_provider.specs.Rounds.{reading};
 ghost use Rattle.gb_provider.specs.Rules.{OperandsWithin, PlaceWithin, SettingWithin};
 ghost use Rattle.gb_provider.specs.Search.{AreBefore, IsPast, has_tasks, known, WaitsWithin};
@@ -36,6 +36,15 @@ fn tasks_of(alloc: Global, value: &Value) -> Result<Produced, AllocError>
     match value {
         Value::Task(task) => one_task(alloc, task),
         _ => Ok(Produced::Tasks(TaskPaths::new(alloc))),
+    }
+}
+
+fn constant_tasks(alloc: Global, value: &Option<Value>) -> Result<Produced, AllocError>
+    ensures { IfOk result (λ found. found ≡ Produced.Tasks (constant_tasks value.now)) }
+{
+    match value {
+        Some(value) => tasks_of(alloc, value),
+        None => Ok(Produced::Tasks(TaskPaths::new(alloc))),
     }
 }
 
@@ -244,7 +253,7 @@ impl<'b, 'a, T: Transforms> TaskReader<'b, 'a, T> {
     {
         let alloc = self.alloc;
         match node {
-            Expression::Constant(value) => Ok(Reading::Settles(tasks_of(alloc, value)?)),
+            Expression::Constant(value) => Ok(Reading::Settles(constant_tasks(alloc, value)?)),
             Expression::OfProperty(property) => carry_property(alloc, states, property),
             Expression::OfOutput(output) => {
                 Ok(Reading::Settles(one_task(alloc, &output.chosen.task)?))

@@ -1,7 +1,7 @@
 //! Changes of properties.
-ghost use Rattle.std.specs.Prelude.{◌≡◌, ◌≢◌, ◌<◌, length, None, Some, slice_set, slice_get, false};
+ghost use Rattle.std.specs.Prelude.{◌≡◌, ◌≢◌, ◌<◌, length, None, Some, slice_set, slice_get};
 ghost use Rattle.std.specs.Bool.{OnTrue, OnFalse};
-ghost use Rattle.gb_provider.specs.Changes.{changed, open_property, AreChanged};
+ghost use Rattle.gb_provider.specs.Changes.{changed, open_property, takes, AreChanged};
 
 use crate::expression::{Expression, Property, Setting};
 use crate::fault::Final;
@@ -44,13 +44,23 @@ pub(crate) fn put<'a, M: Drop, F: Drop, Z: Drop>(
     nodes[at] = node;
 }
 
-// Whether it is a property that is not final.
-fn is_changeable<M, F, Z>(node: &Expression<M, F, Z>) -> bool
-    ensures yes { OnTrue result (open_property (Some node.now) ≢ None) }
-    ensures no { OnFalse result (open_property (Some node.now) ≡ None) }
+// Whether a property takes a change: a final one only to be final.
+fn takes(change: &Change, is_final: bool) -> bool
+    ensures { result ≡ takes change.now is_final }
+{
+    match change {
+        Change::Finalize => true,
+        _ => !is_final,
+    }
+}
+
+// Whether it is a property that takes the change.
+fn is_changeable<M, F, Z>(node: &Expression<M, F, Z>, change: &Change) -> bool
+    ensures yes { OnTrue result (open_property change.now (Some node.now) ≢ None) }
+    ensures no { OnFalse result (open_property change.now (Some node.now) ≡ None) }
 {
     match node {
-        Expression::OfProperty(property) => !property.is_final,
+        Expression::OfProperty(property) => takes(change, property.is_final),
         Expression::Constant(_) => false,
         Expression::OfOutput(_) => false,
         Expression::Listed(_) => false,
@@ -61,23 +71,24 @@ fn is_changeable<M, F, Z>(node: &Expression<M, F, Z>) -> bool
     }
 }
 
-// The property at a place, out of it.
+// The property at a place that takes the change, out of it.
 fn take_property<M: Drop, F: Drop, Z: Drop>(
     nodes: &mut Vec<Expression<M, F, Z>>,
     at: usize,
+    change: &Change,
 ) -> Property
     requires within { at < length nodes.old.items }
-    requires open { open_property (slice_get nodes.old.items at) ≢ None }
-    ensures taken { open_property (slice_get nodes.old.items at) ≡ Some result }
-    ensures left { nodes.new.items ≡ slice_set nodes.old.items at (Expression.Constant (Value.Flag false)) }
+    requires open { open_property change.now (slice_get nodes.old.items at) ≢ None }
+    ensures taken { open_property change.now (slice_get nodes.old.items at) ≡ Some result }
+    ensures left { nodes.new.items ≡ slice_set nodes.old.items at (Expression.Constant None) }
 {
-    match mem::replace(&mut nodes[at], Expression::Constant(Value::Flag(false))) {
+    match mem::replace(&mut nodes[at], Expression::Constant(None)) {
         Expression::OfProperty(property) => property,
         _ => unreachable!(),
     }
 }
 
-/// Changes a property that is not final.
+/// Changes a property that takes the change.
 pub(crate) fn change_property<M: Drop, F: Drop, Z: Drop>(
     nodes: &mut Vec<Expression<M, F, Z>>,
     at: usize,
@@ -86,10 +97,10 @@ pub(crate) fn change_property<M: Drop, F: Drop, Z: Drop>(
     requires { at < length nodes.old.items }
     ensures { AreChanged change nodes.old.items at nodes.new.items result }
 {
-    if !is_changeable(&nodes[at]) {
+    if !is_changeable(&nodes[at], &change) {
         return Err(Final);
     }
-    let property = take_property(nodes, at);
+    let property = take_property(nodes, at, &change);
     let changed = apply(change, property);
     put(nodes, at, Expression::OfProperty(changed));
     Ok(())

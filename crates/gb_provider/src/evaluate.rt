@@ -4,8 +4,8 @@ ghost use Rattle.std.specs.Option.{option_copied};
 ghost use Rattle.gb_provider.specs.Indexed.{IsIndexed};
 ghost use Rattle.gb_provider.specs.Meanings.{meaning_of};
 ghost use Rattle.gb_provider.specs.Rounds.{reading, Reads};
-ghost use Rattle.gb_provider.specs.Rules.{PlaceWithin, OperandsWithin, rule, follow, or_else, property_rule, SettingWithin, output_rule, mapped, zipped, chosen_rule, map_rule, flat_map_rule, zip_rule, list_rule, refused, RefusedAs};
-ghost use Rattle.gb_provider.specs.Search.{AreBefore, IsPast, is_text, known, WaitsWithin};
+ghost use Rattle.gb_provider.specs.Rules.{PlaceWithin, OperandsWithin, rule, constant, follow, or_else, property_rule, SettingWithin, output_rule, mapped, zipped, chosen_rule, map_rule, flat_map_rule, zip_rule, list_rule, refused, RefusedAs};
+ghost use Rattle.gb_provider.specs.Search.{AreBefore, IsPast, is_given, known, WaitsWithin};
 ghost use Rattle.gb_provider.specs.declared.fault.Refusal.TheVariants.{WrongValue};
 
 use crate::expression::{Call, Expression, Outcome, Property, Setting};
@@ -27,6 +27,19 @@ pub(crate) fn known_at<A>(states: &[State<A>], at: usize) -> Option<&A>
     match &states[at] {
         State::Known(answer) => Some(answer),
         _ => None,
+    }
+}
+
+// A value, or nothing.
+fn read_constant(
+    alloc: Global,
+    value: &Option<Value>,
+) -> Result<Reading<Outcome>, AllocError>
+    ensures { IfOk result (λ found. found ≡ Reading.Settles (constant value.now)) }
+{
+    match value {
+        Some(value) => Ok(Reading::Settles(Outcome::Given(value.copy(alloc)?))),
+        None => Ok(Reading::Settles(Outcome::Absent)),
     }
 }
 
@@ -266,47 +279,51 @@ fn read_list(
     operands: &[usize],
 ) -> Result<Reading<Outcome>, AllocError>
     requires { All (λ operand. operand < length states.now) operands.now }
-    ensures reads { IfOk result (λ found. found ≡ reading (known states.now) (list_rule [] operands.now)) }
+    ensures reads { IfOk result (λ found. found ≡ reading (known states.now) (list_rule false [] operands.now)) }
     ensures within { IfOk result (λ found. WaitsWithin (length states.now) found) }
 {
     let mut texts = Texts::new(alloc);
+    let mut is_wrong = false;
     for operand in operands {
         match known_at(states, *operand) {
             None => return Ok(Reading::Waits(*operand)),
             Some(Outcome::Given(Value::Text(text))) => texts.push(text.copy()?)?,
-            Some(Outcome::Given(_)) => return Ok(Reading::Settles(refuse_element(alloc)?)),
+            Some(Outcome::Given(_)) => is_wrong = true,
             Some(outcome) => return Ok(Reading::Settles(outcome.copy(alloc)?)),
         }
+    }
+    if is_wrong {
+        return Ok(Reading::Settles(refuse_element(alloc)?));
     }
     Ok(Reading::Settles(Outcome::Given(Value::List(texts))))
 }
 
-// Whether an operand is known to be a text.
-fn is_text(states: &[State<Outcome>], operand: usize) -> bool
+// Whether an operand is known to be a value.
+fn is_given(states: &[State<Outcome>], operand: usize) -> bool
     requires { operand < length states.now }
-    ensures { result ≡ is_text (known states.now operand) }
+    ensures { result ≡ is_given (known states.now operand) }
 {
     match known_at(states, operand) {
-        Some(Outcome::Given(Value::Text(_))) => true,
+        Some(Outcome::Given(_)) => true,
         _ => false,
     }
 }
 
-// The first operand from here on that is not known to be a text.
+// The first operand from here on that is not known to be a value.
 fn past_texts(states: &[State<Outcome>], operands: &[usize], from: usize) -> usize
     requires operands { All (λ operand. operand < length states.now) operands.now }
-    requires before { AreBefore (λ operand. is_text (known states.now operand)) operands.now from }
-    ensures before { AreBefore (λ operand. is_text (known states.now operand)) operands.now result }
-    ensures stops { result < length operands.now → is_text (known states.now (slice_index operands.now result)) ≡ false }
+    requires before { AreBefore (λ operand. is_given (known states.now operand)) operands.now from }
+    ensures before { AreBefore (λ operand. is_given (known states.now operand)) operands.now result }
+    ensures stops { result < length operands.now → is_given (known states.now (slice_index operands.now result)) ≡ false }
 {
     let mut at = from;
-    while at < operands.len() && is_text(states, operands[at]) {
+    while at < operands.len() && is_given(states, operands[at]) {
         at += 1;
     }
     at
 }
 
-// One look at a list, whose first elements are known to be texts.
+// One look at a list, whose first elements are known to be values.
 fn look_list(
     alloc: Global,
     states: &[State<Outcome>],
@@ -314,10 +331,10 @@ fn look_list(
     past: usize,
 ) -> Result<Look<Outcome>, AllocError>
     requires operands { All (λ operand. operand < length states.now) operands.now }
-    requires past { IsPast (known states.now) past (list_rule [] operands.now) }
-    ensures reads { IfOk result (λ found. found.reading ≡ reading (known states.now) (list_rule [] operands.now)) }
+    requires past { IsPast (known states.now) past (list_rule false [] operands.now) }
+    ensures reads { IfOk result (λ found. found.reading ≡ reading (known states.now) (list_rule false [] operands.now)) }
     ensures within { IfOk result (λ found. WaitsWithin (length states.now) found.reading) }
-    ensures past { IfOk result (λ found. IsPast (known states.now) found.past (list_rule [] operands.now)) }
+    ensures past { IfOk result (λ found. IsPast (known states.now) found.past (list_rule false [] operands.now)) }
 {
     let at = past_texts(states, operands, past);
     if at < operands.len() {
@@ -407,7 +424,7 @@ fn read<T: Transforms>(
     ensures within { IfOk result (λ found. WaitsWithin (length states.now) found) }
 {
     match node {
-        Expression::Constant(value) => { Ok(Reading::Settles(Outcome::Given(value.copy(alloc)?))) }
+        Expression::Constant(value) => read_constant(alloc, value),
         Expression::OfProperty(property) => read_property(alloc, states, property),
         Expression::OfOutput(output) => {
             read_output(alloc, states, &output.chosen, output.declared)

@@ -93,7 +93,8 @@ pub struct Output {
 /// An expression.
 #[derive(Drop)]
 pub enum Expression<'a, M, F, Z> {
-    Constant(Value),
+    /// A value, or nothing.
+    Constant(Option<Value>),
     OfProperty(Property),
     OfOutput(Output),
     Listed(Operands),

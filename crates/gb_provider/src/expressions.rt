@@ -130,7 +130,7 @@ impl<'a, M: Drop, F: Drop, Z: Drop> Expressions<'a, M, F, Z> {
         );
     }
 
-    /// Changes a property that is not final.
+    /// Changes a property that takes the change.
     pub fn change(&mut self, number: usize, change: Change) -> Result<(), Final>
         requires { number < length self.old }
         ensures { AreChanged change self.old number self.new result }

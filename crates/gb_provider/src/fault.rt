@@ -145,7 +145,7 @@ impl From<AllocError> for StepFault {
 #[derive(Debug, Drop)]
 pub enum ProviderFault {
     /// It needs itself: the properties and outputs on the circle, each reading the next, the last
-    /// the first, from the least name by bytes.
+    /// the first; of the rounds from each of them on the least, name by name, by bytes.
     Circular(Texts),
     /// The test is none.
     Step(StepFault),

@@ -45,7 +45,7 @@ impl TaskPaths {
     }
 
     /// Adds these tasks.
-    pub fn extend(&mut self, more: &TaskPaths) -> Result<(), AllocError>
+    pub(crate) fn extend(&mut self, more: &TaskPaths) -> Result<(), AllocError>
         ensures { OnOk result (self.new ≡ with_tasks self.old more.now) }
     {
         for task in &more.paths {

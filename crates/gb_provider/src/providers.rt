@@ -1,6 +1,6 @@
 //! Providers.
-ghost use Rattle.std.specs.Prelude.{◌≡◌, ◌↔◌, ◌<◌, ◌++◌, [], ◌∷◌, length, All, IfOk, IsTrue, OnErr, None, false};
-ghost use Rattle.gb_provider.specs.Answers.{IsGot, IsRequired, IsTested, IsTestedBy, IsAsked};
+ghost use Rattle.std.specs.Prelude.{◌≡◌, ◌↔◌, ◌<◌, ◌++◌, [], ◌∷◌, length, All, IfOk, IsTrue, OnErr, None, Some, false};
+ghost use Rattle.gb_provider.specs.Answers.{IsAccepted, IsAsked, IsGot, IsRequired, IsTested, IsTestedBy};
 ghost use Rattle.gb_provider.specs.Meanings.{meaning_of};
 ghost use Rattle.gb_provider.specs.Produced.{AreProducers};
 ghost use Rattle.gb_provider.specs.Changes.{ChangeWithin, IsChanged, IsOutput, IsDeclared};
@@ -89,10 +89,18 @@ impl<'a, T: Transforms> Providers<'a, T> {
 
     /// A constant.
     pub fn value(&mut self, value: Value) -> Result<Node, AllocError>
-        ensures ok { IfOk result (λ node. IsAdded self.old (Expression.Constant value) self.new node) }
+        ensures ok { IfOk result (λ node. IsAdded self.old (Expression.Constant (Some value)) self.new node) }
         ensures err { OnErr result (self.new ≡ self.old) }
     {
-        self.add(Expression::Constant(value))
+        self.add(Expression::Constant(Some(value)))
+    }
+
+    /// A constant that is absent.
+    pub fn absent(&mut self) -> Result<Node, AllocError>
+        ensures ok { IfOk result (λ node. IsAdded self.old (Expression.Constant None) self.new node) }
+        ensures err { OnErr result (self.new ≡ self.old) }
+    {
+        self.add(Expression::Constant(None))
     }
 
     /// A property of a project that nothing sets yet. On a circle it is told by this path and name.
@@ -109,7 +117,8 @@ impl<'a, T: Transforms> Providers<'a, T> {
         }))
     }
 
-    /// The list of the texts that these give: absent where one is, and 34 where one is no text.
+    /// The list of the texts that these give. The first from the left that is no value decides;
+    /// where all are values, 34 if one is no text.
     pub fn list(&mut self, elements: &[Node]) -> Result<Node, AllocError>
         requires { All (λ element. element.number < length self.old.nodes) elements.now }
         ensures ok { IfOk result (λ node. IsAdded self.old (Expression.Listed (numbers_of elements.now)) self.new node) }
@@ -310,7 +319,7 @@ impl<'a, T: Transforms> Providers<'a, T> {
         self.change(node, Change::Convention(source.number))
     }
 
-    /// Makes a property final. 35 as in `set`. Takes no memory.
+    /// Makes a property final, if it is not yet. 35 where the node is no property. Takes no memory.
     pub fn disallow_changes(&mut self, node: Node) -> Result<(), Final>
         requires { node.number < length self.old.nodes }
         ensures { IsChanged Change.Finalize self.old node.number self.new result }
@@ -375,13 +384,22 @@ impl<'a, T: Transforms> Providers<'a, T> {
         ensures tested { IsTested T.meanings self.old node.number name.now arguments.now (test_named self.old.table name.now) result }
         ensures kept { self.new ≡ self.old }
     {
-        let Some(function) = self.table.find_test(name) else {
-            return Err(ProviderFault::Step(StepFault::UnknownTransform));
-        };
-        if T::test_arity(function) as usize != arguments.len() {
-            return Err(ProviderFault::Step(StepFault::BadArguments));
+        let table = self.table;
+        match accepted_test::<T>(table, name, arguments.len()) {
+            Ok(test) => self.test_by(node, test, name, arguments),
+            Err(fault) => Err(ProviderFault::Step(fault)),
         }
-        self.test_by(node, function, name, arguments)
+    }
+
+    /// Whether `test` takes so many arguments under this name: 31 where no test has it, then 32.
+    /// Nothing is evaluated.
+    pub fn accepts_test(&self, name: &str, count: usize) -> Result<(), StepFault>
+        ensures { IsAccepted T.meanings.test.arity count (test_named self.now.table name.now) result }
+    {
+        match accepted_test::<T>(self.table, name, count) {
+            Ok(_) => Ok(()),
+            Err(fault) => Err(fault),
+        }
     }
 
     // The answer of a test that takes as many arguments.
@@ -403,6 +421,24 @@ impl<'a, T: Transforms> Providers<'a, T> {
             Err(fault) => Err(fault),
         }
     }
+}
+
+// The test of a name, if it takes so many arguments.
+fn accepted_test<'a, T: Transforms>(
+    table: &'a TransformTable<T::Map, T::FlatMap, T::Zip, T::Test>,
+    name: &str,
+    count: usize,
+) -> Result<&'a T::Test, StepFault>
+    ensures accepted { IsAccepted T.meanings.test.arity count (test_named table.now name.now) result }
+    ensures found { IfOk result (λ test. test_named table.now name.now ≡ Some test.now) }
+{
+    let Some(test) = table.find_test(name) else {
+        return Err(StepFault::UnknownTransform);
+    };
+    if T::test_arity(test) as usize != count {
+        return Err(StepFault::BadArguments);
+    }
+    Ok(test)
 }
 
 // Asks a test of a value.
