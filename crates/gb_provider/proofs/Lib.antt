@@ -1,4 +1,3 @@
-pub mod Tables
 pub mod RoundsLemmas
 pub mod CircleLemmas
 pub mod SearchLemmas
