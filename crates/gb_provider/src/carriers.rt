@@ -7,7 +7,7 @@ ghost use Rattle.gb_provider.specs.Rounds.{reading};
 ghost use Rattle.gb_provider.specs.Rules.{OperandsWithin, PlaceWithin, SettingWithin};
 ghost use Rattle.gb_provider.specs.Search.{AreBefore, IsPast, has_tasks, known, WaitsWithin};
 
-use crate::evaluate::{known_at, refused_by};
+use crate::evaluate::{known_at, refused_by, shared_at};
 use crate::expression::{Call, Expression, Outcome, Property, Setting};
 use crate::expressions::Outputs;
 use crate::fault::{Chosen, TransformFault};
@@ -15,11 +15,19 @@ use crate::produced::{Produced, TaskPaths};
 use crate::reading::{Look, Reading, State};
 use crate::recall::recall_outcome;
 use crate::search::Entries;
+use crate::shared::Shared;
 use crate::transforms::Transforms;
 use gb_core::path::TaskPath;
 use gb_core::value::Value;
 use std::alloc::{AllocError, Global};
 use std::marker::Model;
+
+// That an expression has these.
+fn settle(alloc: Global, found: Produced) -> Result<Reading<Shared<Produced>>, AllocError>
+    ensures { IfOk result (λ settled. settled ≡ Reading.Settles found) }
+{
+    Ok(Reading::Settles(Shared::new(alloc, found)?))
+}
 
 // One task alone.
 fn one_task(alloc: Global, task: &TaskPath) -> Result<Produced, AllocError>
@@ -50,25 +58,24 @@ fn constant_tasks(alloc: Global, value: &Option<Value>) -> Result<Produced, Allo
 
 // Those of another expression.
 fn carry(
-    alloc: Global,
-    states: &[State<Produced>],
+    states: &[State<Shared<Produced>>],
     operand: usize,
-) -> Result<Reading<Produced>, AllocError>
+) -> Result<Reading<Shared<Produced>>, AllocError>
     requires { operand < length states.now }
     ensures reads { IfOk result (λ found. found ≡ reading (known states.now) (carry operand)) }
     ensures within { IfOk result (λ found. WaitsWithin (length states.now) found) }
 {
-    match known_at(states, operand) {
+    match shared_at(states, operand) {
         None => Ok(Reading::Waits(operand)),
-        Some(produced) => Ok(Reading::Settles(produced.copy(alloc)?)),
+        Some(answer) => Ok(Reading::Settles(answer.share()?)),
     }
 }
 
 fn carry_all(
     alloc: Global,
-    states: &[State<Produced>],
+    states: &[State<Shared<Produced>>],
     operands: &[usize],
-) -> Result<Reading<Produced>, AllocError>
+) -> Result<Reading<Shared<Produced>>, AllocError>
     requires { All (λ operand. operand < length states.now) operands.now }
     ensures reads { IfOk result (λ found. found ≡ reading (known states.now) (carry_all [] operands.now)) }
     ensures within { IfOk result (λ found. WaitsWithin (length states.now) found) }
@@ -78,14 +85,14 @@ fn carry_all(
         match known_at(states, *operand) {
             None => return Ok(Reading::Waits(*operand)),
             Some(Produced::Tasks(more)) => tasks.extend(more)?,
-            Some(other) => return Ok(Reading::Settles(other.copy(alloc)?)),
+            Some(_) => return carry(states, *operand),
         }
     }
-    Ok(Reading::Settles(Produced::Tasks(tasks)))
+    settle(alloc, Produced::Tasks(tasks))
 }
 
 // Whether the tasks of an operand are known.
-fn has_tasks(states: &[State<Produced>], operand: usize) -> bool
+fn has_tasks(states: &[State<Shared<Produced>>], operand: usize) -> bool
     requires { operand < length states.now }
     ensures { result ≡ has_tasks (known states.now operand) }
 {
@@ -96,7 +103,7 @@ fn has_tasks(states: &[State<Produced>], operand: usize) -> bool
 }
 
 // The first operand from here on whose tasks are not known.
-fn past_tasks(states: &[State<Produced>], operands: &[usize], from: usize) -> usize
+fn past_tasks(states: &[State<Shared<Produced>>], operands: &[usize], from: usize) -> usize
     requires operands { All (λ operand. operand < length states.now) operands.now }
     requires before { AreBefore (λ operand. has_tasks (known states.now operand)) operands.now from }
     ensures before { AreBefore (λ operand. has_tasks (known states.now operand)) operands.now result }
@@ -112,10 +119,10 @@ fn past_tasks(states: &[State<Produced>], operands: &[usize], from: usize) -> us
 // One look at operands, the tasks of whose first ones are known.
 fn look_all(
     alloc: Global,
-    states: &[State<Produced>],
+    states: &[State<Shared<Produced>>],
     operands: &[usize],
     past: usize,
-) -> Result<Look<Produced>, AllocError>
+) -> Result<Look<Shared<Produced>>, AllocError>
     requires operands { All (λ operand. operand < length states.now) operands.now }
     requires past { IsPast (known states.now) past (carry_all [] operands.now) }
     ensures reads { IfOk result (λ found. found.reading ≡ reading (known states.now) (carry_all [] operands.now)) }
@@ -135,20 +142,20 @@ fn look_all(
 
 fn carry_property(
     alloc: Global,
-    states: &[State<Produced>],
+    states: &[State<Shared<Produced>>],
     property: &Property,
-) -> Result<Reading<Produced>, AllocError>
+) -> Result<Reading<Shared<Produced>>, AllocError>
     requires setting { SettingWithin (length states.now) property.now.setting }
     requires convention { PlaceWithin (length states.now) property.now.convention }
     ensures reads { IfOk result (λ found. found ≡ reading (known states.now) (carry_property property.now.setting property.now.convention)) }
     ensures within { IfOk result (λ found. WaitsWithin (length states.now) found) }
 {
     match &property.setting {
-        Some(Setting::Held(value)) => Ok(Reading::Settles(tasks_of(alloc, value)?)),
-        Some(Setting::Followed(source)) => carry(alloc, states, *source),
+        Some(Setting::Held(value)) => settle(alloc, tasks_of(alloc, value)?),
+        Some(Setting::Followed(source)) => carry(states, *source),
         None => match property.convention {
-            Some(source) => carry(alloc, states, source),
-            None => Ok(Reading::Settles(Produced::Tasks(TaskPaths::new(alloc)))),
+            Some(source) => carry(states, source),
+            None => settle(alloc, Produced::Tasks(TaskPaths::new(alloc))),
         },
     }
 }
@@ -156,21 +163,23 @@ fn carry_property(
 // Those of the side that the outcome of the left takes.
 fn carry_side(
     alloc: Global,
-    states: &[State<Produced>],
+    states: &[State<Shared<Produced>>],
     left: usize,
     right: usize,
-    chooser: Option<Outcome>,
-) -> Result<Reading<Produced>, AllocError>
+    chooser: Option<Shared<Outcome>>,
+) -> Result<Reading<Shared<Produced>>, AllocError>
     requires left { left < length states.now }
     requires right { right < length states.now }
     ensures reads { IfOk result (λ found. found ≡ reading (known states.now) (carry_side left right chooser)) }
     ensures within { IfOk result (λ found. WaitsWithin (length states.now) found) }
 {
-    match chooser {
-        Some(Outcome::Given(_)) => carry(alloc, states, left),
-        Some(Outcome::Absent) => carry(alloc, states, right),
-        Some(Outcome::Refused(fault)) => Ok(Reading::Settles(Produced::Refused(fault))),
-        None => Ok(Reading::Settles(Produced::Endless(left))),
+    match &chooser {
+        Some(outcome) => match outcome.get() {
+            Outcome::Given(_) => carry(states, left),
+            Outcome::Absent => carry(states, right),
+            Outcome::Refused(fault) => settle(alloc, Produced::Refused(fault.copy()?)),
+        },
+        None => settle(alloc, Produced::Endless(left)),
     }
 }
 
@@ -193,14 +202,16 @@ fn choose_tasks<T: Transforms>(
     alloc: Global,
     source: usize,
     call: &Call<T::FlatMap>,
-    chooser: Option<Outcome>,
+    chooser: Option<Shared<Outcome>>,
 ) -> Result<Produced, AllocError>
     ensures { IfOk result (λ found. found ≡ choose_tasks T.meanings source call.now chooser) }
 {
-    match chooser {
-        Some(Outcome::Given(value)) => apply::<T>(alloc, call, &value),
-        Some(Outcome::Absent) => Ok(Produced::Tasks(TaskPaths::new(alloc))),
-        Some(Outcome::Refused(fault)) => Ok(Produced::Refused(fault)),
+    match &chooser {
+        Some(outcome) => match outcome.get() {
+            Outcome::Given(value) => apply::<T>(alloc, call, value),
+            Outcome::Absent => Ok(Produced::Tasks(TaskPaths::new(alloc))),
+            Outcome::Refused(fault) => Ok(Produced::Refused(fault.copy()?)),
+        },
         None => Ok(Produced::Endless(source)),
     }
 }
@@ -211,7 +222,7 @@ pub(crate) struct TaskReader<'b, 'a, T: Transforms> {
     pub alloc: Global,
     pub nodes: &'b [Expression<'a, T::Map, T::FlatMap, T::Zip>],
     pub outputs: &'b Outputs,
-    pub values: Vec<State<Outcome>>,
+    pub values: Vec<State<Shared<Outcome>>>,
 }
 
 impl<'b, 'a, T: Transforms> Model for TaskReader<'b, 'a, T> {
@@ -230,7 +241,7 @@ impl<'b, 'a, T: Transforms> Model for TaskReader<'b, 'a, T> {
 
 impl<'b, 'a, T: Transforms> TaskReader<'b, 'a, T> {
     // What an expression comes to that has to choose; nothing where it runs into a circle.
-    fn value_of(&mut self, at: usize) -> Result<Option<Outcome>, AllocError>
+    fn value_of(&mut self, at: usize) -> Result<Option<Shared<Outcome>>, AllocError>
         requires { at < length self.old }
         ensures value { IfOk result (λ found. found ≡ value_of T.meanings self.old at) }
         ensures kept { self.new ≡ self.old }
@@ -242,9 +253,9 @@ impl<'b, 'a, T: Transforms> TaskReader<'b, 'a, T> {
     // One look at an expression whose operands are not many.
     fn read(
         &mut self,
-        states: &[State<Produced>],
+        states: &[State<Shared<Produced>>],
         node: &Expression<'a, T::Map, T::FlatMap, T::Zip>,
-    ) -> Result<Reading<Produced>, AllocError>
+    ) -> Result<Reading<Shared<Produced>>, AllocError>
         requires states { length states.now ≡ length self.old }
         requires within { OperandsWithin (length self.old) node.now }
         ensures reads { IfOk result (λ found. found ≡ reading (known states.now) (carrier T.meanings self.old node.now)) }
@@ -253,16 +264,16 @@ impl<'b, 'a, T: Transforms> TaskReader<'b, 'a, T> {
     {
         let alloc = self.alloc;
         match node {
-            Expression::Constant(value) => Ok(Reading::Settles(constant_tasks(alloc, value)?)),
+            Expression::Constant(value) => settle(alloc, constant_tasks(alloc, value)?),
             Expression::OfProperty(property) => carry_property(alloc, states, property),
             Expression::OfOutput(output) => {
-                Ok(Reading::Settles(one_task(alloc, &output.chosen.task)?))
+                settle(alloc, one_task(alloc, &output.chosen.task)?)
             }
             Expression::Listed(operands) => carry_all(alloc, states, operands.as_slice()),
-            Expression::Mapped(source, _) => carry(alloc, states, *source),
+            Expression::Mapped(source, _) => carry(states, *source),
             Expression::FlatMapped(source, call) => {
                 let chooser = self.value_of(*source)?;
-                Ok(Reading::Settles(choose_tasks::<T>(alloc, *source, call, chooser)?))
+                settle(alloc, choose_tasks::<T>(alloc, *source, call, chooser)?)
             }
             Expression::Zipped(left, right, _) => carry_all(alloc, states, &[*left, *right]),
             Expression::OrElse(left, right) => {
@@ -275,10 +286,10 @@ impl<'b, 'a, T: Transforms> TaskReader<'b, 'a, T> {
     // One look at an expression, from behind its first operands on.
     fn look_at(
         &mut self,
-        states: &[State<Produced>],
+        states: &[State<Shared<Produced>>],
         node: &Expression<'a, T::Map, T::FlatMap, T::Zip>,
         past: usize,
-    ) -> Result<Look<Produced>, AllocError>
+    ) -> Result<Look<Shared<Produced>>, AllocError>
         requires states { length states.now ≡ length self.old }
         requires within { OperandsWithin (length self.old) node.now }
         requires past { IsPast (known states.now) past (carrier T.meanings self.old node.now) }
@@ -299,16 +310,16 @@ impl<'b, 'a, T: Transforms> TaskReader<'b, 'a, T> {
 impl<'b, 'a, T: Transforms> Entries for TaskReader<'b, 'a, T> {
     ghost use Rattle.gb_provider.specs.Produced.{carriers};
 
-    type Answer = Produced;
+    type Answer = Shared<Produced>;
 
     ghost rules = { λ nodes. carriers T.meanings nodes };
 
     fn look(
         &mut self,
-        states: &[State<Produced>],
+        states: &[State<Shared<Produced>>],
         at: usize,
         past: usize,
-    ) -> Result<Look<Produced>, AllocError> {
+    ) -> Result<Look<Shared<Produced>>, AllocError> {
         let nodes = self.nodes;
         self.look_at(states, &nodes[at], past)
     }

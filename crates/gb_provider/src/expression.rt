@@ -111,16 +111,3 @@ pub enum Outcome {
     Absent,
     Refused(ValueFault),
 }
-
-impl Outcome {
-    /// An equal outcome.
-    pub fn copy(&self, alloc: Global) -> Result<Outcome, AllocError>
-        ensures { IfOk result (λ copied. copied ≡ self.now) }
-    {
-        match self {
-            Outcome::Given(value) => Ok(Outcome::Given(value.copy(alloc)?)),
-            Outcome::Absent => Ok(Outcome::Absent),
-            Outcome::Refused(fault) => Ok(Outcome::Refused(fault.copy()?)),
-        }
-    }
-}

@@ -88,16 +88,3 @@ pub enum Produced {
     /// The value of this expression has to choose, and never comes.
     Endless(usize),
 }
-
-impl Produced {
-    /// An equal finding.
-    pub fn copy(&self, alloc: Global) -> Result<Produced, AllocError>
-        ensures { IfOk result (λ copied. copied ≡ self.now) }
-    {
-        match self {
-            Produced::Tasks(tasks) => Ok(Produced::Tasks(tasks.copy(alloc)?)),
-            Produced::Refused(fault) => Ok(Produced::Refused(fault.copy()?)),
-            Produced::Endless(chooser) => Ok(Produced::Endless(*chooser)),
-        }
-    }
-}

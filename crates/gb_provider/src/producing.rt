@@ -17,6 +17,7 @@ use crate::produced::{Produced, TaskPaths};
 use crate::reading::State;
 use crate::recall::{extend, recall};
 use crate::search::evaluate;
+use crate::shared::Shared;
 use crate::transforms::Transforms;
 use std::alloc::{AllocError, Global};
 use std::mem;
@@ -26,8 +27,8 @@ fn evaluate_producers<T: Transforms>(
     alloc: Global,
     nodes: &[Expression<T::Map, T::FlatMap, T::Zip>],
     outputs: &Outputs,
-    values: &mut Vec<State<Outcome>>,
-    states: &mut Vec<State<Produced>>,
+    values: &mut Vec<State<Shared<Outcome>>>,
+    states: &mut Vec<State<Shared<Produced>>>,
     number: usize,
 ) -> Result<Option<Vec<usize>>, AllocError>
     requires index { IsIndexed nodes.now outputs.now }
@@ -57,7 +58,7 @@ fn tell_endless<T: Transforms>(
     alloc: Global,
     nodes: &[Expression<T::Map, T::FlatMap, T::Zip>],
     outputs: &Outputs,
-    values: &mut Vec<State<Outcome>>,
+    values: &mut Vec<State<Shared<Outcome>>>,
     chooser: usize,
 ) -> ProviderFault
     requires index { IsIndexed nodes.now outputs.now }
@@ -79,8 +80,8 @@ pub(crate) fn recall_producers<T: Transforms>(
     alloc: Global,
     nodes: &[Expression<T::Map, T::FlatMap, T::Zip>],
     outputs: &Outputs,
-    values: &mut Vec<State<Outcome>>,
-    states: &mut Vec<State<Produced>>,
+    values: &mut Vec<State<Shared<Outcome>>>,
+    states: &mut Vec<State<Shared<Produced>>>,
     number: usize,
 ) -> Result<TaskPaths, ProviderFault>
     requires index { IsIndexed nodes.now outputs.now }

@@ -17,6 +17,7 @@ use crate::produced::{Produced, TaskPaths};
 use crate::producing::recall_producers;
 use crate::reading::State;
 use crate::recall::recall;
+use crate::shared::Shared;
 use crate::table::TransformTable;
 use crate::transforms::Transforms;
 use gb_core::name::Name;
@@ -33,8 +34,8 @@ pub struct Providers<'a, T: Transforms> {
     alloc: Global,
     table: &'a TransformTable<T::Map, T::FlatMap, T::Zip, T::Test>,
     nodes: Expressions<'a, T::Map, T::FlatMap, T::Zip>,
-    values: Vec<State<Outcome>>,
-    producers: Vec<State<Produced>>,
+    values: Vec<State<Shared<Outcome>>>,
+    producers: Vec<State<Shared<Produced>>>,
 }
 
 impl<'a, T: Transforms> Model for Providers<'a, T> {

@@ -6,13 +6,14 @@ ghost use Rattle.gb_provider.specs.Remembered.{AreWithin, IsRemembered, IsTold};
 ghost use Rattle.gb_provider.specs.Rules.{rules};
 ghost use Rattle.gb_provider.specs.Search.{IsEvaluated, known};
 
-use crate::evaluate::{ValueReader, known_at};
+use crate::evaluate::{ValueReader, known_at, shared_at};
 use crate::expression::{Expression, Outcome};
 use crate::expressions::Outputs;
 use crate::fault::ProviderFault;
 use crate::names::circle_names;
 use crate::reading::State;
 use crate::search::evaluate;
+use crate::shared::Shared;
 use crate::transforms::Transforms;
 use gb_core::value::Value;
 use std::alloc::{AllocError, Global};
@@ -35,7 +36,7 @@ pub(crate) fn extend<A: Drop>(states: &mut Vec<State<A>>, count: usize) -> Resul
 // Tells the answer that is known.
 fn tell(
     alloc: Global,
-    states: &[State<Outcome>],
+    states: &[State<Shared<Outcome>>],
     number: usize,
 ) -> Result<Option<Value>, ProviderFault>
     requires within { number < length states.now }
@@ -55,7 +56,7 @@ fn evaluate_value<T: Transforms>(
     alloc: Global,
     nodes: &[Expression<T::Map, T::FlatMap, T::Zip>],
     outputs: &Outputs,
-    states: &mut Vec<State<Outcome>>,
+    states: &mut Vec<State<Shared<Outcome>>>,
     number: usize,
 ) -> Result<Option<Vec<usize>>, AllocError>
     requires index { IsIndexed nodes.now outputs.now }
@@ -78,7 +79,7 @@ pub(crate) fn recall<T: Transforms>(
     alloc: Global,
     nodes: &[Expression<T::Map, T::FlatMap, T::Zip>],
     outputs: &Outputs,
-    states: &mut Vec<State<Outcome>>,
+    states: &mut Vec<State<Shared<Outcome>>>,
     number: usize,
 ) -> Result<Option<Value>, ProviderFault>
     requires index { IsIndexed nodes.now outputs.now }
@@ -106,9 +107,9 @@ pub(crate) fn recall_outcome<T: Transforms>(
     alloc: Global,
     nodes: &[Expression<T::Map, T::FlatMap, T::Zip>],
     outputs: &Outputs,
-    states: &mut Vec<State<Outcome>>,
+    states: &mut Vec<State<Shared<Outcome>>>,
     number: usize,
-) -> Result<Option<Outcome>, AllocError>
+) -> Result<Option<Shared<Outcome>>, AllocError>
     requires index { IsIndexed nodes.now outputs.now }
     requires number { number < length nodes.now }
     requires within { AreWithin nodes.now }
@@ -117,8 +118,8 @@ pub(crate) fn recall_outcome<T: Transforms>(
     ensures value { IfOk result (λ found. found ≡ value_of T.meanings nodes.now number) }
 {
     match evaluate_value::<T>(alloc, nodes, outputs, states, number) {
-        Ok(None) => match known_at(states, number) {
-            Some(outcome) => Ok(Some(outcome.copy(alloc)?)),
+        Ok(None) => match shared_at(states, number) {
+            Some(answer) => Ok(Some(answer.share()?)),
             None => unreachable!(),
         },
         Ok(Some(_)) => {
