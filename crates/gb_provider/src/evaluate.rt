@@ -31,10 +31,7 @@ pub(crate) fn known_at<A>(states: &[State<A>], at: usize) -> Option<&A>
 }
 
 // A value, or nothing.
-fn read_constant(
-    alloc: Global,
-    value: &Option<Value>,
-) -> Result<Reading<Outcome>, AllocError>
+fn read_constant(alloc: Global, value: &Option<Value>) -> Result<Reading<Outcome>, AllocError>
     ensures { IfOk result (λ found. found ≡ Reading.Settles (constant value.now)) }
 {
     match value {
