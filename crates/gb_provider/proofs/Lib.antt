@@ -12,3 +12,4 @@ pub mod PastLemmas
 pub mod ListLemmas
 pub mod IndexLemmas
 pub mod GrowLemmas
+pub mod ForgetLemmas

@@ -38,10 +38,16 @@ pub record WaitsFor {A : Type 0} (rules : List (Rule A)) (f : ℕ → Option A) 
 abbrev pub IsLook : {A : Type 0} → List (Rule A) → (ℕ → Option A) → ℕ → Reading A → Type 0
 IsLook {A} rules f entry found = (rule : Rule A) × (slice_get rules entry ≡ Some rule) × (found ≡ reading f rule)
 
--- what is known is right, and the open entries are a path on which each waits for the next
+-- each answer that is known follows from others that are known
+abbrev pub AreSettled : {A : Type 0} → List (Rule A) → List (State A) → Type 0
+AreSettled {A} rules states =
+    (e : ℕ) (a : A) → known states e ≡ Some a → (rule : Rule A) × (slice_get rules e ≡ Some rule) × (reading (known states) rule ≡ Settles a)
+
+-- what is known is right and rests on what is known, and the open entries are a path on which each waits for the next
 pub record IsSearch {A : Type 0} (rules : List (Rule A)) (entry : ℕ) (states : List (State A)) (path : List ℕ) : Type 0 where
   pub same : length states ≡ length rules
   pub right : (e : ℕ) (a : A) → known states e ≡ Some a → answer rules e ≡ Some a
+  pub settled : AreSettled rules states
   pub first : 0 < length path → slice_index path 0 ≡ entry
   pub done : length path ≡ 0 → (a : A) × (known states entry ≡ Some a)
   pub opened : (k : ℕ) → k < length path → slice_get states (slice_index path k) ≡ Some Open
@@ -49,9 +55,10 @@ pub record IsSearch {A : Type 0} (rules : List (Rule A)) (entry : ℕ) (states :
   pub different : (i j : ℕ) → i < j → j < length path → slice_index path i ≢ slice_index path j
   pub listed : (e : ℕ) → slice_get states e ≡ Some Open → (k : ℕ) × (k < length path) × (slice_index path k ≡ e)
 
--- what is known is right, and no entry is being evaluated
+-- what is known is right and rests on what is known, and no entry is being evaluated
 pub record IsSound {A : Type 0} (rules : List (Rule A)) (states : List (State A)) : Type 0 where
   pub right : (e : ℕ) (a : A) → known states e ≡ Some a → answer rules e ≡ Some a
+  pub settled : AreSettled rules states
   pub closed : (e : ℕ) → slice_get states e ≢ Some Open
 
 -- what an evaluation of an entry comes to: its answer is known, or it runs into a circle

@@ -16,7 +16,7 @@ use crate::fault::{Chosen, Final, ProviderFault, StepFault, TransformFault, Valu
 use crate::produced::{Produced, TaskPaths};
 use crate::producing::recall_producers;
 use crate::reading::State;
-use crate::recall::recall;
+use crate::recall::{forget, recall};
 use crate::shared::Shared;
 use crate::table::TransformTable;
 use crate::transforms::Transforms;
@@ -28,7 +28,7 @@ use std::alloc::{AllocError, Global};
 use std::marker::Model;
 
 /// A table of providers, over a table of stored functions. What was read once is remembered until
-/// a property or an output changes.
+/// a property or an output changes that was read as well.
 #[derive(Drop)]
 pub struct Providers<'a, T: Transforms> {
     alloc: Global,
@@ -180,7 +180,7 @@ impl<'a, T: Transforms> Providers<'a, T> {
         match self.nodes.place(&chosen) {
             Some(number) => {
                 self.nodes.declare(number, chosen, source.number);
-                self.values.clear();
+                forget(&mut self.values, number);
                 self.producers.clear();
                 Ok(Node { number })
             }
@@ -273,14 +273,14 @@ impl<'a, T: Transforms> Providers<'a, T> {
         Ok(node)
     }
 
-    // Changes a property. Nothing is remembered after it.
+    // Changes a property. Values stay remembered if it was not read since they were last forgotten.
     fn change(&mut self, node: Node, change: Change) -> Result<(), Final>
         requires node { node.number < length self.old.nodes }
         requires change { ChangeWithin (length self.old.nodes) change }
         ensures { IsChanged change self.old node.number self.new result }
     {
         self.nodes.change(node.number, change)?;
-        self.values.clear();
+        forget(&mut self.values, node.number);
         self.producers.clear();
         Ok(())
     }

@@ -1,8 +1,9 @@
 //! Answers that are remembered.
 ghost use Rattle.std.specs.Prelude.{◌≡◌, ◌≢◌, ◌<◌, ◌≤◌, ℕ, length, IfOk, OnOk, None, Some, slice_get};
+ghost use Rattle.std.specs.Bool.{OnFalse};
 ghost use Rattle.gb_provider.specs.Answers.{IsGot, value_of};
 ghost use Rattle.gb_provider.specs.Indexed.{IsIndexed};
-ghost use Rattle.gb_provider.specs.Remembered.{AreWithin, IsRemembered, IsTold};
+ghost use Rattle.gb_provider.specs.Remembered.{AreWithin, IsForgotten, IsRemembered, IsTold};
 ghost use Rattle.gb_provider.specs.Rules.{rules};
 ghost use Rattle.gb_provider.specs.Search.{IsEvaluated, known};
 
@@ -31,6 +32,25 @@ pub(crate) fn extend<A: Drop>(states: &mut Vec<State<A>>, count: usize) -> Resul
         states.push(State::New)?;
     }
     Ok(())
+}
+
+/// Forgets all answers, unless that of this expression is not known: no other rests on it then.
+pub(crate) fn forget<A: Drop>(states: &mut Vec<State<A>>, number: usize)
+    ensures { IsForgotten number states.old.items states.new.items }
+{
+    if is_known_at(states, number) {
+        states.clear();
+    }
+}
+
+// Whether an answer is known.
+fn is_known_at<A>(states: &[State<A>], number: usize) -> bool
+    ensures { OnFalse result (known states.now number ≡ None) }
+{
+    match states.get(number) {
+        Some(State::Known(_)) => true,
+        _ => false,
+    }
 }
 
 // Tells the answer that is known.

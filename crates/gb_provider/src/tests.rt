@@ -416,8 +416,7 @@ fn is_nothing<T: Transforms>(
     let either = asking::or_else(providers, nothing, text)?;
     let none = asking::producers(providers, nothing).is_ok_and(|tasks| tasks.is_empty());
     Ok(
-        none
-            && is_absent(&asking::get(providers, nothing))
+        none && is_absent(&asking::get(providers, nothing))
             && is_text(&asking::get(providers, either), "a"),
     )
 }
