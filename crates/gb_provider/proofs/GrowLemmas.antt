@@ -73,14 +73,17 @@ module _ {A : Type 0} (old new : List (Rule A)) (longer : length old ≤ length 
 
   -- and what was right of the first is right of the second
   pub sound_grown : (states : List (State A)) → length states ≤ length old → IsSound old states → IsRemembered new states
-  sound_grown states less sound = (omega arith, record {
-    right = λ e a is. same_answers e (answered_within old (length old) e a (sound.right e a is)) ∙ sound.right e a is;
-    settled = λ e a is.
-        let was = sound.settled e a is in
-        let now = alike e was.0 was.1 in
-        (now.0, now.1, now.2 (known states) ∙ was.2);
-    closed = sound.closed;
-  })
+  sound_grown states less sound = (
+    omega arith,
+    record {
+      right = λ e a is. same_answers e (answered_within old (length old) e a (sound.right e a is)) ∙ sound.right e a is;
+      settled = λ e a is.
+          let was = sound.settled e a is in
+          let now = alike e was.0 was.1 in
+          (now.0, now.1, now.2 (known states) ∙ was.2);
+      closed = sound.closed;
+    },
+  )
 
 slice_get_front : {X : Type 0} (xs : List X) (y x : X) (i : ℕ) → slice_get xs i ≡ Some x → slice_get (xs ++ y ∷ []) i ≡ Some x
 slice_get_front [] y x i is = cc

@@ -266,9 +266,7 @@ impl<'b, 'a, T: Transforms> TaskReader<'b, 'a, T> {
         match node {
             Expression::Constant(value) => settle(alloc, constant_tasks(alloc, value)?),
             Expression::OfProperty(property) => carry_property(alloc, states, property),
-            Expression::OfOutput(output) => {
-                settle(alloc, one_task(alloc, &output.chosen.task)?)
-            }
+            Expression::OfOutput(output) => { settle(alloc, one_task(alloc, &output.chosen.task)?) }
             Expression::Listed(operands) => carry_all(alloc, states, operands.as_slice()),
             Expression::Mapped(source, _) => carry(states, *source),
             Expression::FlatMapped(source, call) => {

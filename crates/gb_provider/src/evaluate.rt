@@ -50,14 +50,10 @@ fn settle(alloc: Global, outcome: Outcome) -> Result<Reading<Shared<Outcome>>, A
 }
 
 // A value, or nothing.
-<<<<<<< HEAD
 fn read_constant(
     alloc: Global,
     value: &Option<Value>,
 ) -> Result<Reading<Shared<Outcome>>, AllocError>
-=======
-fn read_constant(alloc: Global, value: &Option<Value>) -> Result<Reading<Outcome>, AllocError>
->>>>>>> 1a421ef849118759a44644a6b9c36f495511866d
     ensures { IfOk result (λ found. found ≡ Reading.Settles (constant value.now)) }
 {
     match value {
