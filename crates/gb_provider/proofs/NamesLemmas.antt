@@ -9,7 +9,7 @@ use Rattle.std.specs.Cmp.Lexicographic.{nat_list_cmp_total, lists_total}
 use Rattle.std.specs.FinMap.{slice_cmp-IsAntisymmetric, nat_cmp-IsAntisymmetric}
 use Rattle.std.specs.declared.cmp.Ordering.{Ordering}
 use Rattle.std.specs.declared.cmp.Ordering.TheVariants.{Less, Equal, Greater}
-use Rattle.gb_provider.specs.Names.{names_order, round_from}
+use Rattle.gb_provider.specs.Names.{IsLeastRound, names_order, round_from}
 
 names_total : IsTotalOrder names_order
 names_total = lists_total nat_list_cmp_total
@@ -63,3 +63,13 @@ round_twice names place within =
     let count : length names ≡ length (drop place names) + place = omega (arith, within, length-drop place names) in
     ap (take (length names)) (drop-append-le place names names within)
     ∙ (ap (λ n. take n (drop place names ++ names)) count ∙ take-append-add (drop place names) names place)
+
+-- of names that stand twice the least round is told
+pub told_round : (names : List (List ℕ)) (place : ℕ) (round : List (List ℕ)) → place ≤ length names → round ≡ take (length names) (drop place (names ++ names))
+    → ((k : ℕ) → k < length names → names_order (take (length names) (drop place (names ++ names))) (take (length names) (drop k (names ++ names))) ≢ Greater) → IsLeastRound names round
+told_round names place round within is all = (
+  (place, is ∙ round_twice names place within),
+  λ k below.
+      subst (λ other. names_order round other ≢ Greater) (round_twice names k (omega arith))
+      (subst (λ least. names_order least (take (length names) (drop k (names ++ names))) ≢ Greater) (sym is) (all k below)),
+)

@@ -2,6 +2,7 @@
 use Rattle.std.specs.Prelude.{◌≡◌, ◌<◌, ℕ, List, Bool, true, false, not, Option, Some, None, Result, Ok, Err, slice_get, slice_set}
 use Rattle.gb_provider.specs.declared.fault.Final.{Final}
 use Rattle.gb_provider.specs.declared.expression.Setting.TheVariants.{Held, Followed}
+use Rattle.gb_provider.specs.declared.expression.Output.{Output}
 use Rattle.gb_provider.specs.declared.expression.Property.{Property}
 use Rattle.gb_provider.specs.declared.expression.Expression.{Expression}
 use Rattle.gb_provider.specs.declared.expression.Expression.TheVariants.{Constant, OfProperty, OfOutput, Listed, Mapped, FlatMapped, Zipped, OrElse}
@@ -58,6 +59,16 @@ abbrev pub AreChanged : {M F Z : Type 0} → Change → List (Expression M F Z) 
 AreChanged change old at new (Ok done) =
     (property : Property) × (open_property change (slice_get old at) ≡ Some property) × (new ≡ slice_set old at (OfProperty (changed change property)))
 AreChanged change old at new (Err final) = (open_property change (slice_get old at) ≡ None) × (new ≡ old)
+
+-- the same of one expression
+abbrev pub IsNodeChanged : {M F Z : Type 0} → Change → Expression M F Z → Expression M F Z → Result (Unit {0}) Final → Type 0
+IsNodeChanged change old new (Ok done) =
+    (property : Property) × (open_property change (Some old) ≡ Some property) × (new ≡ OfProperty (changed change property))
+IsNodeChanged change old new (Err final) = (open_property change (Some old) ≡ None) × (new ≡ old)
+
+-- an output is declared as this expression
+abbrev pub IsNodeDeclared : {M F Z : Type 0} → ℕ → Expression M F Z → Expression M F Z → Type 0
+IsNodeDeclared source old new = (output : Output) → old ≡ OfOutput output → new ≡ OfOutput (record output { declared = Some source })
 
 -- the same of all that providers hold: the table stays
 abbrev pub IsChanged : {M F Z S : Type 0} → Change → answers.Held M F Z S → ℕ → answers.Held M F Z S → Result (Unit {0}) Final → Type 0

@@ -4,6 +4,8 @@ use Rattle.std.specs.List.{flat_map}
 use Rattle.std.specs.Cmp.Lexicographic.{slice_cmp}
 use Rattle.std.specs.declared.cmp.Ordering.{Ordering}
 use Rattle.std.specs.declared.cmp.Ordering.TheVariants.{Greater}
+use Rattle.gb_provider.specs.declared.fault.ProviderFault.{ProviderFault}
+use Rattle.gb_provider.specs.declared.fault.ProviderFault.TheVariants as faults
 use Rattle.gb_provider.specs.declared.expression.Expression.{Expression}
 use Rattle.gb_provider.specs.declared.expression.Expression.TheVariants.{Constant, OfProperty, OfOutput, Listed, Mapped, FlatMapped, Zipped, OrElse}
 use Rattle.gb_core.specs.Lists.{byte_order}
@@ -41,3 +43,11 @@ round_from names place = drop place names ++ take place names
 abbrev pub IsLeastRound : List (List ℕ) → List (List ℕ) → Type 0
 IsLeastRound names round =
     ((place : ℕ) × (round ≡ round_from names place)) × ((k : ℕ) → k < length names → names_order round (round_from names k) ≢ Greater)
+
+-- a circle is told by its names, unless memory runs out
+abbrev pub IsCircleTold : {M F Z : Type 0} → List (Expression M F Z) → List ℕ → ProviderFault → Type 0
+IsCircleTold nodes circle (faults.Circular names) = IsLeastRound (names_on nodes circle) names
+IsCircleTold nodes circle (faults.Step fault) = ⊥
+IsCircleTold nodes circle faults.NoValue = ⊥
+IsCircleTold nodes circle (faults.Value fault) = ⊥
+IsCircleTold nodes circle faults.OutOfMemory = Unit {0}

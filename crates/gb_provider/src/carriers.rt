@@ -47,13 +47,27 @@ fn tasks_of(alloc: Global, value: &Value) -> Result<Produced, AllocError>
     }
 }
 
-fn constant_tasks(alloc: Global, value: &Option<Value>) -> Result<Produced, AllocError>
-    ensures { IfOk result (λ found. found ≡ Produced.Tasks (constant_tasks value.now)) }
+// Those of a constant.
+fn carry_constant(
+    alloc: Global,
+    value: &Option<Value>,
+) -> Result<Reading<Shared<Produced>>, AllocError>
+    ensures { IfOk result (λ found. found ≡ Reading.Settles (Produced.Tasks (constant_tasks value.now))) }
 {
     match value {
-        Some(value) => tasks_of(alloc, value),
-        None => Ok(Produced::Tasks(TaskPaths::new(alloc))),
+        Some(value) => settle(alloc, tasks_of(alloc, value)?),
+        None => settle(alloc, Produced::Tasks(TaskPaths::new(alloc))),
     }
+}
+
+// The task of an output.
+fn carry_output(
+    alloc: Global,
+    task: &TaskPath,
+) -> Result<Reading<Shared<Produced>>, AllocError>
+    ensures { IfOk result (λ found. found ≡ Reading.Settles (Produced.Tasks (task.now ∷ []))) }
+{
+    settle(alloc, one_task(alloc, task)?)
 }
 
 // Those of another expression.
@@ -250,6 +264,40 @@ impl<'b, 'a, T: Transforms> TaskReader<'b, 'a, T> {
         recall_outcome::<T>(self.alloc, nodes, self.outputs, &mut self.values, at)
     }
 
+    // The tasks of what the value of a source chooses.
+    fn read_choice(
+        &mut self,
+        source: usize,
+        call: &Call<'a, T::FlatMap>,
+    ) -> Result<Reading<Shared<Produced>>, AllocError>
+        requires { source < length self.old }
+        ensures reads { IfOk result (λ found. found ≡ Reading.Settles (choose_tasks T.meanings source call.now (value_of T.meanings self.old source))) }
+        ensures kept { self.new ≡ self.old }
+    {
+        let alloc = self.alloc;
+        let chooser = self.value_of(source)?;
+        settle(alloc, choose_tasks::<T>(alloc, source, call, chooser)?)
+    }
+
+    // Those of the side that the value of the left takes.
+    fn read_side(
+        &mut self,
+        states: &[State<Shared<Produced>>],
+        left: usize,
+        right: usize,
+    ) -> Result<Reading<Shared<Produced>>, AllocError>
+        requires states { length states.now ≡ length self.old }
+        requires left { left < length self.old }
+        requires right { right < length self.old }
+        ensures reads { IfOk result (λ found. found ≡ reading (known states.now) (carry_side left right (value_of T.meanings self.old left))) }
+        ensures within { IfOk result (λ found. WaitsWithin (length states.now) found) }
+        ensures kept { self.new ≡ self.old }
+    {
+        let alloc = self.alloc;
+        let chooser = self.value_of(left)?;
+        carry_side(alloc, states, left, right, chooser)
+    }
+
     // One look at an expression whose operands are not many.
     fn read(
         &mut self,
@@ -264,20 +312,14 @@ impl<'b, 'a, T: Transforms> TaskReader<'b, 'a, T> {
     {
         let alloc = self.alloc;
         match node {
-            Expression::Constant(value) => settle(alloc, constant_tasks(alloc, value)?),
+            Expression::Constant(value) => carry_constant(alloc, value),
             Expression::OfProperty(property) => carry_property(alloc, states, property),
-            Expression::OfOutput(output) => { settle(alloc, one_task(alloc, &output.chosen.task)?) }
+            Expression::OfOutput(output) => carry_output(alloc, &output.chosen.task),
             Expression::Listed(operands) => carry_all(alloc, states, operands.as_slice()),
             Expression::Mapped(source, _) => carry(states, *source),
-            Expression::FlatMapped(source, call) => {
-                let chooser = self.value_of(*source)?;
-                settle(alloc, choose_tasks::<T>(alloc, *source, call, chooser)?)
-            }
+            Expression::FlatMapped(source, call) => self.read_choice(*source, call),
             Expression::Zipped(left, right, _) => carry_all(alloc, states, &[*left, *right]),
-            Expression::OrElse(left, right) => {
-                let chooser = self.value_of(*left)?;
-                carry_side(alloc, states, *left, *right, chooser)
-            }
+            Expression::OrElse(left, right) => self.read_side(states, *left, *right),
         }
     }
 

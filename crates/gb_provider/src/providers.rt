@@ -179,7 +179,7 @@ impl<'a, T: Transforms> Providers<'a, T> {
         let chosen = Chosen { task, output: name };
         match self.nodes.place(&chosen) {
             Some(number) => {
-                self.nodes.declare(number, chosen, source.number);
+                self.nodes.declare(number, &chosen, source.number);
                 forget(&mut self.values, number);
                 self.producers.clear();
                 Ok(Node { number })
@@ -200,15 +200,8 @@ impl<'a, T: Transforms> Providers<'a, T> {
         if T::map_arity(function) as usize != arguments.as_slice().len() {
             return Err(StepFault::BadArguments);
         }
-        let name = Text::from_str(self.alloc, name)?;
-        let node = self.add(Expression::Mapped(
-            source.number,
-            Call {
-                name,
-                function,
-                arguments,
-            },
-        ))?;
+        let call = Call::of(self.alloc, name, function, arguments)?;
+        let node = self.add(Expression::Mapped(source.number, call))?;
         Ok(node)
     }
 
@@ -229,15 +222,8 @@ impl<'a, T: Transforms> Providers<'a, T> {
         if T::flat_map_arity(function) as usize != arguments.as_slice().len() {
             return Err(StepFault::BadArguments);
         }
-        let name = Text::from_str(self.alloc, name)?;
-        let node = self.add(Expression::FlatMapped(
-            source.number,
-            Call {
-                name,
-                function,
-                arguments,
-            },
-        ))?;
+        let call = Call::of(self.alloc, name, function, arguments)?;
+        let node = self.add(Expression::FlatMapped(source.number, call))?;
         Ok(node)
     }
 
@@ -260,16 +246,8 @@ impl<'a, T: Transforms> Providers<'a, T> {
         if T::zip_arity(function) as usize != arguments.as_slice().len() {
             return Err(StepFault::BadArguments);
         }
-        let name = Text::from_str(self.alloc, name)?;
-        let node = self.add(Expression::Zipped(
-            left.number,
-            right.number,
-            Call {
-                name,
-                function,
-                arguments,
-            },
-        ))?;
+        let call = Call::of(self.alloc, name, function, arguments)?;
+        let node = self.add(Expression::Zipped(left.number, right.number, call))?;
         Ok(node)
     }
 

@@ -3,6 +3,7 @@ ghost use Rattle.std.specs.Prelude.{◌≡◌, ◌≢◌, ◌<◌, ◌≤◌, �
 ghost use Rattle.std.specs.Bool.{OnFalse};
 ghost use Rattle.gb_provider.specs.Answers.{IsGot, value_of};
 ghost use Rattle.gb_provider.specs.Indexed.{IsIndexed};
+ghost use Rattle.gb_provider.specs.Names.{IsCircleTold};
 ghost use Rattle.gb_provider.specs.Remembered.{AreWithin, IsForgotten, IsRemembered, IsTold};
 ghost use Rattle.gb_provider.specs.Rules.{rules};
 ghost use Rattle.gb_provider.specs.Search.{IsEvaluated, known};
@@ -94,6 +95,20 @@ fn evaluate_value<T: Transforms>(
     evaluate(alloc, &mut reader, states, number)
 }
 
+/// Tells a circle by its names.
+pub(crate) fn tell_circle<M, F, Z>(
+    alloc: Global,
+    nodes: &[Expression<M, F, Z>],
+    circle: &[usize],
+) -> ProviderFault
+    ensures { IsCircleTold nodes.now circle.now result }
+{
+    match circle_names(alloc, nodes, circle) {
+        Ok(names) => ProviderFault::Circular(names),
+        Err(AllocError) => ProviderFault::OutOfMemory,
+    }
+}
+
 /// The value of an expression, which is remembered.
 pub(crate) fn recall<T: Transforms>(
     alloc: Global,
@@ -113,7 +128,7 @@ pub(crate) fn recall<T: Transforms>(
         Ok(None) => tell(alloc, states, number),
         Ok(Some(circle)) => {
             states.clear();
-            Err(ProviderFault::Circular(circle_names(alloc, nodes, &circle)?))
+            Err(tell_circle(alloc, nodes, &circle))
         }
         Err(AllocError) => {
             states.clear();
