@@ -61,10 +61,7 @@ fn carry_constant(
 }
 
 // The task of an output.
-fn carry_output(
-    alloc: Global,
-    task: &TaskPath,
-) -> Result<Reading<Shared<Produced>>, AllocError>
+fn carry_output(alloc: Global, task: &TaskPath) -> Result<Reading<Shared<Produced>>, AllocError>
     ensures { IfOk result (λ found. found ≡ Reading.Settles (Produced.Tasks (task.now ∷ []))) }
 {
     settle(alloc, one_task(alloc, task)?)
