@@ -32,7 +32,7 @@ pub(crate) fn place_of<M, F, Z>(
 // Tells where an output stands.
 fn index_output(outputs: &mut Outputs, chosen: &Chosen, number: usize) -> Result<(), AllocError>
     ensures ok { OnOk result ((key : Chosen) → get chosen_order outputs.new key ≡ cond (is_at (chosen_order chosen.now) key) (Some number) (get chosen_order outputs.old key)) }
-    ensures err { OnErr result (outputs.new ≡ outputs.old) }
+    ensures err { OnErr result ((key : Chosen) → get chosen_order outputs.new key ≡ get chosen_order outputs.old key) }
 {
     let key = chosen.copy()?;
     outputs.insert(key, number)?;
