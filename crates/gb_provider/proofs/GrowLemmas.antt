@@ -1,5 +1,5 @@
 -- One more expression that is no output leaves all answers as they were.
-use Rattle.std.proofs.Common.{◌≡◌, ℕ, zero, suc, ◌+◌, ◌<◌, ◌≤◌, List, [], ◌∷◌, ◌++◌, length, refl, sym, ap, subst, ◌∙◌, arith, inl, inr, length-append, false}
+use Rattle.std.proofs.Common.{◌≡◌, ℕ, zero, suc, ◌+◌, ◌<◌, ◌≤◌, List, [], ◌∷◌, ◌++◌, length, refl, sym, ap, subst, ◌∙◌, arith, inl, inr, length-append, Bool, true, false}
 use Rattle.std.proofs.lemmas.List.{length-map}
 use Rattle.std.specs.Prelude.{All, Option, Some, None, Result, Ok, Err, slice_get, option_map, map}
 use Rattle.std.proofs.lemmas.Option.{slice_get-map, slice_get_cases, slice_get_within, get_or_from_slice_get}
@@ -20,11 +20,11 @@ use Rattle.gb_provider.specs.Answers.{value_of}
 use Rattle.gb_provider.specs.Called.{Called}
 use Rattle.gb_provider.specs.Indexed.{IsNoOutput}
 use Rattle.gb_provider.specs.Meanings.{Meanings, meaning_of}
-use Rattle.gb_provider.specs.Produced.{carrier, carriers, carry_all, carry_property, carry_side, choose_tasks, on_tasks, with_tasks}
+use Rattle.gb_provider.specs.Produced.{carrier, carriers, carry_all, carry_property, carry_side, choose_tasks, on_tasks, produced_by, with_tasks}
 use Rattle.gb_provider.specs.Remembered.{AreWithin, IsRemembered}
 use Rattle.gb_provider.specs.Rounds.{Rule, Answers, Reads, after_operand, and_then, answer, answer_after, reading, settled}
 use Rattle.gb_provider.specs.Rules.{OperandsWithin, PlaceWithin, SettingWithin, chosen_rule, is_output, list_rule, on_text, on_value, or_else, output_place, output_rule, property_rule, rule, rules}
-use Rattle.gb_provider.specs.Search.{IsSound}
+use Rattle.gb_provider.specs.Search.{IsSound, known}
 use Rattle.gb_provider.proofs.IndexLemmas.{grown, grown_kept, position_grown, place_within}
 use Rattle.gb_provider.proofs.RoundsLemmas.{answer_found, answered_within, later_extends}
 
@@ -73,16 +73,54 @@ module _ {A : Type 0} (old new : List (Rule A)) (longer : length old ≤ length 
 
   -- and what was right of the first is right of the second
   pub sound_grown : (states : List (State A)) → length states ≤ length old → IsSound old states → IsRemembered new states
-  sound_grown states less sound = (omega arith, record { right = λ e a is. same_answers e (answered_within old (length old) e a (sound.right e a is)) ∙ sound.right e a is; closed = sound.closed })
+  sound_grown states less sound = (
+    omega arith,
+    record {
+      right = λ e a is. same_answers e (answered_within old (length old) e a (sound.right e a is)) ∙ sound.right e a is;
+      settled = λ e a is.
+          let was = sound.settled e a is in
+          let now = alike e was.0 was.1 in
+          (now.0, now.1, now.2 (known states) ∙ was.2);
+      closed = sound.closed;
+    },
+  )
 
 slice_get_front : {X : Type 0} (xs : List X) (y x : X) (i : ℕ) → slice_get xs i ≡ Some x → slice_get (xs ++ y ∷ []) i ≡ Some x
 slice_get_front [] y x i is = cc
 slice_get_front (z ∷ xs) y x zero is = is
 slice_get_front (z ∷ xs) y x (suc i) is = slice_get_front xs y x i is
 
-mapped_at : {X Y : Type 0} (h : X → Y) (xs : List X) (i : ℕ) (y : Y) (o : Option X) → slice_get xs i ≡ o → option_map h o ≡ Some y → (x : X) × (slice_get xs i ≡ Some x) × (h x ≡ y)
+-- what stands behind an entry of a mapped list
+pub mapped_at : {X Y : Type 0} (h : X → Y) (xs : List X) (i : ℕ) (y : Y) (o : Option X) → slice_get xs i ≡ o → option_map h o ≡ Some y → (x : X) × (slice_get xs i ≡ Some x) × (h x ≡ y)
 mapped_at h xs i y None is found = cc
 mapped_at h xs i y (Some x) is found = (x, is, let same : h x ≡ y = cc in same)
+
+-- two tables in which outputs stand at the same places
+module _ {M F Z S : Type 0} (meanings : Meanings M F Z S) (nodes new : List (Expression M F Z)) (same_place : (chosen : Chosen) → output_place new chosen ≡ output_place nodes chosen) where
+  same_choice : (function : List ℕ) (reply : Result (Option Chosen) Refusal) → chosen_rule new function reply ≡ chosen_rule nodes function reply
+  same_choice function (Ok (Some chosen)) = ap (output_rule chosen) (same_place chosen)
+  same_choice function (Ok None) = refl
+  same_choice function (Err refusal) = refl
+
+  module _ (f : ℕ → Option Outcome) where
+    flat_at : (source : ℕ) (call : Called F) (o : Option Outcome)
+        → after_operand source (λ a. reading f (on_value (λ value. chosen_rule new call.name (meaning_of meanings.flat_map call.function value call.arguments)) a)) o
+        ≡ after_operand source (λ a. reading f (on_value (λ value. chosen_rule nodes call.name (meaning_of meanings.flat_map call.function value call.arguments)) a)) o
+    flat_at source call None = refl
+    flat_at source call (Some (Given value)) = ap (reading f) (same_choice call.name (meaning_of meanings.flat_map call.function value call.arguments))
+    flat_at source call (Some Absent) = refl
+    flat_at source call (Some (Refused fault)) = refl
+
+    -- read each expression alike
+    pub same_rule : (node : Expression M F Z) → reading f (rule meanings new node) ≡ reading f (rule meanings nodes node)
+    same_rule (Constant value) = refl
+    same_rule (OfProperty property) = refl
+    same_rule (OfOutput output) = refl
+    same_rule (Listed operands) = refl
+    same_rule (Mapped source call) = refl
+    same_rule (FlatMapped source call) = flat_at source call (f source)
+    same_rule (Zipped left right call) = refl
+    same_rule (OrElse left right) = refl
 
 module _ {M F Z S : Type 0} (meanings : Meanings M F Z S) (nodes : List (Expression M F Z)) where
   property_within : (setting : Option Setting) (convention : Option ℕ) → SettingWithin (length nodes) setting → PlaceWithin (length nodes) convention → ReadsWithin (length nodes) (property_rule setting convention)
@@ -100,19 +138,19 @@ module _ {M F Z S : Type 0} (meanings : Meanings M F Z S) (nodes : List (Express
   value_within go_on all Absent = tt
   value_within go_on all (Refused fault) = tt
 
-  text_within : (go_on : List ℕ → Rule Outcome) → ((text : List ℕ) → ReadsWithin (length nodes) (go_on text)) → (value : Value) → ReadsWithin (length nodes) (on_text go_on value)
-  text_within go_on all (values.Text text) = all text
-  text_within go_on all (values.Flag flag) = tt
-  text_within go_on all (values.List texts) = tt
-  text_within go_on all (values.Place place) = tt
-  text_within go_on all (values.Task task) = tt
+  text_within : (go_on : List ℕ → Rule Outcome) (other : Rule Outcome) → ((text : List ℕ) → ReadsWithin (length nodes) (go_on text)) → ReadsWithin (length nodes) other → (value : Value) → ReadsWithin (length nodes) (on_text go_on other value)
+  text_within go_on other all also (values.Text text) = all text
+  text_within go_on other all also (values.Flag flag) = also
+  text_within go_on other all also (values.List texts) = also
+  text_within go_on other all also (values.Place place) = also
+  text_within go_on other all also (values.Task task) = also
 
-  list_within : (operands : List ℕ) (texts : List (List ℕ)) → All (λ operand. operand < length nodes) operands → ReadsWithin (length nodes) (list_rule texts operands)
-  list_within [] texts all = tt
-  list_within (operand ∷ operands) texts all = (
+  list_within : (operands : List ℕ) (is_wrong : Bool) (texts : List (List ℕ)) → All (λ operand. operand < length nodes) operands → ReadsWithin (length nodes) (list_rule is_wrong texts operands)
+  list_within [] is_wrong texts all = tt
+  list_within (operand ∷ operands) is_wrong texts all = (
     all 0 operand (omega arith),
-    value_within (on_text (λ text. list_rule (texts ++ text ∷ []) operands))
-        (text_within (λ text. list_rule (texts ++ text ∷ []) operands) (λ text. list_within operands (texts ++ text ∷ []) (λ k d below. all (suc k) d (omega arith)))),
+    value_within (on_text (λ text. list_rule is_wrong (texts ++ text ∷ []) operands) (list_rule true texts operands))
+        (text_within (λ text. list_rule is_wrong (texts ++ text ∷ []) operands) (list_rule true texts operands) (λ text. list_within operands is_wrong (texts ++ text ∷ []) (λ k d below. all (suc k) d (omega arith))) (list_within operands true texts (λ k d below. all (suc k) d (omega arith)))),
   )
 
   chosen_within : (function : List ℕ) (reply : Result (Option Chosen) Refusal) → ReadsWithin (length nodes) (chosen_rule nodes function reply)
@@ -129,7 +167,7 @@ module _ {M F Z S : Type 0} (meanings : Meanings M F Z S) (nodes : List (Express
   rule_within (Constant value) within = tt
   rule_within (OfProperty property) within = property_within property.setting property.convention within.0 within.1
   rule_within (OfOutput output) within = output_within output.chosen output.declared within
-  rule_within (Listed operands) within = list_within operands [] within
+  rule_within (Listed operands) within = list_within operands false [] within
   rule_within (Mapped source call) within = (within, value_within _ (λ value. tt))
   rule_within (FlatMapped source call) within = (within, value_within _ (λ value. chosen_within call.name (meaning_of meanings.flat_map call.function value call.arguments)))
   rule_within (Zipped left right call) within = (within.0, value_within _ (λ a. (within.1, value_within _ (λ b. tt))))
@@ -190,30 +228,6 @@ module _ {M F Z S : Type 0} (meanings : Meanings M F Z S) (nodes : List (Express
         position_grown (is_output chosen) e nodes
         ∙ (ap (λ b. grown (output_place nodes chosen) b (length nodes)) (is_plain chosen e plain) ∙ grown_kept (output_place nodes chosen) (length nodes))
 
-    same_choice : (function : List ℕ) (reply : Result (Option Chosen) Refusal) → chosen_rule (nodes ++ e ∷ []) function reply ≡ chosen_rule nodes function reply
-    same_choice function (Ok (Some chosen)) = ap (output_rule chosen) (same_place chosen)
-    same_choice function (Ok None) = refl
-    same_choice function (Err refusal) = refl
-
-    module _ (f : ℕ → Option Outcome) where
-      flat_at : (source : ℕ) (call : Called F) (o : Option Outcome)
-          → after_operand source (λ a. reading f (on_value (λ value. chosen_rule (nodes ++ e ∷ []) call.name (meaning_of meanings.flat_map call.function value call.arguments)) a)) o
-          ≡ after_operand source (λ a. reading f (on_value (λ value. chosen_rule nodes call.name (meaning_of meanings.flat_map call.function value call.arguments)) a)) o
-      flat_at source call None = refl
-      flat_at source call (Some (Given value)) = ap (reading f) (same_choice call.name (meaning_of meanings.flat_map call.function value call.arguments))
-      flat_at source call (Some Absent) = refl
-      flat_at source call (Some (Refused fault)) = refl
-
-      same_rule : (node : Expression M F Z) → reading f (rule meanings (nodes ++ e ∷ []) node) ≡ reading f (rule meanings nodes node)
-      same_rule (Constant value) = refl
-      same_rule (OfProperty property) = refl
-      same_rule (OfOutput output) = refl
-      same_rule (Listed operands) = refl
-      same_rule (Mapped source call) = refl
-      same_rule (FlatMapped source call) = flat_at source call (f source)
-      same_rule (Zipped left right call) = refl
-      same_rule (OrElse left right) = refl
-
     node_within : (i : ℕ) (node : Expression M F Z) → slice_get nodes i ≡ Some node → OperandsWithin (length nodes) node
     node_within i node is = subst (OperandsWithin (length nodes)) (get_or_from_slice_get nodes i node node is) (within i node (slice_get_within nodes i node is))
 
@@ -234,10 +248,11 @@ module _ {M F Z S : Type 0} (meanings : Meanings M F Z S) (nodes : List (Express
         let found = mapped_at (rule meanings nodes) nodes i r (slice_get nodes i) refl (sym (slice_get-map (rule meanings nodes) nodes i) ∙ is) in (
           rule meanings (nodes ++ e ∷ []) found.0,
           slice_get-map (rule meanings (nodes ++ e ∷ [])) (nodes ++ e ∷ []) i ∙ ap (option_map (rule meanings (nodes ++ e ∷ []))) (slice_get_front nodes e found.0 i found.1),
-          λ f. same_rule f found.0 ∙ ap (reading f) found.2,
+          λ f. same_rule meanings nodes (nodes ++ e ∷ []) same_place f found.0 ∙ ap (reading f) found.2,
         )
 
-    values_grown : (i : ℕ) → i < length nodes → value_of meanings (nodes ++ e ∷ []) i ≡ value_of meanings nodes i
+    -- the values stay
+    pub values_grown : (i : ℕ) → i < length nodes → value_of meanings (nodes ++ e ∷ []) i ≡ value_of meanings nodes i
     values_grown i below =
         let same : length nodes ≡ length (rules meanings nodes) = sym (length-map nodes (rule meanings nodes)) in
         same_answers (rules meanings nodes) (rules meanings (nodes ++ e ∷ [])) (longer_by (rule meanings nodes) (rule meanings (nodes ++ e ∷ []))) value_rule_within value_rule_alike i (omega (arith, below, same))
@@ -270,6 +285,12 @@ module _ {M F Z S : Type 0} (meanings : Meanings M F Z S) (nodes : List (Express
           slice_get-map (carrier meanings (nodes ++ e ∷ [])) (nodes ++ e ∷ []) i ∙ ap (option_map (carrier meanings (nodes ++ e ∷ []))) (slice_get_front nodes e found.0 i found.1),
           λ f. ap (reading f) (same_carrier found.0 (node_within i found.0 found.1) ∙ found.2),
         )
+
+    -- and so do the tasks
+    pub tasks_grown : (i : ℕ) → i < length nodes → produced_by meanings (nodes ++ e ∷ []) i ≡ produced_by meanings nodes i
+    tasks_grown i below =
+        let same : length nodes ≡ length (carriers meanings nodes) = sym (length-map nodes (carrier meanings nodes)) in
+        same_answers (carriers meanings nodes) (carriers meanings (nodes ++ e ∷ [])) (longer_by (carrier meanings nodes) (carrier meanings (nodes ++ e ∷ []))) task_rule_within task_rule_alike i (omega (arith, below, same))
 
     -- and so does what is remembered of tasks
     pub tasks_remembered : (states : List (State Produced)) → IsRemembered (carriers meanings nodes) states → IsRemembered (carriers meanings (nodes ++ e ∷ [])) states

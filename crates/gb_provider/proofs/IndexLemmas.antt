@@ -1,5 +1,5 @@
 -- Where outputs stand as the table grows and changes.
-use Rattle.std.proofs.Common.{◌≡◌, ℕ, ◌+◌, ◌<◌, ◌≤◌, Bool, true, false, cond, nat_lt, List, [], ◌∷◌, ◌++◌, length, set, refl, sym, ap, ◌∙◌, arith, inl, inr, length-append, length-set, get_or}
+use Rattle.std.proofs.Common.{◌≡◌, ℕ, ◌+◌, ◌<◌, ◌≤◌, Bool, true, false, cond, nat_lt, List, [], ◌∷◌, ◌++◌, length, set, refl, sym, ap, subst, ◌∙◌, arith, inl, inr, length-append, length-set, get_or}
 use Rattle.std.specs.Prelude.{Option, Some, None, not, ◌&&◌, position, slice_get, Result, Ok, Err}
 use Rattle.std.specs.List.{position_or_len}
 use Rattle.std.specs.Str.{bytes_eq}
@@ -16,7 +16,8 @@ use Rattle.std.proofs.lemmas.Bool.Decides.{eqb_tells}
 use Rattle.std.proofs.lemmas.List.Folds.{position_or_len_push}
 use Rattle.std.proofs.lemmas.List.Sums.{prefix_len-le-length}
 use Rattle.std.proofs.Math.Dec.{eqb}
-use Rattle.std.proofs.lemmas.Option.{get_or_from_slice_get, slice_get-get_or, slice_get_within}
+use Rattle.std.proofs.lemmas.Option.{get_or_from_slice_get, slice_get-get_or, slice_get_read, slice_get_within}
+use Rattle.std.proofs.lemmas.List.{set-get_or}
 use Rattle.std.proofs.lemmas.List.Quantifiers.{position-Some}
 use Rattle.gb_provider.specs.declared.change.Change.{Change}
 use Rattle.gb_provider.specs.declared.fault.Chosen.{Chosen}
@@ -24,7 +25,7 @@ use Rattle.gb_provider.specs.declared.fault.Final.{Final}
 use Rattle.gb_provider.specs.declared.expression.Property.{Property}
 use Rattle.gb_provider.specs.declared.expression.Expression.{Expression}
 use Rattle.gb_provider.specs.declared.expression.Expression.TheVariants.{Constant, OfProperty, OfOutput, Listed, Mapped, FlatMapped, Zipped, OrElse}
-use Rattle.gb_provider.specs.Changes.{AreChanged, changed, open_property}
+use Rattle.gb_provider.specs.Changes.{AreChanged, IsNodeChanged, IsNodeDeclared, changed, open_property}
 use Rattle.gb_provider.specs.Rules.{PlaceWithin, is_chosen, is_output, output_place}
 
 module _ {X : Type 0} (p : X → Bool) where
@@ -95,21 +96,21 @@ same_order a b =
     ∙ (ap (λ x. x && is_eq (slice_cmp nat_cmp a.output b.output)) (is_eq-slice_cmp a.task b.task) ∙ ap (λ x. bytes_eq a.task b.task && x) (is_eq-slice_cmp a.output b.output))
 
 module _ {M F Z : Type 0} where
-  open_stands : (o : Option (Expression M F Z)) (property : Property) → open_property o ≡ Some property → (old : Property) × (o ≡ Some (OfProperty old))
-  open_stands None property is = cc
-  open_stands (Some (Constant value)) property is = cc
-  open_stands (Some (OfProperty old)) property is = (old, refl)
-  open_stands (Some (OfOutput output)) property is = cc
-  open_stands (Some (Listed operands)) property is = cc
-  open_stands (Some (Mapped source call)) property is = cc
-  open_stands (Some (FlatMapped source call)) property is = cc
-  open_stands (Some (Zipped left right call)) property is = cc
-  open_stands (Some (OrElse left right)) property is = cc
+  open_stands : (change : Change) (o : Option (Expression M F Z)) (property : Property) → open_property change o ≡ Some property → (old : Property) × (o ≡ Some (OfProperty old))
+  open_stands change None property is = cc
+  open_stands change (Some (Constant value)) property is = cc
+  open_stands change (Some (OfProperty old)) property is = (old, refl)
+  open_stands change (Some (OfOutput output)) property is = cc
+  open_stands change (Some (Listed operands)) property is = cc
+  open_stands change (Some (Mapped source call)) property is = cc
+  open_stands change (Some (FlatMapped source call)) property is = cc
+  open_stands change (Some (Zipped left right call)) property is = cc
+  open_stands change (Some (OrElse left right)) property is = cc
 
   -- a change of a property leaves all outputs where they stand
   pub places_changed : (change : Change) (old new : List (Expression M F Z)) (at : ℕ) (result : Result (Unit {0}) Final) → AreChanged change old at new result → (chosen : Chosen) → output_place new chosen ≡ output_place old chosen
   places_changed change old new at (Ok done) made chosen =
-      let stood = open_stands (slice_get old at) made.0 made.1 in
+      let stood = open_stands change (slice_get old at) made.0 made.1 in
       ap (λ nodes. output_place nodes chosen) made.2 ∙ position_set (is_output chosen) old at (OfProperty stood.0) (OfProperty (changed change made.0)) stood.1 refl
   places_changed change old new at (Err final) made chosen = ap (λ nodes. output_place nodes chosen) made.1
 
@@ -174,3 +175,33 @@ place_within nodes chosen = by (output_place nodes chosen) refl
     by : (o : Option ℕ) → output_place nodes chosen ≡ o → PlaceWithin (length nodes) o
     by None is = tt
     by (Some place) is = let found = found_at (is_output chosen) nodes place is in slice_get_within nodes place found.0 found.1
+
+some_same : {X : Type 0} (x y : X) → Some x ≡ Some y → x ≡ y
+some_same x y is = cc
+
+module _ {M F Z : Type 0} (chosen : Chosen) (source : ℕ) where
+  declared_one : (old new : Expression M F Z) → is_output chosen old ≡ true → IsNodeDeclared source old new → new ≡ OfOutput (record { chosen = chosen; declared = Some source })
+  declared_one (Constant value) new is made = cc
+  declared_one (OfProperty property) new is made = cc
+  declared_one (OfOutput output) new is made = made output refl ∙ ap (λ k. OfOutput (record { chosen = k; declared = Some source })) (same_chosen chosen output.chosen is)
+  declared_one (Listed operands) new is made = cc
+  declared_one (Mapped origin call) new is made = cc
+  declared_one (FlatMapped origin call) new is made = cc
+  declared_one (Zipped left right call) new is made = cc
+  declared_one (OrElse left right) new is made = cc
+
+module _ {M F Z : Type 0} (nodes : List (Expression M F Z)) (at : ℕ) (below : at < length nodes) (old new : Expression M F Z) (stood : old ≡ get_or nodes at old) where
+  stood_there : slice_get nodes at ≡ Some old
+  stood_there = slice_get_read nodes (length nodes) at old refl below stood
+
+  -- a change of one expression is a change of them all
+  pub node_changed : (change : Change) (result : Result (Unit {0}) Final) → IsNodeChanged change old new result → AreChanged change nodes at (set nodes at new) result
+  node_changed change (Ok done) made = (made.0, ap (open_property change) stood_there ∙ made.1, ap (set nodes at) made.2)
+  node_changed change (Err final) kept = (ap (open_property change) stood_there ∙ kept.0, ap (set nodes at) (kept.1 ∙ stood) ∙ set-get_or nodes at old)
+
+  -- and so where an output is declared
+  pub node_declared : (chosen : Chosen) (source : ℕ) → output_place nodes chosen ≡ Some at → IsNodeDeclared source old new → set nodes at new ≡ set nodes at (OfOutput (record { chosen = chosen; declared = Some source }))
+  node_declared chosen source stands made =
+      let found = found_at (is_output chosen) nodes at stands in
+      let same : found.0 ≡ old = some_same found.0 old (sym found.1 ∙ stood_there) in
+      ap (set nodes at) (declared_one chosen source old new (subst (λ node. is_output chosen node ≡ true) same found.2) made)

@@ -1,4 +1,3 @@
-pub mod Tables
 pub mod RoundsLemmas
 pub mod CircleLemmas
 pub mod SearchLemmas
@@ -13,3 +12,4 @@ pub mod PastLemmas
 pub mod ListLemmas
 pub mod IndexLemmas
 pub mod GrowLemmas
+pub mod ForgetLemmas

@@ -1,9 +1,10 @@
 -- Lists of operands, the first of which are known.
-use Rattle.std.proofs.Common.{◌≡◌, ℕ, zero, suc, ◌<◌, ◌+◌, List, [], ◌∷◌, ◌++◌, length, refl, ap, ◌∙◌, arith, inl, inr, Bool, false, IsTrue}
+use Rattle.std.proofs.Common.{◌≡◌, ℕ, zero, suc, ◌<◌, ◌+◌, List, [], ◌∷◌, ◌++◌, length, refl, ap, ◌∙◌, arith, inl, inr, Bool, true, false, IsTrue}
 use Rattle.std.specs.Borrow.{Bor}
 use Rattle.std.specs.Option.{is_some, option_copied}
 use Rattle.std.proofs.lemmas.Bool.{cases_lt}
-use Rattle.std.specs.Prelude.{Option, Some, None, codes, slice_index}
+use Rattle.gb_core.specs.declared.value.Value.{Value}
+use Rattle.std.specs.Prelude.{Option, Some, None, slice_index}
 use Rattle.gb_core.specs.declared.value.Value.TheVariants as values
 use Rattle.gb_provider.specs.declared.expression.Outcome.{Outcome}
 use Rattle.gb_provider.specs.declared.expression.Outcome.TheVariants.{Given, Absent, Refused}
@@ -12,9 +13,8 @@ use Rattle.gb_provider.specs.declared.produced.Produced.TheVariants as produced
 use Rattle.gb_provider.specs.declared.reading.Reading.TheVariants.{Waits}
 use Rattle.gb_provider.specs.Produced.{carry_all, on_tasks, with_tasks}
 use Rattle.gb_provider.specs.Rounds.{Rule, Answers, Reads, reading}
-use Rattle.gb_provider.specs.Rules.{list_rule, on_text, on_value, refused}
-use Rattle.gb_provider.specs.declared.fault.Refusal.TheVariants.{WrongValue}
-use Rattle.gb_provider.specs.Search.{AreBefore, ReadsAfter, IsPast, has_tasks, is_text}
+use Rattle.gb_provider.specs.Rules.{list_rule, listed, on_text, on_value}
+use Rattle.gb_provider.specs.Search.{AreBefore, ReadsAfter, IsPast, has_tasks, is_given}
 use Rattle.gb_provider.proofs.RoundsLemmas.{after_is}
 
 module _ {A : Type 0} (f : ℕ → Option A) (operand : ℕ) where
@@ -46,45 +46,50 @@ rest_before : (passes : ℕ → Bool) (operand : ℕ) (operands : List ℕ) (n :
 rest_before passes operand operands n all i less below = all (suc i) (omega arith) (omega arith)
 
 module _ (f : ℕ → Option Outcome) where
-  text_of : (o : Option Outcome) → IsTrue (is_text o) → (text : List ℕ) × (o ≡ Some (Given (values.Text text)))
-  text_of (Some (Given (values.Text text))) is = (text, refl)
-  text_of (Some (Given (values.Flag flag))) is = cc
-  text_of (Some (Given (values.List texts))) is = cc
-  text_of (Some (Given (values.Place place))) is = cc
-  text_of (Some (Given (values.Task task))) is = cc
-  text_of (Some Absent) is = cc
-  text_of (Some (Refused fault)) is = cc
-  text_of None is = cc
+  given_of : (o : Option Outcome) → IsTrue (is_given o) → (value : Value) × (o ≡ Some (Given value))
+  given_of (Some (Given value)) is = (value, refl)
+  given_of (Some Absent) is = cc
+  given_of (Some (Refused fault)) is = cc
+  given_of None is = cc
 
-  -- behind elements that are texts a list reads the next
-  pub texts_read : (operands : List ℕ) (texts : List (List ℕ)) (n : ℕ) → AreBefore (λ o. is_text (f o)) operands n → n < length operands → ReadsAfter f (slice_index operands n) n (list_rule texts operands)
-  texts_read [] texts n all below = absurd (omega arith)
-  texts_read (operand ∷ operands) texts zero all below = refl
-  texts_read (operand ∷ operands) texts (suc n) all below =
-      let first = text_of (f operand) (all 0 (omega arith) (omega arith)) in
-      (Given (values.Text first.0), first.1, texts_read operands (texts ++ first.0 ∷ []) n (rest_before (λ o. is_text (f o)) operand operands n all) (omega arith))
+  -- what is read behind an element, whatever value it is
+  reads_behind : (operand n : ℕ) (go_on : List ℕ → Rule Outcome) (other : Rule Outcome) → ((text : List ℕ) → ReadsAfter f operand n (go_on text)) → ReadsAfter f operand n other → (value : Value) → ReadsAfter f operand n (on_text go_on other value)
+  reads_behind operand n go_on other all also (values.Text text) = all text
+  reads_behind operand n go_on other all also (values.Flag flag) = also
+  reads_behind operand n go_on other all also (values.List texts) = also
+  reads_behind operand n go_on other all also (values.Place place) = also
+  reads_behind operand n go_on other all also (values.Task task) = also
 
-  reads_texts : (operands : List ℕ) (texts : List (List ℕ)) (operand n : ℕ) → ReadsAfter f operand n (list_rule texts operands) → AreBefore (λ o. is_text (f o)) operands n
-  reads_texts [] texts operand n reads = absurd (no_reads f operand n (Given (values.List texts)) reads)
-  reads_texts (first ∷ operands) texts operand zero reads = none_before (λ o. is_text (f o)) (first ∷ operands)
-  reads_texts (first ∷ operands) texts operand (suc n) reads =
-      (elim reads.0 as (λ a. f first ≡ Some a → ReadsAfter f operand n (on_value (on_text (λ text. list_rule (texts ++ text ∷ []) operands)) a) → AreBefore (λ o. is_text (f o)) (first ∷ operands) (suc n)) [
+  -- behind elements that are values a list reads the next
+  pub texts_read : (operands : List ℕ) (is_wrong : Bool) (texts : List (List ℕ)) (n : ℕ) → AreBefore (λ o. is_given (f o)) operands n → n < length operands → ReadsAfter f (slice_index operands n) n (list_rule is_wrong texts operands)
+  texts_read [] is_wrong texts n all below = absurd (omega arith)
+  texts_read (operand ∷ operands) is_wrong texts zero all below = refl
+  texts_read (operand ∷ operands) is_wrong texts (suc n) all below =
+      let first = given_of (f operand) (all 0 (omega arith) (omega arith)) in
+      let rest = rest_before (λ o. is_given (f o)) operand operands n all in
+      (Given first.0, first.1, reads_behind (slice_index operands n) n (λ text. list_rule is_wrong (texts ++ text ∷ []) operands) (list_rule true texts operands) (λ text. texts_read operands is_wrong (texts ++ text ∷ []) n rest (omega arith)) (texts_read operands true texts n rest (omega arith)) first.0)
+
+  reads_texts : (operands : List ℕ) (is_wrong : Bool) (texts : List (List ℕ)) (operand n : ℕ) → ReadsAfter f operand n (list_rule is_wrong texts operands) → AreBefore (λ o. is_given (f o)) operands n
+  reads_texts [] is_wrong texts operand n reads = absurd (no_reads f operand n (listed is_wrong texts) reads)
+  reads_texts (first ∷ operands) is_wrong texts operand zero reads = none_before (λ o. is_given (f o)) (first ∷ operands)
+  reads_texts (first ∷ operands) is_wrong texts operand (suc n) reads =
+      (elim reads.0 as (λ a. f first ≡ Some a → ReadsAfter f operand n (on_value (on_text (λ text. list_rule is_wrong (texts ++ text ∷ []) operands) (list_rule true texts operands)) a) → AreBefore (λ o. is_given (f o)) (first ∷ operands) (suc n)) [
         | Given value ↦
-            elim value as (λ v. f first ≡ Some (Given v) → ReadsAfter f operand n (on_text (λ text. list_rule (texts ++ text ∷ []) operands) v) → AreBefore (λ o. is_text (f o)) (first ∷ operands) (suc n)) [
-              | values.Text text ↦ λ is rest. one_more_before (λ o. is_text (f o)) first operands n (ap is_text is) (reads_texts operands (texts ++ text ∷ []) operand n rest)
-              | values.Flag flag ↦ λ is rest. absurd (no_reads f operand n (refused (codes "list") WrongValue) rest)
-              | values.List more ↦ λ is rest. absurd (no_reads f operand n (refused (codes "list") WrongValue) rest)
-              | values.Place place ↦ λ is rest. absurd (no_reads f operand n (refused (codes "list") WrongValue) rest)
-              | values.Task task ↦ λ is rest. absurd (no_reads f operand n (refused (codes "list") WrongValue) rest)
+            elim value as (λ v. f first ≡ Some (Given v) → ReadsAfter f operand n (on_text (λ text. list_rule is_wrong (texts ++ text ∷ []) operands) (list_rule true texts operands) v) → AreBefore (λ o. is_given (f o)) (first ∷ operands) (suc n)) [
+              | values.Text text ↦ λ is rest. one_more_before (λ o. is_given (f o)) first operands n (ap is_given is) (reads_texts operands is_wrong (texts ++ text ∷ []) operand n rest)
+              | values.Flag flag ↦ λ is rest. one_more_before (λ o. is_given (f o)) first operands n (ap is_given is) (reads_texts operands true texts operand n rest)
+              | values.List more ↦ λ is rest. one_more_before (λ o. is_given (f o)) first operands n (ap is_given is) (reads_texts operands true texts operand n rest)
+              | values.Place place ↦ λ is rest. one_more_before (λ o. is_given (f o)) first operands n (ap is_given is) (reads_texts operands true texts operand n rest)
+              | values.Task task ↦ λ is rest. one_more_before (λ o. is_given (f o)) first operands n (ap is_given is) (reads_texts operands true texts operand n rest)
             ]
         | Absent ↦ λ is rest. absurd (no_reads f operand n Absent rest)
         | Refused fault ↦ λ is rest. absurd (no_reads f operand n (Refused fault) rest)
       ]) reads.1 reads.2
 
-  -- the elements that need no other look are texts
-  pub past_texts : (operands : List ℕ) (n : ℕ) → IsPast f n (list_rule [] operands) → AreBefore (λ o. is_text (f o)) operands n
-  past_texts operands zero past = none_before (λ o. is_text (f o)) operands
-  past_texts operands (suc n) past = reads_texts operands [] past.0 (suc n) past.1
+  -- the elements that need no other look are values
+  pub past_texts : (operands : List ℕ) (n : ℕ) → IsPast f n (list_rule false [] operands) → AreBefore (λ o. is_given (f o)) operands n
+  past_texts operands zero past = none_before (λ o. is_given (f o)) operands
+  past_texts operands (suc n) past = reads_texts operands false [] past.0 (suc n) past.1
 
 module _ (f : ℕ → Option Produced) where
   tasks_of : (o : Option Produced) → IsTrue (has_tasks o) → (tasks : List (List ℕ)) × (o ≡ Some (produced.Tasks tasks))

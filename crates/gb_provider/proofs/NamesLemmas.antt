@@ -1,65 +1,75 @@
 -- Names in order.
-use Rattle.std.proofs.Common.{◌≡◌, ◌≢◌, ℕ, ◌+◌, ◌<◌, List, [], ◌++◌, length, get_or, take, drop, refl, sym, ◌∙◌, ap, subst, arith, inl, inr}
-use Rattle.std.proofs.Math.Seq.{drop-cons}
-use Rattle.std.proofs.lemmas.List.{get_or_default, take-append-drop}
+use Rattle.std.proofs.Common.{◌≡◌, ◌≢◌, ℕ, ◌+◌, ◌<◌, ◌≤◌, List, ◌++◌, length, take, drop, refl, sym, ◌∙◌, ap, subst, arith, inl, inr}
+use Rattle.std.proofs.Math.Seq.{take-append-add}
 use Rattle.std.proofs.lemmas.Bool.{cases_lt}
+use Rattle.std.proofs.lemmas.List.{drop-append-le, length-drop}
 use Rattle.std.specs.Ordering.{ordering_reverse}
-use Rattle.std.specs.Cmp.{tied_itself}
-use Rattle.std.specs.Cmp.Lexicographic.{nat_list_cmp_total}
+use Rattle.std.specs.Cmp.{IsTotalOrder, tied_itself}
+use Rattle.std.specs.Cmp.Lexicographic.{nat_list_cmp_total, lists_total}
+use Rattle.std.specs.FinMap.{slice_cmp-IsAntisymmetric, nat_cmp-IsAntisymmetric}
 use Rattle.std.specs.declared.cmp.Ordering.{Ordering}
 use Rattle.std.specs.declared.cmp.Ordering.TheVariants.{Less, Equal, Greater}
-use Rattle.gb_core.specs.Lists.{byte_order}
-use Rattle.gb_provider.specs.Names.{IsFromLeast}
-use Rattle.gb_core.proofs.Found.{tied_same}
+use Rattle.gb_provider.specs.Names.{IsLeastRound, names_order, round_from}
+
+names_total : IsTotalOrder names_order
+names_total = lists_total nat_list_cmp_total
+
+names_tied : (a b : List (List ℕ)) → names_order a b ≡ Equal → a ≡ b
+names_tied a b e = slice_cmp-IsAntisymmetric (slice_cmp-IsAntisymmetric nat_cmp-IsAntisymmetric) a b e
 
 -- what does not come before is not after
-pub not_before : (a b : List ℕ) (r : Ordering) → byte_order a b ≡ r → r ≢ Less → byte_order b a ≢ Greater
+pub not_before : (a b : List (List ℕ)) (r : Ordering) → names_order a b ≡ r → r ≢ Less → names_order b a ≢ Greater
 not_before a b r is other greater =
-    by r (nat_list_cmp_total.antisymm b a ∙ ap ordering_reverse is) other
+    by r (names_total.antisymm b a ∙ ap ordering_reverse is) other
   where
-    by : (s : Ordering) → byte_order b a ≡ ordering_reverse s → s ≢ Less → ⊥
+    by : (s : Ordering) → names_order b a ≡ ordering_reverse s → s ≢ Less → ⊥
     by Less e apart = apart refl
     by Equal e apart = cc
     by Greater e apart = cc
 
 -- what comes before a least one is less than all
-pub before_least : (a b c : List ℕ) → byte_order a b ≡ Less → byte_order b c ≢ Greater → byte_order a c ≢ Greater
-before_least a b c less least = by (byte_order b c) refl
+before_least : (a b c : List (List ℕ)) → names_order a b ≡ Less → names_order b c ≢ Greater → names_order a c ≢ Greater
+before_least a b c less least = by (names_order b c) refl
   where
-    by : (r : Ordering) → byte_order b c ≡ r → byte_order a c ≢ Greater
-    by Less e greater = let chain = nat_list_cmp_total.trans a b c less e in cc
-    by Equal e greater = let same = tied_same b c e in let here : byte_order a c ≡ Less = subst (λ x. byte_order a x ≡ Less) same less in cc
+    by : (r : Ordering) → names_order b c ≡ r → names_order a c ≢ Greater
+    by Less e greater = let chain = names_total.trans a b c less e in cc
+    by Equal e greater = let same = names_tied b c e in let here : names_order a c ≡ Less = subst (λ x. names_order a x ≡ Less) same less in cc
     by Greater e greater = least e
 
-pub least_itself : (a : List ℕ) → byte_order a a ≢ Greater
-least_itself a greater = let tied = tied_itself nat_list_cmp_total a in cc
+least_itself : (a : List (List ℕ)) → names_order a a ≢ Greater
+least_itself a greater = let tied = tied_itself names_total a in cc
 
--- the round from a least name on
-pub from_least_at : (names : List (List ℕ)) (least : ℕ) → least < length names → ((k : ℕ) → k < length names → byte_order (get_or names least []) (get_or names k []) ≢ Greater)
-    → IsFromLeast names (drop least names ++ take least names)
-from_least_at names least within all =
-    let begins = drop-cons names least [] within in
-    subst (λ (end : List (List ℕ)). IsFromLeast names (end ++ take least names)) (sym begins) (
-      take least names,
-      drop least names,
-      sym (take-append-drop least names),
-      ap (λ (end : List (List ℕ)). end ++ take least names) (sym begins),
-      λ k d below. subst (λ (name : List ℕ). byte_order (get_or names least []) name ≢ Greater) (get_or_default names k [] d below) (all k below),
-    )
-
-module _ (names : List (List ℕ)) (least i : ℕ) (so_far : (k : ℕ) → k < i → byte_order (get_or names least []) (get_or names k []) ≢ Greater) where
-  -- a name before the least one is the least one
-  pub least_now : byte_order (get_or names i []) (get_or names least []) ≡ Less → (k : ℕ) → k < i + 1 → byte_order (get_or names i []) (get_or names k []) ≢ Greater
+-- rounds by the places where they begin
+module _ (round : ℕ → List (List ℕ)) (least i : ℕ) (so_far : (k : ℕ) → k < i → names_order (round least) (round k) ≢ Greater) where
+  -- a round before the least one is the least one
+  pub least_now : names_order (round i) (round least) ≡ Less → (k : ℕ) → k < i + 1 → names_order (round i) (round k) ≢ Greater
   least_now less k below =
       elim (cases_lt k i) [
-        | inl before ↦ before_least (get_or names i []) (get_or names least []) (get_or names k []) less (so_far k before)
-        | inr past ↦ let same : k ≡ i = omega arith in rw same (least_itself (get_or names i []))
+        | inl before ↦ before_least (round i) (round least) (round k) less (so_far k before)
+        | inr past ↦ let same : k ≡ i = omega arith in rw same (least_itself (round i))
       ]
 
   -- and another leaves it so
-  pub least_still : byte_order (get_or names least []) (get_or names i []) ≢ Greater → (k : ℕ) → k < i + 1 → byte_order (get_or names least []) (get_or names k []) ≢ Greater
+  pub least_still : names_order (round least) (round i) ≢ Greater → (k : ℕ) → k < i + 1 → names_order (round least) (round k) ≢ Greater
   least_still other k below =
       elim (cases_lt k i) [
         | inl before ↦ so_far k before
         | inr past ↦ let same : k ≡ i = omega arith in rw same other
       ]
+
+-- names that stand twice hold each of their rounds
+pub round_twice : (names : List (List ℕ)) (place : ℕ) → place ≤ length names → take (length names) (drop place (names ++ names)) ≡ round_from names place
+round_twice names place within =
+    let count : length names ≡ length (drop place names) + place = omega (arith, within, length-drop place names) in
+    ap (take (length names)) (drop-append-le place names names within)
+    ∙ (ap (λ n. take n (drop place names ++ names)) count ∙ take-append-add (drop place names) names place)
+
+-- of names that stand twice the least round is told
+pub told_round : (names : List (List ℕ)) (place : ℕ) (round : List (List ℕ)) → place ≤ length names → round ≡ take (length names) (drop place (names ++ names))
+    → ((k : ℕ) → k < length names → names_order (take (length names) (drop place (names ++ names))) (take (length names) (drop k (names ++ names))) ≢ Greater) → IsLeastRound names round
+told_round names place round within is all = (
+  (place, is ∙ round_twice names place within),
+  λ k below.
+      subst (λ other. names_order round other ≢ Greater) (round_twice names k (omega arith))
+      (subst (λ least. names_order least (take (length names) (drop k (names ++ names))) ≢ Greater) (sym is) (all k below)),
+)

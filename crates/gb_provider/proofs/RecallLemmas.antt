@@ -1,5 +1,5 @@
 -- What is remembered of answers.
-use Rattle.std.proofs.Common.{◌≡◌, ◌≢◌, ℕ, zero, suc, List, [], ◌∷◌, ◌++◌, refl, arith}
+use Rattle.std.proofs.Common.{◌≡◌, ◌≢◌, ℕ, zero, suc, List, [], ◌∷◌, ◌++◌, refl, sym, ◌∙◌, arith}
 use Rattle.std.specs.Prelude.{Option, Some, None, Result, Ok, Err, slice_get}
 use Rattle.gb_core.specs.declared.value.Value.{Value}
 use Rattle.gb_provider.specs.declared.fault.ProviderFault.{ProviderFault}
@@ -13,7 +13,8 @@ use Rattle.gb_provider.specs.Meanings.{Meanings}
 use Rattle.gb_provider.specs.Remembered.{IsTold, IsRemembered}
 use Rattle.gb_provider.specs.Rounds.{Rule, answer}
 use Rattle.gb_provider.specs.Rules.{rules}
-use Rattle.gb_provider.specs.Search.{known}
+use Rattle.gb_provider.specs.Search.{IsSound, known}
+use Rattle.gb_provider.proofs.SearchLemmas.{still_settled}
 
 module _ {A : Type 0} where
   -- one more new state says nothing
@@ -32,7 +33,15 @@ module _ {A : Type 0} where
 
   -- with nothing remembered, all of it is right
   pub none_remembered : (table : List (Rule A)) → IsRemembered table []
-  none_remembered table = (omega arith, record { right = λ e a is. cc; closed = λ e is. cc })
+  none_remembered table = (omega arith, record { right = λ e a is. cc; settled = λ e a is. cc; closed = λ e is. cc })
+
+  -- the same answers under more states are as right
+  pub sound_extended : (table : List (Rule A)) (old new : List (State A)) → ((e : ℕ) → known new e ≡ known old e) → ((e : ℕ) → slice_get old e ≢ Some Open → slice_get new e ≢ Some Open) → IsSound table old → IsSound table new
+  sound_extended table old new same shut sound = record {
+    right = λ e a now. sound.right e a (sym (same e) ∙ now);
+    settled = still_settled table old new same sound.settled;
+    closed = λ e. shut e (sound.closed e);
+  }
 
 -- a known answer that is told is got
 pub told_got : {M F Z S : Type 0} (meanings : Meanings M F Z S) (nodes : List (Expression M F Z)) (number : ℕ) (o : Option Outcome) → ((a : Outcome) → o ≡ Some a → answer (rules meanings nodes) number ≡ Some a)

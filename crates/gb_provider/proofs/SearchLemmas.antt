@@ -10,8 +10,8 @@ use Rattle.gb_provider.specs.declared.reading.State.{State}
 use Rattle.gb_provider.specs.declared.reading.State.TheVariants.{New, Open, Known}
 use Rattle.gb_provider.specs.declared.reading.Reading.TheVariants.{Settles, Waits}
 use Rattle.gb_provider.specs.Rounds.{Rule, reading, answer, and_then}
-use Rattle.gb_provider.specs.Search.{WaitsFor, IsSearch, IsSound, known, known_answer, left_at, left}
-use Rattle.gb_provider.proofs.RoundsLemmas.{Extends, reading_waits}
+use Rattle.gb_provider.specs.Search.{AreSettled, WaitsFor, IsSearch, IsSound, known, known_answer, left_at, left}
+use Rattle.gb_provider.proofs.RoundsLemmas.{Extends, reading_kept, reading_waits}
 use Rattle.gb_provider.proofs.CircleLemmas.{answer_settled, never, awaits}
 use Rattle.gb_provider.specs.Rounds.{next_awaited}
 use Rattle.gb_provider.specs.Circle.{awaited_after, IsCircle}
@@ -89,6 +89,19 @@ module _ {A : Type 0} (rules : List (Rule A)) (entry : ℕ) (states : List (Stat
           | inr other ↦ search.right e a (sym (known_other states at o top_within e other) ∙ now)
         ]
 
+    settled_then : AreSettled rules (set states at (Known o))
+    settled_then e a now =
+        elim (cases_eq at e) [
+          | inl same ↦
+              let here = known_same states at o top_within in
+              let moved : known (set states at (Known o)) at ≡ Some a = ap (known (set states at (Known o))) same ∙ now in
+              let alike : o ≡ a = cc in
+              (rule, ap (slice_get rules) (sym same) ∙ there, reading_kept (known states) (known (set states at (Known o))) known_more rule a (is ∙ ap Settles alike))
+          | inr other ↦
+              let was = search.settled e a (sym (known_other states at o top_within e other) ∙ now) in
+              (was.0, was.1, reading_kept (known states) (known (set states at (Known o))) known_more was.0 a was.2)
+        ]
+
     opened_then : (k : ℕ) → k < length front → slice_get (set states at (Known o)) (get_or front k 0) ≡ Some Open
     opened_then k less =
         get_set_other states at (get_or front k 0) (Known o) (front_other k less)
@@ -135,6 +148,7 @@ module _ {A : Type 0} (rules : List (Rule A)) (entry : ℕ) (states : List (Stat
     settled_search = record {
       same = length-set states at (Known o) ∙ search.same;
       right = right_then;
+      settled = settled_then;
       first = λ some. sym (below_top 0 some) ∙ search.first (omega (arith, longer));
       done = done_then;
       opened = opened_then;
@@ -244,6 +258,9 @@ module _ {A : Type 0} (rules : List (Rule A)) (entry : ℕ) (states : List (Stat
       opened_search = record {
         same = length-set states operand Open ∙ search.same;
         right = λ e a now. search.right e a (sym (keeps_then e) ∙ now);
+        settled = λ e a now.
+            let was = search.settled e a (sym (keeps_then e) ∙ now) in
+            (was.0, was.1, reading_kept (known states) (known (set states operand Open)) same_extends was.0 a was.2);
         first = λ some. before_end 0 (omega (arith, longer)) ∙ search.first (omega (arith, longer));
         done = λ none. absurd (omega (arith, longest));
         opened = opened_next;
@@ -334,6 +351,12 @@ module _ {A : Type 0} (rules : List (Rule A)) (entry : ℕ) (states : List (Stat
         different = circle_different;
       }
 
+-- the same answers rest on one another
+pub still_settled : {A : Type 0} (rules : List (Rule A)) (old new : List (State A)) → ((e : ℕ) → known new e ≡ known old e) → AreSettled rules old → AreSettled rules new
+still_settled rules old new same settled e a now =
+    let was = settled e a (sym (same e) ∙ now) in
+    (was.0, was.1, reading_kept (known old) (known new) (record { keeps = λ i b is. same i ∙ is }) was.0 a was.2)
+
 module _ {A : Type 0} (rules : List (Rule A)) (entry : ℕ) (states : List (State A)) (same : length states ≡ length rules) (sound : IsSound rules states) (is_new : slice_get states entry ≡ Some New) where
   first_within : entry < length states
   first_within = slice_get_within states entry New is_new
@@ -363,6 +386,7 @@ module _ {A : Type 0} (rules : List (Rule A)) (entry : ℕ) (states : List (Stat
   started_search = record {
     same = length-set states entry Open ∙ same;
     right = λ e a now. sound.right e a (sym (known_still e) ∙ now);
+    settled = still_settled rules states (set states entry Open) known_still sound.settled;
     first = λ some. refl;
     done = λ none. absurd (omega arith);
     opened = λ k below. let zeroth : k ≡ 0 = omega arith in rw zeroth first_open;
@@ -375,5 +399,6 @@ module _ {A : Type 0} (rules : List (Rule A)) (entry : ℕ) (states : List (Stat
 pub ended_sound : {A : Type 0} (rules : List (Rule A)) (entry : ℕ) (states : List (State A)) (path : List ℕ) → IsSearch rules entry states path → length path ≡ 0 → IsSound rules states
 ended_sound rules entry states path search none = record {
   right = search.right;
+  settled = search.settled;
   closed = λ e is_open. let l = search.listed e is_open in absurd (omega (arith, l.1, none));
 }

@@ -5,7 +5,7 @@ use Rattle.std.proofs.lemmas.Option.{get_or_from_slice_get, slice_get_within}
 use Rattle.gb_provider.specs.declared.change.Change.{Change}
 use Rattle.gb_provider.specs.declared.change.Change.TheVariants.{Set, SetFrom, Unset, Convention, Finalize}
 use Rattle.gb_provider.specs.declared.expression.Property.{Property}
-use Rattle.gb_provider.specs.Changes.{open_property, if_open, changed, ChangeWithin, AreChanged}
+use Rattle.gb_provider.specs.Changes.{open_property, if_taken, takes, changed, ChangeWithin, AreChanged}
 use Rattle.std.proofs.Math.ListN.{get_or-append}
 use Rattle.std.proofs.Math.Seq.{get_or-append_seam}
 use Rattle.std.proofs.lemmas.Bool.{cases_lt, cases_eq}
@@ -77,19 +77,17 @@ module _ {X : Type 0} where
 abbrev PropertyWithin : ℕ → Property → Type 0
 PropertyWithin n property = SettingWithin n property.setting × PlaceWithin n property.convention
 
-module _ {M F Z : Type 0} (n : ℕ) where
-  -- the operands of a property that may be changed
-  pub open_within : (o : Option (Expression M F Z)) → ((node : Expression M F Z) → o ≡ Some node → OperandsWithin n node) → (property : Property) → open_property o ≡ Some property → PropertyWithin n property
+taken_same : (found property : Property) (b : Bool) → if_taken found b ≡ Some property → found ≡ property
+taken_same found property true is = cc
+taken_same found property false is = cc
+
+module _ {M F Z : Type 0} (n : ℕ) (change : Change) where
+  -- the operands of a property that takes a change
+  pub open_within : (o : Option (Expression M F Z)) → ((node : Expression M F Z) → o ≡ Some node → OperandsWithin n node) → (property : Property) → open_property change o ≡ Some property → PropertyWithin n property
   open_within None all property is = cc
   open_within (Some (Constant value)) all property is = cc
-  open_within (Some (OfProperty found)) all property is = by found.is_final refl
-    where
-      by : (final : Bool) → found.is_final ≡ final → PropertyWithin n property
-      by true e = let no_property : if_open found found.is_final ≡ None = ap (if_open found) e in cc
-      by false e =
-          let here : if_open found found.is_final ≡ Some found = ap (if_open found) e in
-          let same : found ≡ property = cc in
-          subst (PropertyWithin n) same (all (OfProperty found) refl)
+  open_within (Some (OfProperty found)) all property is =
+      subst (PropertyWithin n) (taken_same found property (takes change found.is_final) is) (all (OfProperty found) refl)
   open_within (Some (OfOutput output)) all property is = cc
   open_within (Some (Listed operands)) all property is = cc
   open_within (Some (Mapped source call)) all property is = cc
@@ -108,5 +106,5 @@ changed_property n Finalize property change within = within
 pub all_changed_within : {M F Z : Type 0} (nodes : List (Expression M F Z)) (at : ℕ) (change : Change) (new : List (Expression M F Z)) (done : Unit {0}) → AreWithin nodes → ChangeWithin (length nodes) change
     → AreChanged change nodes at new (Ok done) → AreWithin new
 all_changed_within nodes at change new done all within made =
-    let found = open_within (length nodes) (slice_get nodes at) (λ node is. subst (OperandsWithin (length nodes)) (get_or_from_slice_get nodes at node node is) (all at node (slice_get_within nodes at node is))) made.0 made.1 in
+    let found = open_within (length nodes) change (slice_get nodes at) (λ node is. subst (OperandsWithin (length nodes)) (get_or_from_slice_get nodes at node node is) (all at node (slice_get_within nodes at node is))) made.0 made.1 in
     subst AreWithin (sym made.2) (changed_within nodes at (OfProperty (changed change made.0)) all (changed_property (length nodes) change made.0 within found))

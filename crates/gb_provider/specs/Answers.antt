@@ -3,6 +3,7 @@ use Rattle.std.specs.Prelude.{◌≡◌, ◌≢◌, ℕ, Bool, false, List, leng
 use Rattle.gb_core.specs.declared.value.Value.{Value}
 use Rattle.gb_provider.specs.declared.fault.ProviderFault.{ProviderFault}
 use Rattle.gb_provider.specs.declared.fault.ProviderFault.TheVariants as faults
+use Rattle.gb_provider.specs.declared.fault.StepFault.{StepFault}
 use Rattle.gb_provider.specs.declared.fault.StepFault.TheVariants as steps
 use Rattle.gb_provider.specs.declared.fault.Refusal.{Refusal}
 use Rattle.gb_provider.specs.declared.fault.ValueFault.{ValueFault}
@@ -15,7 +16,7 @@ use Rattle.gb_provider.specs.Rounds.{answer}
 use Rattle.gb_provider.specs.Circle.{IsCircle}
 use Rattle.gb_provider.specs.Rules.{rules}
 use Rattle.gb_provider.specs.Table.{Table}
-use Rattle.gb_provider.specs.Names.{IsFromLeast, names_on}
+use Rattle.gb_provider.specs.Names.{IsLeastRound, names_on}
 
 -- What providers hold: the table of stored functions, and the expressions by number.
 pub record Held (M F Z S : Type 0) : Type 0 where
@@ -29,7 +30,7 @@ module _ {M F Z S : Type 0} (meanings : Meanings M F Z S) (nodes : List (Express
 
   -- an expression without an answer runs into this circle, told by its names
   abbrev pub RunsInto : List (List ℕ) → Type 0
-  RunsInto names = (circle : List ℕ) × IsCircle (rules meanings nodes) entry circle × IsFromLeast (names_on nodes circle) names
+  RunsInto names = (circle : List ℕ) × IsCircle (rules meanings nodes) entry circle × IsLeastRound (names_on nodes circle) names
 
   -- the fault that `get` answers
   abbrev pub IsFault : ProviderFault → Type 0
@@ -102,3 +103,14 @@ module _ {M F Z S : Type 0} (meanings : Meanings M F Z S) (held : Held M F Z S) 
   IsTested None (Err faults.NoValue) = ⊥
   IsTested None (Err (faults.Value fault)) = ⊥
   IsTested None (Err faults.OutOfMemory) = ⊥
+
+-- whether a test takes so many arguments: 31 where there is none, then 32
+abbrev pub IsAccepted : {S X : Type 0} → (S → ℕ) → ℕ → Option S → Result X StepFault → Type 0
+IsAccepted arity count (Some test) (Ok x) = arity test ≡ count
+IsAccepted arity count (Some test) (Err steps.UnknownTransform) = ⊥
+IsAccepted arity count (Some test) (Err steps.BadArguments) = arity test ≢ count
+IsAccepted arity count (Some test) (Err steps.OutOfMemory) = ⊥
+IsAccepted arity count None (Ok x) = ⊥
+IsAccepted arity count None (Err steps.UnknownTransform) = Unit {0}
+IsAccepted arity count None (Err steps.BadArguments) = ⊥
+IsAccepted arity count None (Err steps.OutOfMemory) = ⊥

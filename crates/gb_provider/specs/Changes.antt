@@ -1,7 +1,8 @@
 -- Changes of properties and outputs.
-use Rattle.std.specs.Prelude.{◌≡◌, ◌<◌, ℕ, List, Bool, true, false, Option, Some, None, Result, Ok, Err, slice_get, slice_set}
+use Rattle.std.specs.Prelude.{◌≡◌, ◌<◌, ℕ, List, Bool, true, false, not, Option, Some, None, Result, Ok, Err, slice_get, slice_set}
 use Rattle.gb_provider.specs.declared.fault.Final.{Final}
 use Rattle.gb_provider.specs.declared.expression.Setting.TheVariants.{Held, Followed}
+use Rattle.gb_provider.specs.declared.expression.Output.{Output}
 use Rattle.gb_provider.specs.declared.expression.Property.{Property}
 use Rattle.gb_provider.specs.declared.expression.Expression.{Expression}
 use Rattle.gb_provider.specs.declared.expression.Expression.TheVariants.{Constant, OfProperty, OfOutput, Listed, Mapped, FlatMapped, Zipped, OrElse}
@@ -12,15 +13,23 @@ use Rattle.gb_provider.specs.declared.change.Change.TheVariants as changes
 use Rattle.gb_provider.specs.Answers as answers
 use Rattle.gb_provider.specs.Steps.{IsAdded}
 
-abbrev pub if_open : Property → Bool → Option Property
-if_open property true = None
-if_open property false = Some property
+-- a final property takes no change but to be made final
+abbrev pub takes : Change → Bool → Bool
+takes (changes.Set value) is_final = not is_final
+takes (changes.SetFrom source) is_final = not is_final
+takes changes.Unset is_final = not is_final
+takes (changes.Convention source) is_final = not is_final
+takes changes.Finalize is_final = true
 
-module _ {M F Z : Type 0} where
-  -- the property at a place, if there is one that is not final
+abbrev pub if_taken : Property → Bool → Option Property
+if_taken property true = Some property
+if_taken property false = None
+
+module _ {M F Z : Type 0} (change : Change) where
+  -- the property at a place, if there is one that takes the change
   abbrev pub open_property : Option (Expression M F Z) → Option Property
   open_property (Some (Constant value)) = None
-  open_property (Some (OfProperty property)) = if_open property property.is_final
+  open_property (Some (OfProperty property)) = if_taken property (takes change property.is_final)
   open_property (Some (OfOutput output)) = None
   open_property (Some (Listed operands)) = None
   open_property (Some (Mapped source call)) = None
@@ -45,11 +54,21 @@ ChangeWithin n changes.Unset = Unit {0}
 ChangeWithin n (changes.Convention source) = source < n
 ChangeWithin n changes.Finalize = Unit {0}
 
--- An open property is changed, and nothing else; else the change is refused.
+-- A property that takes the change is changed, and nothing else; else the change is refused.
 abbrev pub AreChanged : {M F Z : Type 0} → Change → List (Expression M F Z) → ℕ → List (Expression M F Z) → Result (Unit {0}) Final → Type 0
 AreChanged change old at new (Ok done) =
-    (property : Property) × (open_property (slice_get old at) ≡ Some property) × (new ≡ slice_set old at (OfProperty (changed change property)))
-AreChanged change old at new (Err final) = (open_property (slice_get old at) ≡ None) × (new ≡ old)
+    (property : Property) × (open_property change (slice_get old at) ≡ Some property) × (new ≡ slice_set old at (OfProperty (changed change property)))
+AreChanged change old at new (Err final) = (open_property change (slice_get old at) ≡ None) × (new ≡ old)
+
+-- the same of one expression
+abbrev pub IsNodeChanged : {M F Z : Type 0} → Change → Expression M F Z → Expression M F Z → Result (Unit {0}) Final → Type 0
+IsNodeChanged change old new (Ok done) =
+    (property : Property) × (open_property change (Some old) ≡ Some property) × (new ≡ OfProperty (changed change property))
+IsNodeChanged change old new (Err final) = (open_property change (Some old) ≡ None) × (new ≡ old)
+
+-- an output is declared as this expression
+abbrev pub IsNodeDeclared : {M F Z : Type 0} → ℕ → Expression M F Z → Expression M F Z → Type 0
+IsNodeDeclared source old new = (output : Output) → old ≡ OfOutput output → new ≡ OfOutput (record output { declared = Some source })
 
 -- the same of all that providers hold: the table stays
 abbrev pub IsChanged : {M F Z S : Type 0} → Change → answers.Held M F Z S → ℕ → answers.Held M F Z S → Result (Unit {0}) Final → Type 0

@@ -10,6 +10,8 @@ use Rattle.gb_provider.specs.declared.fault.ProviderFault.{ProviderFault}
 use Rattle.gb_provider.specs.declared.fault.ProviderFault.TheVariants as providers
 use Rattle.gb_provider.specs.declared.fault.TableFault.{TableFault}
 use Rattle.gb_provider.specs.declared.fault.TableFault.TheVariants as tables
+use Rattle.gb_table.specs.declared.table.AddFault.{AddFault}
+use Rattle.gb_table.specs.declared.table.AddFault.TheVariants as adding
 
 abbrev pub refusal_number : Refusal → ℕ
 refusal_number refusals.BadArguments = 32
@@ -34,3 +36,8 @@ provider_fault_number providers.OutOfMemory = 3
 abbrev pub table_fault_number : TableFault → ℕ
 table_fault_number tables.DuplicateTransform = 37
 table_fault_number tables.OutOfMemory = 3
+
+-- why a table did not take a function
+abbrev pub told_of : AddFault → TableFault
+told_of adding.Taken = tables.DuplicateTransform
+told_of adding.OutOfMemory = tables.OutOfMemory

@@ -1,7 +1,11 @@
 -- The names on a circle.
-use Rattle.std.specs.Prelude.{◌≡◌, ◌≢◌, ℕ, List, [], ◌∷◌, ◌++◌, Option, Some, None, slice_get, All}
+use Rattle.std.specs.Prelude.{◌≡◌, ◌≢◌, ℕ, ◌<◌, List, [], ◌∷◌, ◌++◌, Option, Some, None, length, drop, take, slice_get}
 use Rattle.std.specs.List.{flat_map}
+use Rattle.std.specs.Cmp.Lexicographic.{slice_cmp}
+use Rattle.std.specs.declared.cmp.Ordering.{Ordering}
 use Rattle.std.specs.declared.cmp.Ordering.TheVariants.{Greater}
+use Rattle.gb_provider.specs.declared.fault.ProviderFault.{ProviderFault}
+use Rattle.gb_provider.specs.declared.fault.ProviderFault.TheVariants as faults
 use Rattle.gb_provider.specs.declared.expression.Expression.{Expression}
 use Rattle.gb_provider.specs.declared.expression.Expression.TheVariants.{Constant, OfProperty, OfOutput, Listed, Mapped, FlatMapped, Zipped, OrElse}
 use Rattle.gb_core.specs.Lists.{byte_order}
@@ -27,8 +31,23 @@ module _ {M F Z : Type 0} where
   abbrev pub names_on : List (Expression M F Z) → List ℕ → List (List ℕ)
   names_on nodes circle = flat_map (λ number. names_of (slice_get nodes number)) circle
 
--- the same round, from a least name on
-abbrev pub IsFromLeast : List (List ℕ) → List (List ℕ) → Type 0
-IsFromLeast names [] = names ≡ []
-IsFromLeast names (first ∷ rest) =
-    (front : List (List ℕ)) × (back : List (List ℕ)) × (names ≡ front ++ back) × (first ∷ rest ≡ back ++ front) × All (λ name. byte_order first name ≢ Greater) names
+-- names one by one, each by its bytes
+abbrev pub names_order : List (List ℕ) → List (List ℕ) → Ordering
+names_order = slice_cmp byte_order
+
+-- the same round, from a place on
+abbrev pub round_from : List (List ℕ) → ℕ → List (List ℕ)
+round_from names place = drop place names ++ take place names
+
+-- of the rounds from each name on, the least in the order of names
+abbrev pub IsLeastRound : List (List ℕ) → List (List ℕ) → Type 0
+IsLeastRound names round =
+    ((place : ℕ) × (round ≡ round_from names place)) × ((k : ℕ) → k < length names → names_order round (round_from names k) ≢ Greater)
+
+-- a circle is told by its names, unless memory runs out
+abbrev pub IsCircleTold : {M F Z : Type 0} → List (Expression M F Z) → List ℕ → ProviderFault → Type 0
+IsCircleTold nodes circle (faults.Circular names) = IsLeastRound (names_on nodes circle) names
+IsCircleTold nodes circle (faults.Step fault) = ⊥
+IsCircleTold nodes circle faults.NoValue = ⊥
+IsCircleTold nodes circle (faults.Value fault) = ⊥
+IsCircleTold nodes circle faults.OutOfMemory = Unit {0}

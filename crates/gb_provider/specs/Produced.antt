@@ -20,7 +20,7 @@ use Rattle.gb_provider.specs.Answers.{IsFault, value_of}
 use Rattle.gb_provider.specs.Called.{Called}
 use Rattle.gb_provider.specs.Circle.{IsCircle}
 use Rattle.gb_provider.specs.Meanings.{Meanings, meaning_of}
-use Rattle.gb_provider.specs.Names.{IsFromLeast, names_on}
+use Rattle.gb_provider.specs.Names.{IsLeastRound, names_on}
 use Rattle.gb_provider.specs.Remembered.{AreWithin, IsRemembered}
 use Rattle.gb_provider.specs.Rounds.{Rule, Answers, Reads, answer}
 use Rattle.gb_provider.specs.Rules.{rules}
@@ -39,6 +39,11 @@ tasks_of (values.Flag flag) = []
 tasks_of (values.List texts) = []
 tasks_of (values.Place place) = []
 tasks_of (values.Task task) = task ∷ []
+
+-- what is absent is produced by none
+abbrev pub constant_tasks : Option Value → List (List ℕ)
+constant_tasks (Some value) = tasks_of value
+constant_tasks None = []
 
 -- those of another expression
 abbrev pub carry : ℕ → Rule Produced
@@ -86,7 +91,7 @@ module _ {M F Z S : Type 0} (meanings : Meanings M F Z S) where
   module _ (nodes : List (Expression M F Z)) where
     -- From which expressions the tasks of one come. Values are read only where they choose.
     abbrev pub carrier : Expression M F Z → Rule Produced
-    carrier (Constant value) = Answers (Tasks (tasks_of value))
+    carrier (Constant value) = Answers (Tasks (constant_tasks value))
     carrier (OfProperty property) = carry_property property.setting property.convention
     carrier (OfOutput output) = Answers (Tasks (output.chosen.task ∷ []))
     carrier (Listed operands) = carry_all [] operands
@@ -106,7 +111,7 @@ module _ {M F Z S : Type 0} (meanings : Meanings M F Z S) where
       -- the expression has them from itself, or from one that is chosen by a value without end
       abbrev pub IsEndless : List (List ℕ) → Type 0
       IsEndless names =
-          ((produced_by ≡ None) × ((circle : List ℕ) × IsCircle carriers entry circle × IsFromLeast (names_on nodes circle) names))
+          ((produced_by ≡ None) × ((circle : List ℕ) × IsCircle carriers entry circle × IsLeastRound (names_on nodes circle) names))
           ⊎ ((chooser : ℕ) × (produced_by ≡ Some (Endless chooser)) × IsFault meanings nodes chooser (providers.Circular names))
 
       -- `producers`: the tasks, or the fault of a value that has to choose

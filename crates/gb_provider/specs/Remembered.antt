@@ -1,5 +1,5 @@
 -- What providers remember of the answers that they gave.
-use Rattle.std.specs.Prelude.{◌≡◌, ◌≤◌, List, length, All, Option, Some, None, Result, Ok, Err}
+use Rattle.std.specs.Prelude.{◌≡◌, ◌≤◌, ◌⊎◌, ℕ, List, [], length, All, Option, Some, None, Result, Ok, Err}
 use Rattle.gb_core.specs.declared.value.Value.{Value}
 use Rattle.gb_provider.specs.declared.fault.ProviderFault.{ProviderFault}
 use Rattle.gb_provider.specs.declared.fault.ProviderFault.TheVariants as faults
@@ -9,7 +9,7 @@ use Rattle.gb_provider.specs.declared.expression.Outcome.TheVariants.{Given, Abs
 use Rattle.gb_provider.specs.declared.reading.State.{State}
 use Rattle.gb_provider.specs.Rounds.{Rule}
 use Rattle.gb_provider.specs.Rules.{OperandsWithin}
-use Rattle.gb_provider.specs.Search.{IsSound}
+use Rattle.gb_provider.specs.Search.{IsSound, known}
 
 -- each operand is an expression of the table
 abbrev pub AreWithin : {M F Z : Type 0} → List (Expression M F Z) → Type 0
@@ -18,6 +18,10 @@ AreWithin nodes = All (λ node. OperandsWithin (length nodes) node) nodes
 -- the first expressions have states, and each answer that is known is right
 abbrev pub IsRemembered : {A : Type 0} → List (Rule A) → List (State A) → Type 0
 IsRemembered rules states = (length states ≤ length rules) × IsSound rules states
+
+-- all answers are forgotten, unless that of an entry is not known: then they stay
+abbrev pub IsForgotten : {A : Type 0} → ℕ → List (State A) → List (State A) → Type 0
+IsForgotten entry old new = (new ≡ []) ⊎ ((new ≡ old) × (known old entry ≡ None))
 
 -- how an answer is told
 abbrev pub IsTold : Option Outcome → Result (Option Value) ProviderFault → Type 0

@@ -1,5 +1,5 @@
 -- How an expression is evaluated.
-use Rattle.std.specs.Prelude.{◌≡◌, ℕ, ◌<◌, List, [], ◌∷◌, ◌++◌, Bool, false, ◌&&◌, Option, Some, None, Result, Ok, Err, position, map, codes, All}
+use Rattle.std.specs.Prelude.{◌≡◌, ℕ, ◌<◌, List, [], ◌∷◌, ◌++◌, Bool, true, false, ◌&&◌, Option, Some, None, Result, Ok, Err, position, map, codes, All}
 use Rattle.std.specs.Str.{bytes_eq}
 use Rattle.gb_core.specs.declared.value.Value.{Value}
 use Rattle.gb_core.specs.declared.value.Value.TheVariants as values
@@ -33,6 +33,11 @@ abbrev pub RefusedAs : List ℕ → TransformFault → ValueFault → Type 0
 RefusedAs function (thrown.Refused refusal) fault = fault ≡ faults.Refused function refusal
 RefusedAs function thrown.OutOfMemory fault = ⊥
 
+-- a value, or nothing
+abbrev pub constant : Option Value → Outcome
+constant (Some value) = Given value
+constant None = Absent
+
 -- the answer of another expression
 abbrev pub follow : ℕ → Rule Outcome
 follow operand = Reads operand Answers
@@ -55,18 +60,24 @@ abbrev pub output_rule : Chosen → Option ℕ → Rule Outcome
 output_rule chosen (Some source) = follow source
 output_rule chosen None = Answers (Refused (faults.Unrealised chosen))
 
--- an element of a list has to be a text
-abbrev pub on_text : (List ℕ → Rule Outcome) → Value → Rule Outcome
-on_text go_on (values.Text text) = go_on text
-on_text go_on (values.Flag flag) = Answers (refused (codes "list") WrongValue)
-on_text go_on (values.List texts) = Answers (refused (codes "list") WrongValue)
-on_text go_on (values.Place place) = Answers (refused (codes "list") WrongValue)
-on_text go_on (values.Task task) = Answers (refused (codes "list") WrongValue)
+-- what follows where an element of a list is a text, and where it is another value
+abbrev pub on_text : (List ℕ → Rule Outcome) → Rule Outcome → Value → Rule Outcome
+on_text go_on other (values.Text text) = go_on text
+on_text go_on other (values.Flag flag) = other
+on_text go_on other (values.List texts) = other
+on_text go_on other (values.Place place) = other
+on_text go_on other (values.Task task) = other
 
--- A list: the texts of its elements from the left, behind those already there.
-abbrev pub list_rule : List (List ℕ) → List ℕ → Rule Outcome
-list_rule texts [] = Answers (Given (values.List texts))
-list_rule texts (operand ∷ operands) = Reads operand (on_value (on_text (λ text. list_rule (texts ++ text ∷ []) operands)))
+-- the list of the texts, unless an element was none
+abbrev pub listed : Bool → List (List ℕ) → Outcome
+listed false texts = Given (values.List texts)
+listed true texts = refused (codes "list") WrongValue
+
+-- A list: each element is read, and the first that is no value decides; then 34 where one is no text.
+abbrev pub list_rule : Bool → List (List ℕ) → List ℕ → Rule Outcome
+list_rule is_wrong texts [] = Answers (listed is_wrong texts)
+list_rule is_wrong texts (operand ∷ operands) =
+    Reads operand (on_value (on_text (λ text. list_rule is_wrong (texts ++ text ∷ []) operands) (list_rule true texts operands)))
 
 abbrev pub mapped : List ℕ → Result (Option Value) Refusal → Outcome
 mapped function (Ok (Some value)) = Given value
@@ -122,10 +133,10 @@ module _ {M F Z S : Type 0} (meanings : Meanings M F Z S) where
 
   -- How an expression of a table is evaluated.
   abbrev pub rule : List (Expression M F Z) → Expression M F Z → Rule Outcome
-  rule nodes (Constant value) = Answers (Given value)
+  rule nodes (Constant value) = Answers (constant value)
   rule nodes (OfProperty property) = property_rule property.setting property.convention
   rule nodes (OfOutput output) = output_rule output.chosen output.declared
-  rule nodes (Listed operands) = list_rule [] operands
+  rule nodes (Listed operands) = list_rule false [] operands
   rule nodes (Mapped source call) = map_rule source call
   rule nodes (FlatMapped source call) = flat_map_rule nodes source call
   rule nodes (Zipped left right call) = zip_rule left right call

@@ -1,6 +1,5 @@
 -- A search for the answer of one entry.
 use Rattle.std.specs.Prelude.{◌≡◌, ◌≢◌, ℕ, ◌+◌, ◌<◌, List, length, Option, Some, None, Result, Ok, Err, Vec, slice_get, slice_index, sum_by, Bool, true, false, IsTrue}
-use Rattle.gb_core.specs.declared.value.Value.TheVariants as values
 use Rattle.gb_provider.specs.declared.expression.Outcome.{Outcome}
 use Rattle.gb_provider.specs.declared.expression.Outcome.TheVariants.{Given, Absent, Refused}
 use Rattle.gb_provider.specs.declared.produced.Produced.{Produced}
@@ -39,10 +38,16 @@ pub record WaitsFor {A : Type 0} (rules : List (Rule A)) (f : ℕ → Option A) 
 abbrev pub IsLook : {A : Type 0} → List (Rule A) → (ℕ → Option A) → ℕ → Reading A → Type 0
 IsLook {A} rules f entry found = (rule : Rule A) × (slice_get rules entry ≡ Some rule) × (found ≡ reading f rule)
 
--- what is known is right, and the open entries are a path on which each waits for the next
+-- each answer that is known follows from others that are known
+abbrev pub AreSettled : {A : Type 0} → List (Rule A) → List (State A) → Type 0
+AreSettled {A} rules states =
+    (e : ℕ) (a : A) → known states e ≡ Some a → (rule : Rule A) × (slice_get rules e ≡ Some rule) × (reading (known states) rule ≡ Settles a)
+
+-- what is known is right and rests on what is known, and the open entries are a path on which each waits for the next
 pub record IsSearch {A : Type 0} (rules : List (Rule A)) (entry : ℕ) (states : List (State A)) (path : List ℕ) : Type 0 where
   pub same : length states ≡ length rules
   pub right : (e : ℕ) (a : A) → known states e ≡ Some a → answer rules e ≡ Some a
+  pub settled : AreSettled rules states
   pub first : 0 < length path → slice_index path 0 ≡ entry
   pub done : length path ≡ 0 → (a : A) × (known states entry ≡ Some a)
   pub opened : (k : ℕ) → k < length path → slice_get states (slice_index path k) ≡ Some Open
@@ -50,9 +55,10 @@ pub record IsSearch {A : Type 0} (rules : List (Rule A)) (entry : ℕ) (states :
   pub different : (i j : ℕ) → i < j → j < length path → slice_index path i ≢ slice_index path j
   pub listed : (e : ℕ) → slice_get states e ≡ Some Open → (k : ℕ) × (k < length path) × (slice_index path k ≡ e)
 
--- what is known is right, and no entry is being evaluated
+-- what is known is right and rests on what is known, and no entry is being evaluated
 pub record IsSound {A : Type 0} (rules : List (Rule A)) (states : List (State A)) : Type 0 where
   pub right : (e : ℕ) (a : A) → known states e ≡ Some a → answer rules e ≡ Some a
+  pub settled : AreSettled rules states
   pub closed : (e : ℕ) → slice_get states e ≢ Some Open
 
 -- what an evaluation of an entry comes to: its answer is known, or it runs into a circle
@@ -89,16 +95,12 @@ IsPastAt {A} rules f entry n = (rule : Rule A) → slice_get rules entry ≡ Som
 abbrev pub AreBefore : (ℕ → Bool) → List ℕ → ℕ → Type 0
 AreBefore passes operands n = (i : ℕ) → i < n → i < length operands → IsTrue (passes (slice_index operands i))
 
--- an answer that is a text
-abbrev pub is_text : Option Outcome → Bool
-is_text (Some (Given (values.Text text))) = true
-is_text (Some (Given (values.Flag flag))) = false
-is_text (Some (Given (values.List texts))) = false
-is_text (Some (Given (values.Place place))) = false
-is_text (Some (Given (values.Task task))) = false
-is_text (Some Absent) = false
-is_text (Some (Refused fault)) = false
-is_text None = false
+-- an answer that is a value
+abbrev pub is_given : Option Outcome → Bool
+is_given (Some (Given value)) = true
+is_given (Some Absent) = false
+is_given (Some (Refused fault)) = false
+is_given None = false
 
 -- an answer that has tasks
 abbrev pub has_tasks : Option Produced → Bool

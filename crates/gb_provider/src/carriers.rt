@@ -2,12 +2,12 @@
 ghost use Rattle.std.specs.Prelude.{◌≡◌, ◌<◌, [], ◌∷◌, length, slice_index, false, IfOk, All};
 ghost use Rattle.gb_provider.specs.Answers.{value_of};
 ghost use Rattle.gb_provider.specs.Meanings.{meaning_of};
-ghost use Rattle.gb_provider.specs.Produced.{carry, carry_all, carry_property, carry_side, carrier, choose_tasks, chosen_tasks, tasks_of};
+ghost use Rattle.gb_provider.specs.Produced.{carry, carry_all, carry_property, carry_side, carrier, choose_tasks, chosen_tasks, constant_tasks, tasks_of};
 ghost use Rattle.gb_provider.specs.Rounds.{reading};
 ghost use Rattle.gb_provider.specs.Rules.{OperandsWithin, PlaceWithin, SettingWithin};
 ghost use Rattle.gb_provider.specs.Search.{AreBefore, IsPast, has_tasks, known, WaitsWithin};
 
-use crate::evaluate::{known_at, refused_by};
+use crate::evaluate::{known_at, refused_by, shared_at};
 use crate::expression::{Call, Expression, Outcome, Property, Setting};
 use crate::expressions::Outputs;
 use crate::fault::{Chosen, TransformFault};
@@ -15,11 +15,19 @@ use crate::produced::{Produced, TaskPaths};
 use crate::reading::{Look, Reading, State};
 use crate::recall::recall_outcome;
 use crate::search::Entries;
+use crate::shared::Shared;
 use crate::transforms::Transforms;
 use gb_core::path::TaskPath;
 use gb_core::value::Value;
 use std::alloc::{AllocError, Global};
 use std::marker::Model;
+
+// That an expression has these.
+fn settle(alloc: Global, found: Produced) -> Result<Reading<Shared<Produced>>, AllocError>
+    ensures { IfOk result (λ settled. settled ≡ Reading.Settles found) }
+{
+    Ok(Reading::Settles(Shared::new(alloc, found)?))
+}
 
 // One task alone.
 fn one_task(alloc: Global, task: &TaskPath) -> Result<Produced, AllocError>
@@ -39,27 +47,46 @@ fn tasks_of(alloc: Global, value: &Value) -> Result<Produced, AllocError>
     }
 }
 
+// Those of a constant.
+fn carry_constant(
+    alloc: Global,
+    value: &Option<Value>,
+) -> Result<Reading<Shared<Produced>>, AllocError>
+    ensures { IfOk result (λ found. found ≡ Reading.Settles (Produced.Tasks (constant_tasks value.now))) }
+{
+    match value {
+        Some(value) => settle(alloc, tasks_of(alloc, value)?),
+        None => settle(alloc, Produced::Tasks(TaskPaths::new(alloc))),
+    }
+}
+
+// The task of an output.
+fn carry_output(alloc: Global, task: &TaskPath) -> Result<Reading<Shared<Produced>>, AllocError>
+    ensures { IfOk result (λ found. found ≡ Reading.Settles (Produced.Tasks (task.now ∷ []))) }
+{
+    settle(alloc, one_task(alloc, task)?)
+}
+
 // Those of another expression.
 fn carry(
-    alloc: Global,
-    states: &[State<Produced>],
+    states: &[State<Shared<Produced>>],
     operand: usize,
-) -> Result<Reading<Produced>, AllocError>
+) -> Result<Reading<Shared<Produced>>, AllocError>
     requires { operand < length states.now }
     ensures reads { IfOk result (λ found. found ≡ reading (known states.now) (carry operand)) }
     ensures within { IfOk result (λ found. WaitsWithin (length states.now) found) }
 {
-    match known_at(states, operand) {
+    match shared_at(states, operand) {
         None => Ok(Reading::Waits(operand)),
-        Some(produced) => Ok(Reading::Settles(produced.copy(alloc)?)),
+        Some(answer) => Ok(Reading::Settles(answer.share()?)),
     }
 }
 
 fn carry_all(
     alloc: Global,
-    states: &[State<Produced>],
+    states: &[State<Shared<Produced>>],
     operands: &[usize],
-) -> Result<Reading<Produced>, AllocError>
+) -> Result<Reading<Shared<Produced>>, AllocError>
     requires { All (λ operand. operand < length states.now) operands.now }
     ensures reads { IfOk result (λ found. found ≡ reading (known states.now) (carry_all [] operands.now)) }
     ensures within { IfOk result (λ found. WaitsWithin (length states.now) found) }
@@ -69,14 +96,14 @@ fn carry_all(
         match known_at(states, *operand) {
             None => return Ok(Reading::Waits(*operand)),
             Some(Produced::Tasks(more)) => tasks.extend(more)?,
-            Some(other) => return Ok(Reading::Settles(other.copy(alloc)?)),
+            Some(_) => return carry(states, *operand),
         }
     }
-    Ok(Reading::Settles(Produced::Tasks(tasks)))
+    settle(alloc, Produced::Tasks(tasks))
 }
 
 // Whether the tasks of an operand are known.
-fn has_tasks(states: &[State<Produced>], operand: usize) -> bool
+fn has_tasks(states: &[State<Shared<Produced>>], operand: usize) -> bool
     requires { operand < length states.now }
     ensures { result ≡ has_tasks (known states.now operand) }
 {
@@ -87,7 +114,7 @@ fn has_tasks(states: &[State<Produced>], operand: usize) -> bool
 }
 
 // The first operand from here on whose tasks are not known.
-fn past_tasks(states: &[State<Produced>], operands: &[usize], from: usize) -> usize
+fn past_tasks(states: &[State<Shared<Produced>>], operands: &[usize], from: usize) -> usize
     requires operands { All (λ operand. operand < length states.now) operands.now }
     requires before { AreBefore (λ operand. has_tasks (known states.now operand)) operands.now from }
     ensures before { AreBefore (λ operand. has_tasks (known states.now operand)) operands.now result }
@@ -103,10 +130,10 @@ fn past_tasks(states: &[State<Produced>], operands: &[usize], from: usize) -> us
 // One look at operands, the tasks of whose first ones are known.
 fn look_all(
     alloc: Global,
-    states: &[State<Produced>],
+    states: &[State<Shared<Produced>>],
     operands: &[usize],
     past: usize,
-) -> Result<Look<Produced>, AllocError>
+) -> Result<Look<Shared<Produced>>, AllocError>
     requires operands { All (λ operand. operand < length states.now) operands.now }
     requires past { IsPast (known states.now) past (carry_all [] operands.now) }
     ensures reads { IfOk result (λ found. found.reading ≡ reading (known states.now) (carry_all [] operands.now)) }
@@ -126,20 +153,20 @@ fn look_all(
 
 fn carry_property(
     alloc: Global,
-    states: &[State<Produced>],
+    states: &[State<Shared<Produced>>],
     property: &Property,
-) -> Result<Reading<Produced>, AllocError>
+) -> Result<Reading<Shared<Produced>>, AllocError>
     requires setting { SettingWithin (length states.now) property.now.setting }
     requires convention { PlaceWithin (length states.now) property.now.convention }
     ensures reads { IfOk result (λ found. found ≡ reading (known states.now) (carry_property property.now.setting property.now.convention)) }
     ensures within { IfOk result (λ found. WaitsWithin (length states.now) found) }
 {
     match &property.setting {
-        Some(Setting::Held(value)) => Ok(Reading::Settles(tasks_of(alloc, value)?)),
-        Some(Setting::Followed(source)) => carry(alloc, states, *source),
+        Some(Setting::Held(value)) => settle(alloc, tasks_of(alloc, value)?),
+        Some(Setting::Followed(source)) => carry(states, *source),
         None => match property.convention {
-            Some(source) => carry(alloc, states, source),
-            None => Ok(Reading::Settles(Produced::Tasks(TaskPaths::new(alloc)))),
+            Some(source) => carry(states, source),
+            None => settle(alloc, Produced::Tasks(TaskPaths::new(alloc))),
         },
     }
 }
@@ -147,21 +174,23 @@ fn carry_property(
 // Those of the side that the outcome of the left takes.
 fn carry_side(
     alloc: Global,
-    states: &[State<Produced>],
+    states: &[State<Shared<Produced>>],
     left: usize,
     right: usize,
-    chooser: Option<Outcome>,
-) -> Result<Reading<Produced>, AllocError>
+    chooser: Option<Shared<Outcome>>,
+) -> Result<Reading<Shared<Produced>>, AllocError>
     requires left { left < length states.now }
     requires right { right < length states.now }
     ensures reads { IfOk result (λ found. found ≡ reading (known states.now) (carry_side left right chooser)) }
     ensures within { IfOk result (λ found. WaitsWithin (length states.now) found) }
 {
-    match chooser {
-        Some(Outcome::Given(_)) => carry(alloc, states, left),
-        Some(Outcome::Absent) => carry(alloc, states, right),
-        Some(Outcome::Refused(fault)) => Ok(Reading::Settles(Produced::Refused(fault))),
-        None => Ok(Reading::Settles(Produced::Endless(left))),
+    match &chooser {
+        Some(outcome) => match outcome.get() {
+            Outcome::Given(_) => carry(states, left),
+            Outcome::Absent => carry(states, right),
+            Outcome::Refused(fault) => settle(alloc, Produced::Refused(fault.copy()?)),
+        },
+        None => settle(alloc, Produced::Endless(left)),
     }
 }
 
@@ -184,14 +213,16 @@ fn choose_tasks<T: Transforms>(
     alloc: Global,
     source: usize,
     call: &Call<T::FlatMap>,
-    chooser: Option<Outcome>,
+    chooser: Option<Shared<Outcome>>,
 ) -> Result<Produced, AllocError>
     ensures { IfOk result (λ found. found ≡ choose_tasks T.meanings source call.now chooser) }
 {
-    match chooser {
-        Some(Outcome::Given(value)) => apply::<T>(alloc, call, &value),
-        Some(Outcome::Absent) => Ok(Produced::Tasks(TaskPaths::new(alloc))),
-        Some(Outcome::Refused(fault)) => Ok(Produced::Refused(fault)),
+    match &chooser {
+        Some(outcome) => match outcome.get() {
+            Outcome::Given(value) => apply::<T>(alloc, call, value),
+            Outcome::Absent => Ok(Produced::Tasks(TaskPaths::new(alloc))),
+            Outcome::Refused(fault) => Ok(Produced::Refused(fault.copy()?)),
+        },
         None => Ok(Produced::Endless(source)),
     }
 }
@@ -202,7 +233,7 @@ pub(crate) struct TaskReader<'b, 'a, T: Transforms> {
     pub alloc: Global,
     pub nodes: &'b [Expression<'a, T::Map, T::FlatMap, T::Zip>],
     pub outputs: &'b Outputs,
-    pub values: Vec<State<Outcome>>,
+    pub values: Vec<State<Shared<Outcome>>>,
 }
 
 impl<'b, 'a, T: Transforms> Model for TaskReader<'b, 'a, T> {
@@ -221,7 +252,7 @@ impl<'b, 'a, T: Transforms> Model for TaskReader<'b, 'a, T> {
 
 impl<'b, 'a, T: Transforms> TaskReader<'b, 'a, T> {
     // What an expression comes to that has to choose; nothing where it runs into a circle.
-    fn value_of(&mut self, at: usize) -> Result<Option<Outcome>, AllocError>
+    fn value_of(&mut self, at: usize) -> Result<Option<Shared<Outcome>>, AllocError>
         requires { at < length self.old }
         ensures value { IfOk result (λ found. found ≡ value_of T.meanings self.old at) }
         ensures kept { self.new ≡ self.old }
@@ -230,12 +261,46 @@ impl<'b, 'a, T: Transforms> TaskReader<'b, 'a, T> {
         recall_outcome::<T>(self.alloc, nodes, self.outputs, &mut self.values, at)
     }
 
+    // The tasks of what the value of a source chooses.
+    fn read_choice(
+        &mut self,
+        source: usize,
+        call: &Call<'a, T::FlatMap>,
+    ) -> Result<Reading<Shared<Produced>>, AllocError>
+        requires { source < length self.old }
+        ensures reads { IfOk result (λ found. found ≡ Reading.Settles (choose_tasks T.meanings source call.now (value_of T.meanings self.old source))) }
+        ensures kept { self.new ≡ self.old }
+    {
+        let alloc = self.alloc;
+        let chooser = self.value_of(source)?;
+        settle(alloc, choose_tasks::<T>(alloc, source, call, chooser)?)
+    }
+
+    // Those of the side that the value of the left takes.
+    fn read_side(
+        &mut self,
+        states: &[State<Shared<Produced>>],
+        left: usize,
+        right: usize,
+    ) -> Result<Reading<Shared<Produced>>, AllocError>
+        requires states { length states.now ≡ length self.old }
+        requires left { left < length self.old }
+        requires right { right < length self.old }
+        ensures reads { IfOk result (λ found. found ≡ reading (known states.now) (carry_side left right (value_of T.meanings self.old left))) }
+        ensures within { IfOk result (λ found. WaitsWithin (length states.now) found) }
+        ensures kept { self.new ≡ self.old }
+    {
+        let alloc = self.alloc;
+        let chooser = self.value_of(left)?;
+        carry_side(alloc, states, left, right, chooser)
+    }
+
     // One look at an expression whose operands are not many.
     fn read(
         &mut self,
-        states: &[State<Produced>],
+        states: &[State<Shared<Produced>>],
         node: &Expression<'a, T::Map, T::FlatMap, T::Zip>,
-    ) -> Result<Reading<Produced>, AllocError>
+    ) -> Result<Reading<Shared<Produced>>, AllocError>
         requires states { length states.now ≡ length self.old }
         requires within { OperandsWithin (length self.old) node.now }
         ensures reads { IfOk result (λ found. found ≡ reading (known states.now) (carrier T.meanings self.old node.now)) }
@@ -244,32 +309,24 @@ impl<'b, 'a, T: Transforms> TaskReader<'b, 'a, T> {
     {
         let alloc = self.alloc;
         match node {
-            Expression::Constant(value) => Ok(Reading::Settles(tasks_of(alloc, value)?)),
+            Expression::Constant(value) => carry_constant(alloc, value),
             Expression::OfProperty(property) => carry_property(alloc, states, property),
-            Expression::OfOutput(output) => {
-                Ok(Reading::Settles(one_task(alloc, &output.chosen.task)?))
-            }
+            Expression::OfOutput(output) => carry_output(alloc, &output.chosen.task),
             Expression::Listed(operands) => carry_all(alloc, states, operands.as_slice()),
-            Expression::Mapped(source, _) => carry(alloc, states, *source),
-            Expression::FlatMapped(source, call) => {
-                let chooser = self.value_of(*source)?;
-                Ok(Reading::Settles(choose_tasks::<T>(alloc, *source, call, chooser)?))
-            }
+            Expression::Mapped(source, _) => carry(states, *source),
+            Expression::FlatMapped(source, call) => self.read_choice(*source, call),
             Expression::Zipped(left, right, _) => carry_all(alloc, states, &[*left, *right]),
-            Expression::OrElse(left, right) => {
-                let chooser = self.value_of(*left)?;
-                carry_side(alloc, states, *left, *right, chooser)
-            }
+            Expression::OrElse(left, right) => self.read_side(states, *left, *right),
         }
     }
 
     // One look at an expression, from behind its first operands on.
     fn look_at(
         &mut self,
-        states: &[State<Produced>],
+        states: &[State<Shared<Produced>>],
         node: &Expression<'a, T::Map, T::FlatMap, T::Zip>,
         past: usize,
-    ) -> Result<Look<Produced>, AllocError>
+    ) -> Result<Look<Shared<Produced>>, AllocError>
         requires states { length states.now ≡ length self.old }
         requires within { OperandsWithin (length self.old) node.now }
         requires past { IsPast (known states.now) past (carrier T.meanings self.old node.now) }
@@ -290,16 +347,16 @@ impl<'b, 'a, T: Transforms> TaskReader<'b, 'a, T> {
 impl<'b, 'a, T: Transforms> Entries for TaskReader<'b, 'a, T> {
     ghost use Rattle.gb_provider.specs.Produced.{carriers};
 
-    type Answer = Produced;
+    type Answer = Shared<Produced>;
 
     ghost rules = { λ nodes. carriers T.meanings nodes };
 
     fn look(
         &mut self,
-        states: &[State<Produced>],
+        states: &[State<Shared<Produced>>],
         at: usize,
         past: usize,
-    ) -> Result<Look<Produced>, AllocError> {
+    ) -> Result<Look<Shared<Produced>>, AllocError> {
         let nodes = self.nodes;
         self.look_at(states, &nodes[at], past)
     }

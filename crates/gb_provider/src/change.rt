@@ -1,12 +1,10 @@
 //! Changes of properties.
-ghost use Rattle.std.specs.Prelude.{◌≡◌, ◌≢◌, ◌<◌, length, None, Some, slice_set, slice_get, false};
-ghost use Rattle.std.specs.Bool.{OnTrue, OnFalse};
-ghost use Rattle.gb_provider.specs.Changes.{changed, open_property, AreChanged};
+ghost use Rattle.std.specs.Prelude.{◌≡◌};
+ghost use Rattle.gb_provider.specs.Changes.{changed, takes, IsNodeChanged, IsNodeDeclared};
 
 use crate::expression::{Expression, Property, Setting};
 use crate::fault::Final;
 use gb_core::value::Value;
-use std::mem;
 
 /// A change of a property.
 #[derive(Drop)]
@@ -18,79 +16,53 @@ pub enum Change {
     Finalize,
 }
 
-fn apply(change: Change, property: Property) -> Property
-    ensures { result ≡ changed change property }
+fn apply(change: Change, property: &mut Property)
+    ensures { property.new ≡ changed change property.old }
 {
-    let mut changed = property;
     match change {
-        Change::Set(value) => changed.setting = Some(Setting::Held(value)),
-        Change::SetFrom(source) => changed.setting = Some(Setting::Followed(source)),
-        Change::Unset => changed.setting = None,
-        Change::Convention(source) => changed.convention = Some(source),
-        Change::Finalize => changed.is_final = true,
-    }
-    changed
-}
-
-/// Replaces an expression.
-pub(crate) fn put<'a, M: Drop, F: Drop, Z: Drop>(
-    nodes: &mut Vec<Expression<'a, M, F, Z>>,
-    at: usize,
-    node: Expression<'a, M, F, Z>,
-)
-    requires { at < length nodes.old.items }
-    ensures { nodes.new.items ≡ slice_set nodes.old.items at node.entry }
-{
-    nodes[at] = node;
-}
-
-// Whether it is a property that is not final.
-fn is_changeable<M, F, Z>(node: &Expression<M, F, Z>) -> bool
-    ensures yes { OnTrue result (open_property (Some node.now) ≢ None) }
-    ensures no { OnFalse result (open_property (Some node.now) ≡ None) }
-{
-    match node {
-        Expression::OfProperty(property) => !property.is_final,
-        Expression::Constant(_) => false,
-        Expression::OfOutput(_) => false,
-        Expression::Listed(_) => false,
-        Expression::Mapped(_, _) => false,
-        Expression::FlatMapped(_, _) => false,
-        Expression::Zipped(_, _, _) => false,
-        Expression::OrElse(_, _) => false,
+        Change::Set(value) => property.setting = Some(Setting::Held(value)),
+        Change::SetFrom(source) => property.setting = Some(Setting::Followed(source)),
+        Change::Unset => property.setting = None,
+        Change::Convention(source) => property.convention = Some(source),
+        Change::Finalize => property.is_final = true,
     }
 }
 
-// The property at a place, out of it.
-fn take_property<M: Drop, F: Drop, Z: Drop>(
-    nodes: &mut Vec<Expression<M, F, Z>>,
-    at: usize,
-) -> Property
-    requires within { at < length nodes.old.items }
-    requires open { open_property (slice_get nodes.old.items at) ≢ None }
-    ensures taken { open_property (slice_get nodes.old.items at) ≡ Some result }
-    ensures left { nodes.new.items ≡ slice_set nodes.old.items at (Expression.Constant (Value.Flag false)) }
+// Whether a property takes a change: a final one only to be final.
+fn takes(change: &Change, is_final: bool) -> bool
+    ensures { result ≡ takes change.now is_final }
 {
-    match mem::replace(&mut nodes[at], Expression::Constant(Value::Flag(false))) {
-        Expression::OfProperty(property) => property,
-        _ => unreachable!(),
+    match change {
+        Change::Finalize => true,
+        _ => !is_final,
     }
 }
 
-/// Changes a property that is not final.
-pub(crate) fn change_property<M: Drop, F: Drop, Z: Drop>(
-    nodes: &mut Vec<Expression<M, F, Z>>,
-    at: usize,
+/// Changes a property that takes the change.
+pub(crate) fn change_property<M, F, Z>(
+    node: &mut Expression<M, F, Z>,
     change: Change,
 ) -> Result<(), Final>
-    requires { at < length nodes.old.items }
-    ensures { AreChanged change nodes.old.items at nodes.new.items result }
+    ensures { IsNodeChanged change node.old node.new result }
 {
-    if !is_changeable(&nodes[at]) {
-        return Err(Final);
+    match node {
+        Expression::OfProperty(property) => {
+            if !takes(&change, property.is_final) {
+                return Err(Final);
+            }
+            apply(change, property);
+            Ok(())
+        }
+        _ => Err(Final),
     }
-    let property = take_property(nodes, at);
-    let changed = apply(change, property);
-    put(nodes, at, Expression::OfProperty(changed));
-    Ok(())
+}
+
+/// Declares an output as this expression.
+pub(crate) fn declare<M, F, Z>(node: &mut Expression<M, F, Z>, source: usize)
+    ensures { IsNodeDeclared source node.old node.new }
+{
+    match node {
+        Expression::OfOutput(output) => output.declared = Some(source),
+        _ => {}
+    }
 }

@@ -4,8 +4,8 @@ ghost use Rattle.std.specs.Option.{option_copied};
 ghost use Rattle.gb_provider.specs.Indexed.{IsIndexed};
 ghost use Rattle.gb_provider.specs.Meanings.{meaning_of};
 ghost use Rattle.gb_provider.specs.Rounds.{reading, Reads};
-ghost use Rattle.gb_provider.specs.Rules.{PlaceWithin, OperandsWithin, rule, follow, or_else, property_rule, SettingWithin, output_rule, mapped, zipped, chosen_rule, map_rule, flat_map_rule, zip_rule, list_rule, refused, RefusedAs};
-ghost use Rattle.gb_provider.specs.Search.{AreBefore, IsPast, is_text, known, WaitsWithin};
+ghost use Rattle.gb_provider.specs.Rules.{PlaceWithin, OperandsWithin, rule, constant, follow, or_else, property_rule, SettingWithin, output_rule, mapped, zipped, chosen_rule, map_rule, flat_map_rule, zip_rule, list_rule, refused, RefusedAs};
+ghost use Rattle.gb_provider.specs.Search.{AreBefore, IsPast, is_given, known, WaitsWithin};
 ghost use Rattle.gb_provider.specs.declared.fault.Refusal.TheVariants.{WrongValue};
 
 use crate::expression::{Call, Expression, Outcome, Property, Setting};
@@ -13,14 +13,15 @@ use crate::expressions::{Outputs, place_of};
 use crate::fault::{Chosen, Refusal, TransformFault, ValueFault};
 use crate::reading::{Look, Reading, State};
 use crate::search::Entries;
+use crate::shared::Shared;
 use crate::transforms::Transforms;
 use gb_core::text::{Text, Texts};
 use gb_core::value::Value;
 use std::alloc::{AllocError, Global};
 use std::marker::Model;
 
-// The answer of an entry, where it is known.
-pub(crate) fn known_at<A>(states: &[State<A>], at: usize) -> Option<&A>
+// The answer of an entry, to be shared, where it is known.
+pub(crate) fn shared_at<A>(states: &[State<A>], at: usize) -> Option<&A>
     requires { at < length states.now }
     ensures { option_copied result ≡ known states.now at }
 {
@@ -30,28 +31,57 @@ pub(crate) fn known_at<A>(states: &[State<A>], at: usize) -> Option<&A>
     }
 }
 
+// The answer of an entry, where it is known.
+pub(crate) fn known_at<A: Drop>(states: &[State<Shared<A>>], at: usize) -> Option<&A>
+    requires { at < length states.now }
+    ensures { option_copied result ≡ known states.now at }
+{
+    match shared_at(states, at) {
+        Some(answer) => Some(answer.get()),
+        None => None,
+    }
+}
+
+// That an expression comes to this.
+fn settle(alloc: Global, outcome: Outcome) -> Result<Reading<Shared<Outcome>>, AllocError>
+    ensures { IfOk result (λ found. found ≡ Reading.Settles outcome) }
+{
+    Ok(Reading::Settles(Shared::new(alloc, outcome)?))
+}
+
+// A value, or nothing.
+fn read_constant(
+    alloc: Global,
+    value: &Option<Value>,
+) -> Result<Reading<Shared<Outcome>>, AllocError>
+    ensures { IfOk result (λ found. found ≡ Reading.Settles (constant value.now)) }
+{
+    match value {
+        Some(value) => settle(alloc, Outcome::Given(value.copy(alloc)?)),
+        None => settle(alloc, Outcome::Absent),
+    }
+}
+
 // What an operand gives.
 fn follow(
-    alloc: Global,
-    states: &[State<Outcome>],
+    states: &[State<Shared<Outcome>>],
     operand: usize,
-) -> Result<Reading<Outcome>, AllocError>
+) -> Result<Reading<Shared<Outcome>>, AllocError>
     requires { operand < length states.now }
     ensures reads { IfOk result (λ found. found ≡ reading (known states.now) (follow operand)) }
     ensures within { IfOk result (λ found. WaitsWithin (length states.now) found) }
 {
-    match known_at(states, operand) {
+    match shared_at(states, operand) {
         None => Ok(Reading::Waits(operand)),
-        Some(outcome) => Ok(Reading::Settles(outcome.copy(alloc)?)),
+        Some(answer) => Ok(Reading::Settles(answer.share()?)),
     }
 }
 
 fn read_or_else(
-    alloc: Global,
-    states: &[State<Outcome>],
+    states: &[State<Shared<Outcome>>],
     left: usize,
     right: usize,
-) -> Result<Reading<Outcome>, AllocError>
+) -> Result<Reading<Shared<Outcome>>, AllocError>
     requires left { left < length states.now }
     requires right { right < length states.now }
     ensures reads { IfOk result (λ found. found ≡ reading (known states.now) (Reads left (or_else right))) }
@@ -59,27 +89,27 @@ fn read_or_else(
 {
     match known_at(states, left) {
         None => Ok(Reading::Waits(left)),
-        Some(Outcome::Absent) => follow(alloc, states, right),
-        Some(outcome) => Ok(Reading::Settles(outcome.copy(alloc)?)),
+        Some(Outcome::Absent) => follow(states, right),
+        Some(_) => follow(states, left),
     }
 }
 
 fn read_property(
     alloc: Global,
-    states: &[State<Outcome>],
+    states: &[State<Shared<Outcome>>],
     property: &Property,
-) -> Result<Reading<Outcome>, AllocError>
+) -> Result<Reading<Shared<Outcome>>, AllocError>
     requires setting { SettingWithin (length states.now) property.now.setting }
     requires convention { PlaceWithin (length states.now) property.now.convention }
     ensures reads { IfOk result (λ found. found ≡ reading (known states.now) (property_rule property.now.setting property.now.convention)) }
     ensures within { IfOk result (λ found. WaitsWithin (length states.now) found) }
 {
     match &property.setting {
-        Some(Setting::Held(value)) => { Ok(Reading::Settles(Outcome::Given(value.copy(alloc)?))) }
-        Some(Setting::Followed(source)) => follow(alloc, states, *source),
+        Some(Setting::Held(value)) => settle(alloc, Outcome::Given(value.copy(alloc)?)),
+        Some(Setting::Followed(source)) => follow(states, *source),
         None => match property.convention {
-            Some(source) => follow(alloc, states, source),
-            None => Ok(Reading::Settles(Outcome::Absent)),
+            Some(source) => follow(states, source),
+            None => settle(alloc, Outcome::Absent),
         },
     }
 }
@@ -87,19 +117,19 @@ fn read_property(
 // What an output comes to that is declared as this expression, or is not declared.
 fn read_output(
     alloc: Global,
-    states: &[State<Outcome>],
+    states: &[State<Shared<Outcome>>],
     chosen: &Chosen,
     declared: Option<usize>,
-) -> Result<Reading<Outcome>, AllocError>
+) -> Result<Reading<Shared<Outcome>>, AllocError>
     requires { PlaceWithin (length states.now) declared }
     ensures reads { IfOk result (λ found. found ≡ reading (known states.now) (output_rule chosen.now declared)) }
     ensures within { IfOk result (λ found. WaitsWithin (length states.now) found) }
 {
     match declared {
-        Some(source) => follow(alloc, states, source),
+        Some(source) => follow(states, source),
         None => {
             let output = chosen.copy()?;
-            Ok(Reading::Settles(Outcome::Refused(ValueFault::Unrealised(output))))
+            settle(alloc, Outcome::Refused(ValueFault::Unrealised(output)))
         }
     }
 }
@@ -130,18 +160,18 @@ fn apply_map<T: Transforms>(
 
 fn read_map<T: Transforms>(
     alloc: Global,
-    states: &[State<Outcome>],
+    states: &[State<Shared<Outcome>>],
     source: usize,
     call: &Call<T::Map>,
-) -> Result<Reading<Outcome>, AllocError>
+) -> Result<Reading<Shared<Outcome>>, AllocError>
     requires { source < length states.now }
     ensures reads { IfOk result (λ found. found ≡ reading (known states.now) (map_rule T.meanings source call.now)) }
     ensures within { IfOk result (λ found. WaitsWithin (length states.now) found) }
 {
     match known_at(states, source) {
         None => Ok(Reading::Waits(source)),
-        Some(Outcome::Given(value)) => Ok(Reading::Settles(apply_map::<T>(alloc, call, value)?)),
-        Some(outcome) => Ok(Reading::Settles(outcome.copy(alloc)?)),
+        Some(Outcome::Given(value)) => settle(alloc, apply_map::<T>(alloc, call, value)?),
+        Some(_) => follow(states, source),
     }
 }
 
@@ -161,11 +191,11 @@ fn apply_zip<T: Transforms>(
 
 fn read_zip<T: Transforms>(
     alloc: Global,
-    states: &[State<Outcome>],
+    states: &[State<Shared<Outcome>>],
     left: usize,
     right: usize,
     call: &Call<T::Zip>,
-) -> Result<Reading<Outcome>, AllocError>
+) -> Result<Reading<Shared<Outcome>>, AllocError>
     requires left { left < length states.now }
     requires right { right < length states.now }
     ensures reads { IfOk result (λ found. found ≡ reading (known states.now) (zip_rule T.meanings left right call.now)) }
@@ -176,11 +206,11 @@ fn read_zip<T: Transforms>(
         Some(Outcome::Given(first)) => match known_at(states, right) {
             None => Ok(Reading::Waits(right)),
             Some(Outcome::Given(second)) => {
-                Ok(Reading::Settles(apply_zip::<T>(alloc, call, first, second)?))
+                settle(alloc, apply_zip::<T>(alloc, call, first, second)?)
             }
-            Some(outcome) => Ok(Reading::Settles(outcome.copy(alloc)?)),
+            Some(_) => follow(states, right),
         },
-        Some(outcome) => Ok(Reading::Settles(outcome.copy(alloc)?)),
+        Some(_) => follow(states, left),
     }
 }
 
@@ -189,9 +219,9 @@ fn read_chosen<M, F, Z>(
     alloc: Global,
     nodes: &[Expression<M, F, Z>],
     outputs: &Outputs,
-    states: &[State<Outcome>],
+    states: &[State<Shared<Outcome>>],
     reply: Option<Chosen>,
-) -> Result<Reading<Outcome>, AllocError>
+) -> Result<Reading<Shared<Outcome>>, AllocError>
     requires index { IsIndexed nodes.now outputs.now }
     requires states { length states.now ≡ length nodes.now }
     ensures reads { IfOk result (λ found. found ≡ reading (known states.now) (chosen_rule nodes.now [] (Ok reply))) }
@@ -203,7 +233,7 @@ fn read_chosen<M, F, Z>(
             let reading = read_output(alloc, states, &chosen, place)?;
             Ok(reading)
         }
-        None => Ok(Reading::Settles(Outcome::Absent)),
+        None => settle(alloc, Outcome::Absent),
     }
 }
 
@@ -211,10 +241,10 @@ fn apply_flat_map<T: Transforms>(
     alloc: Global,
     nodes: &[Expression<T::Map, T::FlatMap, T::Zip>],
     outputs: &Outputs,
-    states: &[State<Outcome>],
+    states: &[State<Shared<Outcome>>],
     call: &Call<T::FlatMap>,
     value: &Value,
-) -> Result<Reading<Outcome>, AllocError>
+) -> Result<Reading<Shared<Outcome>>, AllocError>
     requires index { IsIndexed nodes.now outputs.now }
     requires states { length states.now ≡ length nodes.now }
     ensures reads { IfOk result (λ found. found ≡ reading (known states.now) (chosen_rule nodes.now call.now.name (meaning_of T.meanings.flat_map call.now.function value.now call.now.arguments))) }
@@ -225,7 +255,7 @@ fn apply_flat_map<T: Transforms>(
             let reading = read_chosen(alloc, nodes, outputs, states, reply)?;
             Ok(reading)
         }
-        Err(fault) => Ok(Reading::Settles(Outcome::Refused(refused_by(&call.name, fault)?))),
+        Err(fault) => settle(alloc, Outcome::Refused(refused_by(&call.name, fault)?)),
     }
 }
 
@@ -233,10 +263,10 @@ fn read_flat_map<T: Transforms>(
     alloc: Global,
     nodes: &[Expression<T::Map, T::FlatMap, T::Zip>],
     outputs: &Outputs,
-    states: &[State<Outcome>],
+    states: &[State<Shared<Outcome>>],
     source: usize,
     call: &Call<T::FlatMap>,
-) -> Result<Reading<Outcome>, AllocError>
+) -> Result<Reading<Shared<Outcome>>, AllocError>
     requires index { IsIndexed nodes.now outputs.now }
     requires states { length states.now ≡ length nodes.now }
     requires source { source < length states.now }
@@ -248,7 +278,7 @@ fn read_flat_map<T: Transforms>(
         Some(Outcome::Given(value)) => apply_flat_map::<T>(
             alloc, nodes, outputs, states, call, value,
         ),
-        Some(outcome) => Ok(Reading::Settles(outcome.copy(alloc)?)),
+        Some(_) => follow(states, source),
     }
 }
 
@@ -262,62 +292,66 @@ fn refuse_element(alloc: Global) -> Result<Outcome, AllocError>
 
 fn read_list(
     alloc: Global,
-    states: &[State<Outcome>],
+    states: &[State<Shared<Outcome>>],
     operands: &[usize],
-) -> Result<Reading<Outcome>, AllocError>
+) -> Result<Reading<Shared<Outcome>>, AllocError>
     requires { All (λ operand. operand < length states.now) operands.now }
-    ensures reads { IfOk result (λ found. found ≡ reading (known states.now) (list_rule [] operands.now)) }
+    ensures reads { IfOk result (λ found. found ≡ reading (known states.now) (list_rule false [] operands.now)) }
     ensures within { IfOk result (λ found. WaitsWithin (length states.now) found) }
 {
     let mut texts = Texts::new(alloc);
+    let mut is_wrong = false;
     for operand in operands {
         match known_at(states, *operand) {
             None => return Ok(Reading::Waits(*operand)),
             Some(Outcome::Given(Value::Text(text))) => texts.push(text.copy()?)?,
-            Some(Outcome::Given(_)) => return Ok(Reading::Settles(refuse_element(alloc)?)),
-            Some(outcome) => return Ok(Reading::Settles(outcome.copy(alloc)?)),
+            Some(Outcome::Given(_)) => is_wrong = true,
+            Some(_) => return follow(states, *operand),
         }
     }
-    Ok(Reading::Settles(Outcome::Given(Value::List(texts))))
+    if is_wrong {
+        return settle(alloc, refuse_element(alloc)?);
+    }
+    settle(alloc, Outcome::Given(Value::List(texts)))
 }
 
-// Whether an operand is known to be a text.
-fn is_text(states: &[State<Outcome>], operand: usize) -> bool
+// Whether an operand is known to be a value.
+fn is_given(states: &[State<Shared<Outcome>>], operand: usize) -> bool
     requires { operand < length states.now }
-    ensures { result ≡ is_text (known states.now operand) }
+    ensures { result ≡ is_given (known states.now operand) }
 {
     match known_at(states, operand) {
-        Some(Outcome::Given(Value::Text(_))) => true,
+        Some(Outcome::Given(_)) => true,
         _ => false,
     }
 }
 
-// The first operand from here on that is not known to be a text.
-fn past_texts(states: &[State<Outcome>], operands: &[usize], from: usize) -> usize
+// The first operand from here on that is not known to be a value.
+fn past_texts(states: &[State<Shared<Outcome>>], operands: &[usize], from: usize) -> usize
     requires operands { All (λ operand. operand < length states.now) operands.now }
-    requires before { AreBefore (λ operand. is_text (known states.now operand)) operands.now from }
-    ensures before { AreBefore (λ operand. is_text (known states.now operand)) operands.now result }
-    ensures stops { result < length operands.now → is_text (known states.now (slice_index operands.now result)) ≡ false }
+    requires before { AreBefore (λ operand. is_given (known states.now operand)) operands.now from }
+    ensures before { AreBefore (λ operand. is_given (known states.now operand)) operands.now result }
+    ensures stops { result < length operands.now → is_given (known states.now (slice_index operands.now result)) ≡ false }
 {
     let mut at = from;
-    while at < operands.len() && is_text(states, operands[at]) {
+    while at < operands.len() && is_given(states, operands[at]) {
         at += 1;
     }
     at
 }
 
-// One look at a list, whose first elements are known to be texts.
+// One look at a list, whose first elements are known to be values.
 fn look_list(
     alloc: Global,
-    states: &[State<Outcome>],
+    states: &[State<Shared<Outcome>>],
     operands: &[usize],
     past: usize,
-) -> Result<Look<Outcome>, AllocError>
+) -> Result<Look<Shared<Outcome>>, AllocError>
     requires operands { All (λ operand. operand < length states.now) operands.now }
-    requires past { IsPast (known states.now) past (list_rule [] operands.now) }
-    ensures reads { IfOk result (λ found. found.reading ≡ reading (known states.now) (list_rule [] operands.now)) }
+    requires past { IsPast (known states.now) past (list_rule false [] operands.now) }
+    ensures reads { IfOk result (λ found. found.reading ≡ reading (known states.now) (list_rule false [] operands.now)) }
     ensures within { IfOk result (λ found. WaitsWithin (length states.now) found.reading) }
-    ensures past { IfOk result (λ found. IsPast (known states.now) found.past (list_rule [] operands.now)) }
+    ensures past { IfOk result (λ found. IsPast (known states.now) found.past (list_rule false [] operands.now)) }
 {
     let at = past_texts(states, operands, past);
     if at < operands.len() {
@@ -335,10 +369,10 @@ fn look_at<T: Transforms>(
     alloc: Global,
     nodes: &[Expression<T::Map, T::FlatMap, T::Zip>],
     outputs: &Outputs,
-    states: &[State<Outcome>],
+    states: &[State<Shared<Outcome>>],
     node: &Expression<T::Map, T::FlatMap, T::Zip>,
     past: usize,
-) -> Result<Look<Outcome>, AllocError>
+) -> Result<Look<Shared<Outcome>>, AllocError>
     requires index { IsIndexed nodes.now outputs.now }
     requires states { length states.now ≡ length nodes.now }
     requires within { OperandsWithin (length nodes.now) node.now }
@@ -377,16 +411,16 @@ impl<'b, 'a, T: Transforms> Model for ValueReader<'b, 'a, T> {
 impl<'b, 'a, T: Transforms> Entries for ValueReader<'b, 'a, T> {
     ghost use Rattle.gb_provider.specs.Rules.{rules};
 
-    type Answer = Outcome;
+    type Answer = Shared<Outcome>;
 
     ghost rules = { λ nodes. rules T.meanings nodes };
 
     fn look(
         &mut self,
-        states: &[State<Outcome>],
+        states: &[State<Shared<Outcome>>],
         at: usize,
         past: usize,
-    ) -> Result<Look<Outcome>, AllocError> {
+    ) -> Result<Look<Shared<Outcome>>, AllocError> {
         let nodes = self.nodes;
         look_at::<T>(self.alloc, nodes, self.outputs, states, &nodes[at], past)
     }
@@ -397,9 +431,9 @@ fn read<T: Transforms>(
     alloc: Global,
     nodes: &[Expression<T::Map, T::FlatMap, T::Zip>],
     outputs: &Outputs,
-    states: &[State<Outcome>],
+    states: &[State<Shared<Outcome>>],
     node: &Expression<T::Map, T::FlatMap, T::Zip>,
-) -> Result<Reading<Outcome>, AllocError>
+) -> Result<Reading<Shared<Outcome>>, AllocError>
     requires index { IsIndexed nodes.now outputs.now }
     requires states { length states.now ≡ length nodes.now }
     requires within { OperandsWithin (length nodes.now) node.now }
@@ -407,7 +441,7 @@ fn read<T: Transforms>(
     ensures within { IfOk result (λ found. WaitsWithin (length states.now) found) }
 {
     match node {
-        Expression::Constant(value) => { Ok(Reading::Settles(Outcome::Given(value.copy(alloc)?))) }
+        Expression::Constant(value) => read_constant(alloc, value),
         Expression::OfProperty(property) => read_property(alloc, states, property),
         Expression::OfOutput(output) => {
             read_output(alloc, states, &output.chosen, output.declared)
@@ -420,6 +454,6 @@ fn read<T: Transforms>(
         Expression::Zipped(left, right, call) => {
             read_zip::<T>(alloc, states, *left, *right, call)
         }
-        Expression::OrElse(left, right) => read_or_else(alloc, states, *left, *right),
+        Expression::OrElse(left, right) => read_or_else(states, *left, *right),
     }
 }

@@ -25,6 +25,25 @@ impl<'a, S> Model for Call<'a, S> {
     ghost view = { λ c. record { name = c.name; function = c.function.now; arguments = c.arguments } };
 }
 
+impl<'a, S> Call<'a, S> {
+    /// A call of this function under this name.
+    pub fn of(
+        alloc: Global,
+        name: &str,
+        function: &'a S,
+        arguments: Texts,
+    ) -> Result<Call<'a, S>, AllocError>
+        ensures { IfOk result (λ call. call ≡ record { name = name.now; function = function.now; arguments = arguments }) }
+    {
+        let name = Text::from_str(alloc, name)?;
+        Ok(Call {
+            name,
+            function,
+            arguments,
+        })
+    }
+}
+
 /// A provider, by its place in the table.
 #[derive(Clone, Copy, Debug, PartialEq, Eq)]
 pub struct Node {
@@ -93,7 +112,8 @@ pub struct Output {
 /// An expression.
 #[derive(Drop)]
 pub enum Expression<'a, M, F, Z> {
-    Constant(Value),
+    /// A value, or nothing.
+    Constant(Option<Value>),
     OfProperty(Property),
     OfOutput(Output),
     Listed(Operands),
@@ -109,17 +129,4 @@ pub enum Outcome {
     Given(Value),
     Absent,
     Refused(ValueFault),
-}
-
-impl Outcome {
-    /// An equal outcome.
-    pub fn copy(&self, alloc: Global) -> Result<Outcome, AllocError>
-        ensures { IfOk result (λ copied. copied ≡ self.now) }
-    {
-        match self {
-            Outcome::Given(value) => Ok(Outcome::Given(value.copy(alloc)?)),
-            Outcome::Absent => Ok(Outcome::Absent),
-            Outcome::Refused(fault) => Ok(Outcome::Refused(fault.copy()?)),
-        }
-    }
 }

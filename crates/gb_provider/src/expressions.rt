@@ -1,10 +1,11 @@
 //! All expressions by number, and where each output stands.
-ghost use Rattle.std.specs.Prelude.{◌≡◌, ◌<◌, ◌++◌, [], ◌∷◌, length, None, Some, OnErr, OnOk, Ok, slice_get, slice_set};
+ghost use Rattle.std.specs.BTreeMap.{get, is_at};
+ghost use Rattle.std.specs.Prelude.{◌≡◌, ◌<◌, ◌++◌, [], ◌∷◌, cond, length, None, Some, OnErr, OnOk, Ok, slice_get, slice_set, vec_capacity, vec_len};
 ghost use Rattle.gb_provider.specs.Changes.{AreChanged};
-ghost use Rattle.gb_provider.specs.Indexed.{IsIndexed, IsNoOutput};
+ghost use Rattle.gb_provider.specs.Indexed.{chosen_order, IsIndexed, IsNoOutput};
 ghost use Rattle.gb_provider.specs.Rules.{PlaceWithin, output_place};
 
-use crate::change::{Change, change_property, put};
+use crate::change::{Change, change_property, declare};
 use crate::expression::{Expression, Output};
 use crate::fault::{Chosen, Final};
 use std::alloc::{AllocError, Global};
@@ -26,6 +27,30 @@ pub(crate) fn place_of<M, F, Z>(
 {
     let _ = nodes;
     outputs.get(chosen).copied()
+}
+
+// Tells where an output stands.
+fn index_output(outputs: &mut Outputs, chosen: &Chosen, number: usize) -> Result<(), AllocError>
+    ensures ok { OnOk result ((key : Chosen) → get chosen_order outputs.new key ≡ cond (is_at (chosen_order chosen.now) key) (Some number) (get chosen_order outputs.old key)) }
+    ensures err { OnErr result ((key : Chosen) → get chosen_order outputs.new key ≡ get chosen_order outputs.old key) }
+{
+    let key = chosen.copy()?;
+    outputs.insert(key, number)?;
+    Ok(())
+}
+
+// Puts an expression behind the others, for which there is room.
+fn push_reserved<'a, M: Drop, F: Drop, Z: Drop>(
+    nodes: &mut Vec<Expression<'a, M, F, Z>>,
+    node: Expression<'a, M, F, Z>,
+)
+    requires { vec_len nodes.old < vec_capacity nodes.old }
+    ensures { nodes.new.items ≡ nodes.old.items ++ node.entry ∷ [] }
+{
+    match nodes.push(node) {
+        Ok(()) => {}
+        Err(_) => unreachable!(),
+    }
 }
 
 /// All expressions by number.
@@ -104,37 +129,29 @@ impl<'a, M: Drop, F: Drop, Z: Drop> Expressions<'a, M, F, Z> {
         ensures err { OnErr result (self.new ≡ self.old) }
     {
         let number = self.nodes.len();
-        let key = chosen.copy()?;
         self.nodes.reserve(1)?;
-        self.outputs.insert(key, number)?;
-        match self
-            .nodes
-            .push(Expression::OfOutput(Output { chosen, declared }))
-        {
-            Ok(()) => Ok(()),
-            Err(_) => unreachable!(),
-        }
-    }
-
-    /// Declares an output that stands here as an expression.
-    pub fn declare(&mut self, number: usize, chosen: Chosen, source: usize)
-        requires within { number < length self.old }
-        requires stands { output_place self.old chosen ≡ Some number }
-        ensures { self.new ≡ slice_set self.old number (Expression.OfOutput (record { chosen = chosen; declared = Some source })) }
-    {
-        let declared = Some(source);
-        put(
+        index_output(&mut self.outputs, &chosen, number)?;
+        push_reserved(
             &mut self.nodes,
-            number,
             Expression::OfOutput(Output { chosen, declared }),
         );
+        Ok(())
     }
 
-    /// Changes a property that is not final.
+    /// Declares the output that stands here as an expression.
+    pub fn declare(&mut self, number: usize, chosen: &Chosen, source: usize)
+        requires within { number < length self.old }
+        requires stands { output_place self.old chosen.now ≡ Some number }
+        ensures { self.new ≡ slice_set self.old number (Expression.OfOutput (record { chosen = chosen.now; declared = Some source })) }
+    {
+        declare(&mut self.nodes[number], source);
+    }
+
+    /// Changes a property that takes the change.
     pub fn change(&mut self, number: usize, change: Change) -> Result<(), Final>
         requires { number < length self.old }
         ensures { AreChanged change self.old number self.new result }
     {
-        change_property(&mut self.nodes, number, change)
+        change_property(&mut self.nodes[number], change)
     }
 }

@@ -3,7 +3,8 @@ ghost use Rattle.std.specs.Prelude.{◌≡◌, IfOk};
 
 use gb_core::path::TaskPath;
 use gb_core::text::{Text, Texts};
-use std::alloc::{AllocError, AllocFailed};
+use gb_table::table::AddFault;
+use std::alloc::AllocError;
 use thiserror::Error;
 
 /// Why a stored function gives no answer.
@@ -145,7 +146,7 @@ impl From<AllocError> for StepFault {
 #[derive(Debug, Drop)]
 pub enum ProviderFault {
     /// It needs itself: the properties and outputs on the circle, each reading the next, the last
-    /// the first, from the least name by bytes.
+    /// the first; of the rounds from each of them on the least, name by name, by bytes.
     Circular(Texts),
     /// The test is none.
     Step(StepFault),
@@ -220,22 +221,16 @@ impl TableFault {
     }
 }
 
-impl From<AllocError> for TableFault {
-    ghost use Rattle.gb_provider.specs.declared.fault.TableFault.TheVariants.{OutOfMemory};
+impl From<AddFault> for TableFault {
+    ghost use Rattle.std.specs.Prelude.{◌≡◌};
+    ghost use Rattle.gb_provider.specs.Faults.{told_of};
 
-    ghost from_gives = { λ _ fault. fault ≡ OutOfMemory };
+    ghost from_gives = { λ fault told. told ≡ told_of fault };
 
-    fn from(_error: AllocError) -> TableFault {
-        TableFault::OutOfMemory
-    }
-}
-
-impl<T: Drop> From<AllocFailed<T>> for TableFault {
-    ghost use Rattle.gb_provider.specs.declared.fault.TableFault.TheVariants.{OutOfMemory};
-
-    ghost from_gives = { λ _ fault. fault ≡ OutOfMemory };
-
-    fn from(_failed: AllocFailed<T>) -> TableFault {
-        TableFault::OutOfMemory
+    fn from(fault: AddFault) -> TableFault {
+        match fault {
+            AddFault::Taken => TableFault::DuplicateTransform,
+            AddFault::OutOfMemory => TableFault::OutOfMemory,
+        }
     }
 }

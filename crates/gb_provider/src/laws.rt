@@ -1,7 +1,9 @@
 //! Facts that follow from the definitions alone.
-ghost use Rattle.gb_provider.specs.Laws.{AnswersStay, RoundsAreBounded};
+ghost use Rattle.gb_provider.specs.Laws.{AnswersStay, PlainOnesKeepAnswers, RoundsAreBounded};
 ghost use Rattle.gb_provider.specs.declared.expression.Outcome.{Outcome};
 ghost use Rattle.gb_provider.specs.declared.produced.Produced.{Produced};
+
+use crate::transforms::Transforms;
 
 /// An answer that an expression has after some rounds it has after all later ones.
 pub fn answers_stay()
@@ -13,4 +15,9 @@ pub fn answers_stay()
 pub fn rounds_are_bounded()
     ensures values { RoundsAreBounded Outcome }
     ensures producers { RoundsAreBounded Produced }
+{}
+
+/// An expression that is no output, put behind the others, changes none of their answers.
+pub fn plain_ones_keep_answers<T: Transforms>()
+    ensures { PlainOnesKeepAnswers T.meanings }
 {}

@@ -19,6 +19,7 @@ mod recall;
 #[cfg(test)]
 mod sample;
 mod search;
+mod shared;
 pub mod table;
 #[cfg(test)]
 mod tests;

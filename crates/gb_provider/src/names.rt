@@ -1,10 +1,8 @@
 //! The names on a circle.
-ghost use Rattle.std.specs.Prelude.{◌≡◌, ◌++◌, ◌<◌, ◌≢◌, [], IfOk, length, slice_get, Some, ℕ};
-ghost use Rattle.std.proofs.Common.{get_or};
+ghost use Rattle.std.specs.Prelude.{◌≡◌, ◌+◌, ◌++◌, ◌<◌, ◌≤◌, ◌≢◌, IfOk, drop, length, slice_get, take, Some, ℕ};
 ghost use Rattle.std.specs.declared.cmp.Ordering.TheVariants.{Less, Greater};
 ghost use Rattle.std.specs.Bool.{OnTrue, OnFalse};
-ghost use Rattle.gb_provider.specs.Names.{label, names_of, names_on, IsFromLeast};
-ghost use Rattle.gb_core.specs.Lists.{byte_order};
+ghost use Rattle.gb_provider.specs.Names.{label, names_of, names_on, names_order, IsLeastRound};
 
 use crate::expression::Expression;
 use gb_core::text::{Text, Texts};
@@ -77,27 +75,30 @@ fn names_on<M, F, Z>(
     Ok(names)
 }
 
-// Whether a name comes before another.
-fn is_before(name: &Text, other: &Text) -> bool
-    ensures before { OnTrue result (byte_order name.now other.now ≡ Less) }
-    ensures not_before { OnFalse result (byte_order other.now name.now ≢ Greater) }
+// Whether the round of so many names from one place on comes before that from another.
+fn is_before(names: &[Text], count: usize, place: usize, other: usize) -> bool
+    requires place { place + count ≤ length names.now }
+    requires other { other + count ≤ length names.now }
+    ensures before { OnTrue result (names_order (take count (drop place names.now)) (take count (drop other names.now)) ≡ Less) }
+    ensures not_before { OnFalse result (names_order (take count (drop other names.now)) (take count (drop place names.now)) ≢ Greater) }
 {
-    match name.cmp(other) {
+    let round = &names[place..place + count];
+    match round.cmp(&names[other..other + count]) {
         Ordering::Less => true,
         Ordering::Equal => false,
         Ordering::Greater => false,
     }
 }
 
-// The place of a least name.
-fn least(names: &[Text]) -> usize
-    requires { 0 < length names.now }
-    ensures within { result < length names.now }
-    ensures least { (k : ℕ) → k < length names.now → byte_order (get_or names.now result []) (get_or names.now k []) ≢ Greater }
+// Where the least round of so many names begins, which stand twice.
+fn least_place(names: &[Text], count: usize) -> usize
+    requires { count + count ≡ length names.now }
+    ensures within { result ≤ count }
+    ensures least { (k : ℕ) → k < count → names_order (take count (drop result names.now)) (take count (drop k names.now)) ≢ Greater }
 {
     let mut least = 0;
-    for i in 0..names.len() {
-        if is_before(&names[i], &names[least]) {
+    for i in 0..count {
+        if is_before(names, count, i, least) {
             least = i;
         }
     }
@@ -114,29 +115,28 @@ fn push_copies(texts: &[Text], to: &mut Texts) -> Result<(), AllocError>
     Ok(())
 }
 
-// The same round, from a least name on.
-fn from_least(alloc: Global, names: &[Text]) -> Result<Texts, AllocError>
-    ensures { IfOk result (λ round. IsFromLeast names.now round) }
+// The least round of names.
+fn least_round(alloc: Global, names: Texts) -> Result<Texts, AllocError>
+    ensures { IfOk result (λ round. IsLeastRound names round) }
 {
+    let count = names.as_slice().len();
+    let mut twice = names.copy(alloc)?;
+    twice.append(names)?;
+    let least = least_place(twice.as_slice(), count);
     let mut round = Texts::new(alloc);
-    if names.is_empty() {
-        return Ok(round);
-    }
-    let least = least(names);
-    push_copies(&names[least..], &mut round)?;
-    push_copies(&names[..least], &mut round)?;
+    push_copies(&twice.as_slice()[least..least + count], &mut round)?;
     Ok(round)
 }
 
-/// The names on a circle, from a least one on.
+/// The names on a circle: of the rounds from each of them on, the least in their order by bytes.
 pub(crate) fn circle_names<M, F, Z>(
     alloc: Global,
     nodes: &[Expression<M, F, Z>],
     circle: &[usize],
 ) -> Result<Texts, AllocError>
-    ensures { IfOk result (λ names. IsFromLeast (names_on nodes.now circle.now) names) }
+    ensures { IfOk result (λ names. IsLeastRound (names_on nodes.now circle.now) names) }
 {
     let names = names_on(alloc, nodes, circle)?;
-    let round = from_least(alloc, names.as_slice())?;
+    let round = least_round(alloc, names)?;
     Ok(round)
 }

@@ -45,7 +45,7 @@ impl TaskPaths {
     }
 
     /// Adds these tasks.
-    pub fn extend(&mut self, more: &TaskPaths) -> Result<(), AllocError>
+    pub(crate) fn extend(&mut self, more: &TaskPaths) -> Result<(), AllocError>
         ensures { OnOk result (self.new ≡ with_tasks self.old more.now) }
     {
         for task in &more.paths {
@@ -87,17 +87,4 @@ pub enum Produced {
     Refused(ValueFault),
     /// The value of this expression has to choose, and never comes.
     Endless(usize),
-}
-
-impl Produced {
-    /// An equal finding.
-    pub fn copy(&self, alloc: Global) -> Result<Produced, AllocError>
-        ensures { IfOk result (λ copied. copied ≡ self.now) }
-    {
-        match self {
-            Produced::Tasks(tasks) => Ok(Produced::Tasks(tasks.copy(alloc)?)),
-            Produced::Refused(fault) => Ok(Produced::Refused(fault.copy()?)),
-            Produced::Endless(chooser) => Ok(Produced::Endless(*chooser)),
-        }
-    }
 }

@@ -5,18 +5,18 @@ ghost use Rattle.gb_provider.specs.Produced.{AreProducers, IsEndlessTold, carrie
 ghost use Rattle.gb_provider.specs.Indexed.{IsIndexed};
 ghost use Rattle.gb_provider.specs.Remembered.{AreWithin, IsRemembered};
 ghost use Rattle.gb_provider.specs.Rules.{rules};
-ghost use Rattle.gb_provider.specs.Search.{IsEvaluated, known};
+ghost use Rattle.gb_provider.specs.Search.{IsEvaluated, IsSound, known};
 
 use crate::carriers::TaskReader;
 use crate::evaluate::known_at;
 use crate::expression::{Expression, Outcome};
 use crate::expressions::Outputs;
 use crate::fault::ProviderFault;
-use crate::names::circle_names;
 use crate::produced::{Produced, TaskPaths};
 use crate::reading::State;
-use crate::recall::{extend, recall};
+use crate::recall::{extend, recall, tell_circle};
 use crate::search::evaluate;
+use crate::shared::Shared;
 use crate::transforms::Transforms;
 use std::alloc::{AllocError, Global};
 use std::mem;
@@ -26,8 +26,8 @@ fn evaluate_producers<T: Transforms>(
     alloc: Global,
     nodes: &[Expression<T::Map, T::FlatMap, T::Zip>],
     outputs: &Outputs,
-    values: &mut Vec<State<Outcome>>,
-    states: &mut Vec<State<Produced>>,
+    values: &mut Vec<State<Shared<Outcome>>>,
+    states: &mut Vec<State<Shared<Produced>>>,
     number: usize,
 ) -> Result<Option<Vec<usize>>, AllocError>
     requires index { IsIndexed nodes.now outputs.now }
@@ -57,7 +57,7 @@ fn tell_endless<T: Transforms>(
     alloc: Global,
     nodes: &[Expression<T::Map, T::FlatMap, T::Zip>],
     outputs: &Outputs,
-    values: &mut Vec<State<Outcome>>,
+    values: &mut Vec<State<Shared<Outcome>>>,
     chooser: usize,
 ) -> ProviderFault
     requires index { IsIndexed nodes.now outputs.now }
@@ -74,13 +74,41 @@ fn tell_endless<T: Transforms>(
     }
 }
 
+// Tells the tasks that are known.
+fn tell_producers<T: Transforms>(
+    alloc: Global,
+    nodes: &[Expression<T::Map, T::FlatMap, T::Zip>],
+    outputs: &Outputs,
+    values: &mut Vec<State<Shared<Outcome>>>,
+    states: &[State<Shared<Produced>>],
+    number: usize,
+) -> Result<TaskPaths, ProviderFault>
+    requires index { IsIndexed nodes.now outputs.now }
+    requires within { AreWithin nodes.now }
+    requires values { IsRemembered (rules T.meanings nodes.now) values.old.items }
+    requires number { number < length states.now }
+    requires sound { IsSound (carriers T.meanings nodes.now) states.now }
+    requires known { known states.now number ≢ None }
+    ensures values { IsRemembered (rules T.meanings nodes.now) values.new.items }
+    ensures producers { AreProducers T.meanings nodes.now number result }
+{
+    match known_at(states, number) {
+        Some(Produced::Tasks(tasks)) => Ok(tasks.copy(alloc)?),
+        Some(Produced::Refused(fault)) => Err(ProviderFault::Value(fault.copy()?)),
+        Some(Produced::Endless(chooser)) => {
+            Err(tell_endless::<T>(alloc, nodes, outputs, values, *chooser))
+        }
+        None => unreachable!(),
+    }
+}
+
 /// The tasks that produce what an expression gives.
 pub(crate) fn recall_producers<T: Transforms>(
     alloc: Global,
     nodes: &[Expression<T::Map, T::FlatMap, T::Zip>],
     outputs: &Outputs,
-    values: &mut Vec<State<Outcome>>,
-    states: &mut Vec<State<Produced>>,
+    values: &mut Vec<State<Shared<Outcome>>>,
+    states: &mut Vec<State<Shared<Produced>>>,
     number: usize,
 ) -> Result<TaskPaths, ProviderFault>
     requires index { IsIndexed nodes.now outputs.now }
@@ -93,17 +121,10 @@ pub(crate) fn recall_producers<T: Transforms>(
     ensures producers { AreProducers T.meanings nodes.now number result }
 {
     match evaluate_producers::<T>(alloc, nodes, outputs, values, states, number) {
-        Ok(None) => match known_at(states, number) {
-            Some(Produced::Tasks(tasks)) => Ok(tasks.copy(alloc)?),
-            Some(Produced::Refused(fault)) => Err(ProviderFault::Value(fault.copy()?)),
-            Some(Produced::Endless(chooser)) => {
-                Err(tell_endless::<T>(alloc, nodes, outputs, values, *chooser))
-            }
-            None => unreachable!(),
-        },
+        Ok(None) => tell_producers::<T>(alloc, nodes, outputs, values, states, number),
         Ok(Some(circle)) => {
             states.clear();
-            Err(ProviderFault::Circular(circle_names(alloc, nodes, &circle)?))
+            Err(tell_circle(alloc, nodes, &circle))
         }
         Err(AllocError) => {
             states.clear();

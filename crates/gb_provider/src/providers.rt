@@ -1,6 +1,6 @@
 //! Providers.
-ghost use Rattle.std.specs.Prelude.{◌≡◌, ◌↔◌, ◌<◌, ◌++◌, [], ◌∷◌, length, All, IfOk, IsTrue, OnErr, None, false};
-ghost use Rattle.gb_provider.specs.Answers.{IsGot, IsRequired, IsTested, IsTestedBy, IsAsked};
+ghost use Rattle.std.specs.Prelude.{◌≡◌, ◌↔◌, ◌<◌, ◌++◌, [], ◌∷◌, length, All, IfOk, IsTrue, OnErr, None, Some, false};
+ghost use Rattle.gb_provider.specs.Answers.{IsAccepted, IsAsked, IsGot, IsRequired, IsTested, IsTestedBy};
 ghost use Rattle.gb_provider.specs.Meanings.{meaning_of};
 ghost use Rattle.gb_provider.specs.Produced.{AreProducers};
 ghost use Rattle.gb_provider.specs.Changes.{ChangeWithin, IsChanged, IsOutput, IsDeclared};
@@ -16,7 +16,8 @@ use crate::fault::{Chosen, Final, ProviderFault, StepFault, TransformFault, Valu
 use crate::produced::{Produced, TaskPaths};
 use crate::producing::recall_producers;
 use crate::reading::State;
-use crate::recall::recall;
+use crate::recall::{forget, recall};
+use crate::shared::Shared;
 use crate::table::TransformTable;
 use crate::transforms::Transforms;
 use gb_core::name::Name;
@@ -27,14 +28,14 @@ use std::alloc::{AllocError, Global};
 use std::marker::Model;
 
 /// A table of providers, over a table of stored functions. What was read once is remembered until
-/// a property or an output changes.
+/// a property or an output changes that was read as well.
 #[derive(Drop)]
 pub struct Providers<'a, T: Transforms> {
     alloc: Global,
     table: &'a TransformTable<T::Map, T::FlatMap, T::Zip, T::Test>,
     nodes: Expressions<'a, T::Map, T::FlatMap, T::Zip>,
-    values: Vec<State<Outcome>>,
-    producers: Vec<State<Produced>>,
+    values: Vec<State<Shared<Outcome>>>,
+    producers: Vec<State<Shared<Produced>>>,
 }
 
 impl<'a, T: Transforms> Model for Providers<'a, T> {
@@ -89,10 +90,18 @@ impl<'a, T: Transforms> Providers<'a, T> {
 
     /// A constant.
     pub fn value(&mut self, value: Value) -> Result<Node, AllocError>
-        ensures ok { IfOk result (λ node. IsAdded self.old (Expression.Constant value) self.new node) }
+        ensures ok { IfOk result (λ node. IsAdded self.old (Expression.Constant (Some value)) self.new node) }
         ensures err { OnErr result (self.new ≡ self.old) }
     {
-        self.add(Expression::Constant(value))
+        self.add(Expression::Constant(Some(value)))
+    }
+
+    /// A constant that is absent.
+    pub fn absent(&mut self) -> Result<Node, AllocError>
+        ensures ok { IfOk result (λ node. IsAdded self.old (Expression.Constant None) self.new node) }
+        ensures err { OnErr result (self.new ≡ self.old) }
+    {
+        self.add(Expression::Constant(None))
     }
 
     /// A property of a project that nothing sets yet. On a circle it is told by this path and name.
@@ -109,7 +118,8 @@ impl<'a, T: Transforms> Providers<'a, T> {
         }))
     }
 
-    /// The list of the texts that these give: absent where one is, and 34 where one is no text.
+    /// The list of the texts that these give. The first from the left that is no value decides;
+    /// where all are values, 34 if one is no text.
     pub fn list(&mut self, elements: &[Node]) -> Result<Node, AllocError>
         requires { All (λ element. element.number < length self.old.nodes) elements.now }
         ensures ok { IfOk result (λ node. IsAdded self.old (Expression.Listed (numbers_of elements.now)) self.new node) }
@@ -169,8 +179,8 @@ impl<'a, T: Transforms> Providers<'a, T> {
         let chosen = Chosen { task, output: name };
         match self.nodes.place(&chosen) {
             Some(number) => {
-                self.nodes.declare(number, chosen, source.number);
-                self.values.clear();
+                self.nodes.declare(number, &chosen, source.number);
+                forget(&mut self.values, number);
                 self.producers.clear();
                 Ok(Node { number })
             }
@@ -190,15 +200,8 @@ impl<'a, T: Transforms> Providers<'a, T> {
         if T::map_arity(function) as usize != arguments.as_slice().len() {
             return Err(StepFault::BadArguments);
         }
-        let name = Text::from_str(self.alloc, name)?;
-        let node = self.add(Expression::Mapped(
-            source.number,
-            Call {
-                name,
-                function,
-                arguments,
-            },
-        ))?;
+        let call = Call::of(self.alloc, name, function, arguments)?;
+        let node = self.add(Expression::Mapped(source.number, call))?;
         Ok(node)
     }
 
@@ -219,15 +222,8 @@ impl<'a, T: Transforms> Providers<'a, T> {
         if T::flat_map_arity(function) as usize != arguments.as_slice().len() {
             return Err(StepFault::BadArguments);
         }
-        let name = Text::from_str(self.alloc, name)?;
-        let node = self.add(Expression::FlatMapped(
-            source.number,
-            Call {
-                name,
-                function,
-                arguments,
-            },
-        ))?;
+        let call = Call::of(self.alloc, name, function, arguments)?;
+        let node = self.add(Expression::FlatMapped(source.number, call))?;
         Ok(node)
     }
 
@@ -250,27 +246,19 @@ impl<'a, T: Transforms> Providers<'a, T> {
         if T::zip_arity(function) as usize != arguments.as_slice().len() {
             return Err(StepFault::BadArguments);
         }
-        let name = Text::from_str(self.alloc, name)?;
-        let node = self.add(Expression::Zipped(
-            left.number,
-            right.number,
-            Call {
-                name,
-                function,
-                arguments,
-            },
-        ))?;
+        let call = Call::of(self.alloc, name, function, arguments)?;
+        let node = self.add(Expression::Zipped(left.number, right.number, call))?;
         Ok(node)
     }
 
-    // Changes a property. Nothing is remembered after it.
+    // Changes a property. Values stay remembered if it was not read since they were last forgotten.
     fn change(&mut self, node: Node, change: Change) -> Result<(), Final>
         requires node { node.number < length self.old.nodes }
         requires change { ChangeWithin (length self.old.nodes) change }
         ensures { IsChanged change self.old node.number self.new result }
     {
         self.nodes.change(node.number, change)?;
-        self.values.clear();
+        forget(&mut self.values, node.number);
         self.producers.clear();
         Ok(())
     }
@@ -310,7 +298,7 @@ impl<'a, T: Transforms> Providers<'a, T> {
         self.change(node, Change::Convention(source.number))
     }
 
-    /// Makes a property final. 35 as in `set`. Takes no memory.
+    /// Makes a property final, if it is not yet. 35 where the node is no property. Takes no memory.
     pub fn disallow_changes(&mut self, node: Node) -> Result<(), Final>
         requires { node.number < length self.old.nodes }
         ensures { IsChanged Change.Finalize self.old node.number self.new result }
@@ -375,13 +363,22 @@ impl<'a, T: Transforms> Providers<'a, T> {
         ensures tested { IsTested T.meanings self.old node.number name.now arguments.now (test_named self.old.table name.now) result }
         ensures kept { self.new ≡ self.old }
     {
-        let Some(function) = self.table.find_test(name) else {
-            return Err(ProviderFault::Step(StepFault::UnknownTransform));
-        };
-        if T::test_arity(function) as usize != arguments.len() {
-            return Err(ProviderFault::Step(StepFault::BadArguments));
+        let table = self.table;
+        match accepted_test::<T>(table, name, arguments.len()) {
+            Ok(test) => self.test_by(node, test, name, arguments),
+            Err(fault) => Err(ProviderFault::Step(fault)),
         }
-        self.test_by(node, function, name, arguments)
+    }
+
+    /// Whether `test` takes so many arguments under this name: 31 where no test has it, then 32.
+    /// Nothing is evaluated.
+    pub fn accepts_test(&self, name: &str, count: usize) -> Result<(), StepFault>
+        ensures { IsAccepted T.meanings.test.arity count (test_named self.now.table name.now) result }
+    {
+        match accepted_test::<T>(self.table, name, count) {
+            Ok(_) => Ok(()),
+            Err(fault) => Err(fault),
+        }
     }
 
     // The answer of a test that takes as many arguments.
@@ -403,6 +400,24 @@ impl<'a, T: Transforms> Providers<'a, T> {
             Err(fault) => Err(fault),
         }
     }
+}
+
+// The test of a name, if it takes so many arguments.
+fn accepted_test<'a, T: Transforms>(
+    table: &'a TransformTable<T::Map, T::FlatMap, T::Zip, T::Test>,
+    name: &str,
+    count: usize,
+) -> Result<&'a T::Test, StepFault>
+    ensures accepted { IsAccepted T.meanings.test.arity count (test_named table.now name.now) result }
+    ensures found { IfOk result (λ test. test_named table.now name.now ≡ Some test.now) }
+{
+    let Some(test) = table.find_test(name) else {
+        return Err(StepFault::UnknownTransform);
+    };
+    if T::test_arity(test) as usize != count {
+        return Err(StepFault::BadArguments);
+    }
+    Ok(test)
 }
 
 // Asks a test of a value.

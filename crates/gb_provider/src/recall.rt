@@ -1,18 +1,21 @@
 //! Answers that are remembered.
 ghost use Rattle.std.specs.Prelude.{◌≡◌, ◌≢◌, ◌<◌, ◌≤◌, ℕ, length, IfOk, OnOk, None, Some, slice_get};
+ghost use Rattle.std.specs.Bool.{OnFalse};
 ghost use Rattle.gb_provider.specs.Answers.{IsGot, value_of};
 ghost use Rattle.gb_provider.specs.Indexed.{IsIndexed};
-ghost use Rattle.gb_provider.specs.Remembered.{AreWithin, IsRemembered, IsTold};
+ghost use Rattle.gb_provider.specs.Names.{IsCircleTold};
+ghost use Rattle.gb_provider.specs.Remembered.{AreWithin, IsForgotten, IsRemembered, IsTold};
 ghost use Rattle.gb_provider.specs.Rules.{rules};
 ghost use Rattle.gb_provider.specs.Search.{IsEvaluated, known};
 
-use crate::evaluate::{ValueReader, known_at};
+use crate::evaluate::{ValueReader, known_at, shared_at};
 use crate::expression::{Expression, Outcome};
 use crate::expressions::Outputs;
 use crate::fault::ProviderFault;
 use crate::names::circle_names;
 use crate::reading::State;
 use crate::search::evaluate;
+use crate::shared::Shared;
 use crate::transforms::Transforms;
 use gb_core::value::Value;
 use std::alloc::{AllocError, Global};
@@ -32,10 +35,29 @@ pub(crate) fn extend<A: Drop>(states: &mut Vec<State<A>>, count: usize) -> Resul
     Ok(())
 }
 
+/// Forgets all answers, unless that of this expression is not known: no other rests on it then.
+pub(crate) fn forget<A: Drop>(states: &mut Vec<State<A>>, number: usize)
+    ensures { IsForgotten number states.old.items states.new.items }
+{
+    if is_known_at(states, number) {
+        states.clear();
+    }
+}
+
+// Whether an answer is known.
+fn is_known_at<A>(states: &[State<A>], number: usize) -> bool
+    ensures { OnFalse result (known states.now number ≡ None) }
+{
+    match states.get(number) {
+        Some(State::Known(_)) => true,
+        _ => false,
+    }
+}
+
 // Tells the answer that is known.
 fn tell(
     alloc: Global,
-    states: &[State<Outcome>],
+    states: &[State<Shared<Outcome>>],
     number: usize,
 ) -> Result<Option<Value>, ProviderFault>
     requires within { number < length states.now }
@@ -55,7 +77,7 @@ fn evaluate_value<T: Transforms>(
     alloc: Global,
     nodes: &[Expression<T::Map, T::FlatMap, T::Zip>],
     outputs: &Outputs,
-    states: &mut Vec<State<Outcome>>,
+    states: &mut Vec<State<Shared<Outcome>>>,
     number: usize,
 ) -> Result<Option<Vec<usize>>, AllocError>
     requires index { IsIndexed nodes.now outputs.now }
@@ -73,12 +95,26 @@ fn evaluate_value<T: Transforms>(
     evaluate(alloc, &mut reader, states, number)
 }
 
+/// Tells a circle by its names.
+pub(crate) fn tell_circle<M, F, Z>(
+    alloc: Global,
+    nodes: &[Expression<M, F, Z>],
+    circle: &[usize],
+) -> ProviderFault
+    ensures { IsCircleTold nodes.now circle.now result }
+{
+    match circle_names(alloc, nodes, circle) {
+        Ok(names) => ProviderFault::Circular(names),
+        Err(AllocError) => ProviderFault::OutOfMemory,
+    }
+}
+
 /// The value of an expression, which is remembered.
 pub(crate) fn recall<T: Transforms>(
     alloc: Global,
     nodes: &[Expression<T::Map, T::FlatMap, T::Zip>],
     outputs: &Outputs,
-    states: &mut Vec<State<Outcome>>,
+    states: &mut Vec<State<Shared<Outcome>>>,
     number: usize,
 ) -> Result<Option<Value>, ProviderFault>
     requires index { IsIndexed nodes.now outputs.now }
@@ -92,7 +128,7 @@ pub(crate) fn recall<T: Transforms>(
         Ok(None) => tell(alloc, states, number),
         Ok(Some(circle)) => {
             states.clear();
-            Err(ProviderFault::Circular(circle_names(alloc, nodes, &circle)?))
+            Err(tell_circle(alloc, nodes, &circle))
         }
         Err(AllocError) => {
             states.clear();
@@ -106,9 +142,9 @@ pub(crate) fn recall_outcome<T: Transforms>(
     alloc: Global,
     nodes: &[Expression<T::Map, T::FlatMap, T::Zip>],
     outputs: &Outputs,
-    states: &mut Vec<State<Outcome>>,
+    states: &mut Vec<State<Shared<Outcome>>>,
     number: usize,
-) -> Result<Option<Outcome>, AllocError>
+) -> Result<Option<Shared<Outcome>>, AllocError>
     requires index { IsIndexed nodes.now outputs.now }
     requires number { number < length nodes.now }
     requires within { AreWithin nodes.now }
@@ -117,8 +153,8 @@ pub(crate) fn recall_outcome<T: Transforms>(
     ensures value { IfOk result (λ found. found ≡ value_of T.meanings nodes.now number) }
 {
     match evaluate_value::<T>(alloc, nodes, outputs, states, number) {
-        Ok(None) => match known_at(states, number) {
-            Some(outcome) => Ok(Some(outcome.copy(alloc)?)),
+        Ok(None) => match shared_at(states, number) {
+            Some(answer) => Ok(Some(answer.share()?)),
             None => unreachable!(),
         },
         Ok(Some(_)) => {

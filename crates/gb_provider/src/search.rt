@@ -1,5 +1,5 @@
 //! The search for the answer of one expression: a work list, so that no chain is too long.
-ghost use Rattle.std.specs.Prelude.{◌≡◌, ◌<◌, ℕ, List, length, IfOk, Some, None, drop, slice_index, slice_set, slice_get, ◌≢◌};
+ghost use Rattle.std.specs.Prelude.{◌≡◌, ◌<◌, [], ◌∷◌, ◌++◌, ℕ, List, length, IfOk, OnOk, Some, None, drop, slice_index, slice_set, slice_get, ◌≢◌};
 ghost use Rattle.std.specs.Bool.{OnTrue, OnFalse};
 ghost use Rattle.gb_provider.specs.Rounds.{Rule};
 ghost use Rattle.gb_provider.specs.Search.{IsLook, IsPastAt, IsSound, IsEvaluated, WaitsWithin, known};
@@ -40,6 +40,35 @@ fn circle_from(alloc: Global, path: &[usize], operand: usize) -> Result<Vec<usiz
         }
     }
     unreachable!()
+}
+
+// A list of one number.
+fn one(alloc: Global, number: usize) -> Result<Vec<usize>, AllocError>
+    ensures { IfOk result (λ list. list.items ≡ number ∷ []) }
+{
+    let mut list = Vec::new(alloc);
+    list.push(number)?;
+    Ok(list)
+}
+
+// Opens an entry for which the last one of a path waits.
+fn enter<A: Drop>(
+    states: &mut Vec<State<A>>,
+    path: &mut Vec<usize>,
+    pasts: &mut Vec<usize>,
+    past: usize,
+    operand: usize,
+) -> Result<(), AllocError>
+    requires { operand < length states.old.items }
+    ensures states { OnOk result (states.new.items ≡ slice_set states.old.items operand State.Open) }
+    ensures path { OnOk result (path.new.items ≡ path.old.items ++ operand ∷ []) }
+    ensures pasts { OnOk result (pasts.new.items ≡ (pasts.old.items ++ past ∷ []) ++ 0 ∷ []) }
+{
+    pasts.push(past)?;
+    pasts.push(0)?;
+    path.push(operand)?;
+    put(states, operand, State::Open);
+    Ok(())
 }
 
 // Replaces a state.
@@ -88,10 +117,8 @@ pub(crate) fn evaluate<E: Entries>(
     if is_known(states, entry) {
         return Ok(None);
     }
-    let mut path = Vec::new(alloc);
-    let mut pasts = Vec::new(alloc);
-    path.push(entry)?;
-    pasts.push(0)?;
+    let mut path = one(alloc, entry)?;
+    let mut pasts = one(alloc, 0)?;
     put(states, entry, State::Open);
     while let Some(at) = path.pop() {
         let Some(past) = pasts.pop() else {
@@ -107,10 +134,7 @@ pub(crate) fn evaluate<E: Entries>(
                     let circle = circle_from(alloc, &path, operand)?;
                     return Ok(Some(circle));
                 }
-                pasts.push(past)?;
-                path.push(operand)?;
-                pasts.push(0)?;
-                put(states, operand, State::Open);
+                enter(states, &mut path, &mut pasts, past, operand)?;
             }
         }
     }

@@ -7,7 +7,7 @@ ghost use Rattle.gb_provider.specs.Table.{map_named, flat_map_named, zip_named, 
 
 use crate::fault::TableFault;
 use gb_core::name::Name;
-use indexmap::IndexMap;
+use gb_table::table::NamedTable;
 use std::alloc::Global;
 use std::marker::Model;
 
@@ -23,17 +23,16 @@ pub enum Transform<M, F, Z, S> {
 /// Stored functions by name, as they were added. All uses share one space of names.
 #[derive(Drop)]
 pub struct TransformTable<M, F, Z, S> {
-    alloc: Global,
-    entries: IndexMap<String, Transform<M, F, Z, S>>,
+    entries: NamedTable<Transform<M, F, Z, S>>,
 }
 
 impl<M, F, Z, S> Model for TransformTable<M, F, Z, S> {
-    ghost use Rattle.std.specs.Prelude.{List, ℕ, map, string_bytes};
+    ghost use Rattle.std.specs.Prelude.{List, ℕ};
     ghost use Rattle.gb_provider.specs.declared.table.Transform.{Transform};
 
     ghost Value = { List (List ℕ × Transform M F Z S) };
 
-    ghost view = { λ t. map (λ e. (string_bytes e.0, e.1)) t.entries.entries };
+    ghost view = { λ t. t.entries };
 }
 
 impl<M: Drop, F: Drop, Z: Drop, S: Drop> TransformTable<M, F, Z, S> {
@@ -42,8 +41,7 @@ impl<M: Drop, F: Drop, Z: Drop, S: Drop> TransformTable<M, F, Z, S> {
         ensures { result ≡ [] }
     {
         TransformTable {
-            alloc,
-            entries: IndexMap::new(alloc),
+            entries: NamedTable::new(alloc),
         }
     }
 
@@ -93,11 +91,7 @@ impl<M: Drop, F: Drop, Z: Drop, S: Drop> TransformTable<M, F, Z, S> {
         ensures duplicate { IsErrOf result TableFault.DuplicateTransform ↔ IsSome (find byte_order name.now self.old) }
         ensures err { OnErr result (self.new ≡ self.old) }
     {
-        if self.entries.contains_key(name.as_str()) {
-            return Err(TableFault::DuplicateTransform);
-        }
-        let key = name.as_str().to_string(self.alloc)?;
-        self.entries.insert(key, stored)?;
+        self.entries.add(name, stored)?;
         Ok(())
     }
 
@@ -144,6 +138,6 @@ impl<M: Drop, F: Drop, Z: Drop, S: Drop> TransformTable<M, F, Z, S> {
     fn find(&self, name: &str) -> Option<&Transform<M, F, Z, S>>
         ensures { option_copied result ≡ find byte_order name.now self.now }
     {
-        self.entries.get(name)
+        self.entries.find(name)
     }
 }

@@ -2,6 +2,7 @@
 use crate::asking::{self, is_absent, is_list, is_text, number};
 use crate::expression::Node;
 use crate::fault::{ProviderFault, TableFault};
+use crate::laws::plain_ones_keep_answers;
 use crate::produced::TaskPaths;
 use crate::providers::Providers;
 use crate::sample::{Only, Sample};
@@ -260,6 +261,7 @@ fn is_final<T: Transforms>(
             && asking::set(providers, p, Value::Flag(true)).is_err()
             && asking::unset(providers, p).is_err()
             && asking::convention(providers, p, constant).is_err()
+            && asking::disallow_changes(providers, p).is_ok()
             && asking::disallow_changes(providers, constant).is_err(),
     )
 }
@@ -321,10 +323,12 @@ fn has_elements<T: Transforms>(
     let gap = asking::list(providers, text, absent)?;
     let wrong = asking::list(providers, text, flag)?;
     let gap_first = asking::list(providers, absent, flag)?;
+    let gap_last = asking::list(providers, flag, absent)?;
     Ok(
         is_absent(&asking::get(providers, gap))
             && number(&asking::get(providers, wrong)) == 34
-            && is_absent(&asking::get(providers, gap_first)),
+            && is_absent(&asking::get(providers, gap_first))
+            && is_absent(&asking::get(providers, gap_last)),
     )
 }
 
@@ -341,6 +345,120 @@ fn the_first_element_that_is_no_value_decides(rt: HostRuntime) -> Result<(), Fai
     let alloc = rt.alloc();
     let table = sample_table(alloc)?;
     assert!(rt; try_has_elements::<Sample>(alloc, &table));
+    Ok(())
+}
+
+/// What stands in for a list with a flag before an absent element.
+fn list_gives_way<T: Transforms>(
+    alloc: Global,
+    providers: &mut Providers<'_, T>,
+) -> Result<bool, ProviderFault> {
+    let flag = providers.value(Value::Flag(true))?;
+    let absent = property(alloc, providers, "none")?;
+    let gap = asking::list(providers, flag, absent)?;
+    let text = providers.value(asking::text(alloc, "d")?)?;
+    let usual = asking::list(providers, text, text)?;
+    let either = asking::or_else(providers, gap, usual)?;
+    Ok(is_list(&asking::get(providers, either), "d", "d"))
+}
+
+fn try_list_gives_way<T: Transforms>(
+    alloc: Global,
+    table: &TransformTable<T::Map, T::FlatMap, T::Zip, T::Test>,
+) -> bool {
+    let mut providers = Providers::<T>::new(alloc, table);
+    list_gives_way(alloc, &mut providers).is_ok_and(|is_so| is_so)
+}
+
+#[test]
+fn a_list_with_a_gap_gives_way(rt: HostRuntime) -> Result<(), Fail> {
+    let alloc = rt.alloc();
+    let table = sample_table(alloc)?;
+    assert!(rt; try_list_gives_way::<Sample>(alloc, &table));
+    Ok(())
+}
+
+/// A property that follows a list of a flag and itself: 30.
+fn list_runs_into_itself<T: Transforms>(
+    alloc: Global,
+    providers: &mut Providers<'_, T>,
+) -> Result<bool, ProviderFault> {
+    let flag = providers.value(Value::Flag(true))?;
+    let p = property(alloc, providers, "p")?;
+    let listed = asking::list(providers, flag, p)?;
+    let follows = asking::set_from(providers, p, listed).is_ok();
+    Ok(follows && number(&asking::get(providers, p)) == 30)
+}
+
+fn try_list_runs_into_itself<T: Transforms>(
+    alloc: Global,
+    table: &TransformTable<T::Map, T::FlatMap, T::Zip, T::Test>,
+) -> bool {
+    let mut providers = Providers::<T>::new(alloc, table);
+    list_runs_into_itself(alloc, &mut providers).is_ok_and(|is_so| is_so)
+}
+
+#[test]
+fn a_circle_comes_before_an_element_that_is_no_text(rt: HostRuntime) -> Result<(), Fail> {
+    let alloc = rt.alloc();
+    let table = sample_table(alloc)?;
+    assert!(rt; try_list_runs_into_itself::<Sample>(alloc, &table));
+    Ok(())
+}
+
+/// A constant that is absent.
+fn is_nothing<T: Transforms>(
+    alloc: Global,
+    providers: &mut Providers<'_, T>,
+) -> Result<bool, ProviderFault> {
+    let nothing = providers.absent()?;
+    let text = providers.value(asking::text(alloc, "a")?)?;
+    let either = asking::or_else(providers, nothing, text)?;
+    let none = asking::producers(providers, nothing).is_ok_and(|tasks| tasks.is_empty());
+    Ok(
+        none && is_absent(&asking::get(providers, nothing))
+            && is_text(&asking::get(providers, either), "a"),
+    )
+}
+
+fn try_is_nothing<T: Transforms>(
+    alloc: Global,
+    table: &TransformTable<T::Map, T::FlatMap, T::Zip, T::Test>,
+) -> bool {
+    let mut providers = Providers::<T>::new(alloc, table);
+    is_nothing(alloc, &mut providers).is_ok_and(|is_so| is_so)
+}
+
+#[test]
+fn a_constant_may_be_absent(rt: HostRuntime) -> Result<(), Fail> {
+    let alloc = rt.alloc();
+    let table = sample_table(alloc)?;
+    assert!(rt; try_is_nothing::<Sample>(alloc, &table));
+    Ok(())
+}
+
+/// What a name and a count are refused for, or 0.
+fn refused<T: Transforms>(
+    alloc: Global,
+    table: &TransformTable<T::Map, T::FlatMap, T::Zip, T::Test>,
+    name: &str,
+    count: usize,
+) -> u16 {
+    let providers = Providers::<T>::new(alloc, table);
+    match providers.accepts_test(name, count) {
+        Ok(()) => 0,
+        Err(fault) => fault.number(),
+    }
+}
+
+#[test]
+fn a_test_is_accepted_before_it_is_asked(rt: HostRuntime) -> Result<(), Fail> {
+    let alloc = rt.alloc();
+    let table = sample_table(alloc)?;
+    assert_eq!(rt; refused::<Sample>(alloc, &table, "isTrue", 0), 0);
+    assert_eq!(rt; refused::<Sample>(alloc, &table, "isTrue", 1), 32);
+    assert_eq!(rt; refused::<Sample>(alloc, &table, "concat", 7), 31);
+    plain_ones_keep_answers::<Sample>();
     Ok(())
 }
 

@@ -1,8 +1,14 @@
 use Rattle.std.proofs.Common.{◌∙◌, subst}
 use Rattle.gb_provider.specs.Remembered.{IsRemembered}
 use Rattle.gb_provider.specs.Rules.{rules}
+use Rattle.gb_provider.specs.Produced.{carriers}
+use Rattle.gb_provider.proofs.RecallLemmas.{sound_extended}
 use Rattle.gb_provider.proofs.producing.evaluate_producers.Goals as goal
 
 pub returns-clause-values : goal.returns-clause-values
 returns-clause-values g c =
     subst (λ nodes. IsRemembered (rules g.T.Transforms.meanings nodes) c.reader.inside.values.items) (c.reader.view_is ∙ c.evaluate-found.ensures.kept) c.reader.invariant.1
+
+pub evaluate-found-requires-clause-sound : goal.evaluate-found-requires-clause-sound
+evaluate-found-requires-clause-sound g c =
+    sound_extended (carriers g.T.Transforms.meanings c.args.nodes.now) c.args.states.now.items c.extend.new.states.items c.in_ok-extend.ensures.known c.in_ok-extend.ensures.closed c.requires.remembered.1

@@ -15,8 +15,8 @@ loop-at-init g c =
     let is_new = new_state c.args.states.now.items c.args.entry within c.if-is_known.ensures.unknown (c.requires.sound.closed c.args.entry) in
     let found = started_search _ c.args.entry c.args.states.now.items c.requires.same c.requires.sound is_new in
     record {
-      search = rw (c.put.ensures, c.in_ok-push.ensures.items, c.new-path.ensures.items) found;
-      past = rw (c.in_ok-push.ensures.items, c.new-path.ensures.items, c.in_ok-push-2.ensures.items, c.new-pasts.ensures.items) (λ rule there. tt, tt);
+      search = rw (c.put.ensures, c.in_ok-path.ensures) found;
+      past = rw (c.in_ok-path.ensures, c.in_ok-pasts.ensures) (λ rule there. tt, tt);
       kept = refl;
     }
 
@@ -84,7 +84,7 @@ loop-at-smaller g c =
     let is = looked_waits _ _ kept c.loop-at.states.items c.deref.result.now c.deref.ensures.value c.in-Some.at c.in_ok-look.look.reading look c.in-Waits.operand c.in-Waits.is in
     let within : c.in-Waits.operand < length c.loop-at.states.items = rw (c.in-Waits.is, c.deref.ensures.value) at c.in_ok-look.ensures.within in
     let is_new = new_state c.loop-at.states.items c.in-Waits.operand within (awaited_none (known c.loop-at.states.items) _ c.in-Waits.operand is) c.if-is_open.ensures.closed in
-    rw c.put-in-Waits.ensures (opened_less _ _ _ _ _ on_path _ there _ is is_new)
+    rw c.in_ok-enter-in-Waits.ensures.states (opened_less _ _ _ _ _ on_path _ there _ is is_new)
 
 pub loop-at-preserved : goal.loop-at-preserved
 loop-at-preserved g c =
@@ -103,8 +103,8 @@ loop-at-preserved g c =
     let two_more = past_pushed _ _ _ _ c.in-Waits.operand 0 one_more (λ rule there. tt) in
     let extends = opened_extends (g.E.Entries.rules c.args.entries.now) c.loop-at.states.items c.in-Waits.operand is_new in
     record {
-      search = rw (c.put-in-Waits.ensures, c.in_ok-push-in-Waits-3.ensures.items, c.in_ok-push-in-Waits.ensures.items) (opened_search _ _ _ _ _ on_path _ there _ is is_new);
-      past = rw (c.put-in-Waits.ensures, c.in_ok-push-in-Waits-4.ensures.items, c.in_ok-push-in-Waits-2.ensures.items, c.in_ok-push-in-Waits-3.ensures.items, c.in_ok-push-in-Waits.ensures.items) (are_past_kept _ _ _ extends _ _ two_more);
+      search = rw (c.in_ok-enter-in-Waits.ensures.states, c.in_ok-enter-in-Waits.ensures.path, c.in_ok-push-in-Waits.ensures.items) (opened_search _ _ _ _ _ on_path _ there _ is is_new);
+      past = rw (c.in_ok-enter-in-Waits.ensures.states, c.in_ok-enter-in-Waits.ensures.pasts, c.in_ok-enter-in-Waits.ensures.path, c.in_ok-push-in-Waits.ensures.items) (are_past_kept _ _ _ extends _ _ two_more);
       kept = c.in_ok-look.ensures.kept ∙ c.loop-at.invariant.kept;
     }
 
