@@ -2,3 +2,4 @@ pub mod Files
 pub mod FileTree
 pub mod Faults
 pub mod Memory
+pub mod Limits

@@ -10,6 +10,8 @@
 #![tactic(auto)]
 
 pub mod folder;
+pub mod limits;
 pub mod memory;
+pub mod own;
 #[cfg(test)]
 mod tests;
