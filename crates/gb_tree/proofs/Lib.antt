@@ -11,4 +11,6 @@ pub mod Pieces
 pub mod Told
 pub mod Doubles
 pub mod Found
+pub mod Blame
+pub mod Holding
 pub mod Rest

@@ -4,10 +4,9 @@ use Rattle.std.specs.List.{filter}
 use Rattle.gb_core.specs.Lists.{first_of}
 use Rattle.gb_folder.specs.Files.{Contents, is_odd_under}
 use Rattle.gb_tree.specs.declared.fault.TreeFault.TheVariants as faults
-use Rattle.gb_tree.specs.Tree.{odd_roots}
+use Rattle.gb_tree.specs.Tree.{IsRefused, odd_roots}
 use Rattle.gb_tree.proofs.Loops.{step_here}
 use Rattle.gb_tree.proofs.Refused.{at_err, machine_before}
-use Rattle.gb_tree.proofs.Told.{IsRefused}
 use Rattle.gb_tree.proofs.entries.found.Goals as goal
 
 pub returns-in_err-places-clause-odd : goal.returns-in_err-places-clause-odd

@@ -1,10 +1,10 @@
 use Rattle.std.proofs.Common.{◌++◌, IfErr, ◌∙◌}
 use Rattle.std.proofs.lemmas.Result.{err_from_is_err_and}
 use Rattle.gb_tree.specs.Property.{entries_of, entry_faults}
-use Rattle.gb_tree.specs.Tree.{too_large}
+use Rattle.gb_tree.specs.Tree.{IsRefused, too_large}
 use Rattle.gb_tree.proofs.Found.{found_stand}
 use Rattle.gb_tree.proofs.Refused.{at_err}
-use Rattle.gb_tree.proofs.Told.{IsRefused, refused_reading}
+use Rattle.gb_tree.proofs.Told.{refused_reading}
 use Rattle.gb_tree.proofs.property.snapshot.Goals as goal
 
 pub returns-in_err-files-clause-err : goal.returns-in_err-files-clause-err
