@@ -13,7 +13,7 @@ use Rattle.gb_action.specs.Files.{Tree, file_at}
 use Rattle.gb_action.specs.Changes.{change_at, in_order, changes_between, IsChange}
 use Rattle.gb_action.specs.declared.change.Change.{Change}
 use Rattle.gb_action.specs.declared.change.Change.TheVariants.{Added, Modified, Removed}
-use Rattle.gb_action.proofs.Found.{tied_same}
+use Rattle.gb_core.proofs.Found.{tied_same}
 
 -- ---- Lists
 

@@ -5,3 +5,4 @@ pub mod Listed
 pub mod Sound
 pub mod Changes
 pub mod Rows
+pub mod Leaving

@@ -3,3 +3,4 @@ pub mod FileTree
 pub mod Faults
 pub mod Memory
 pub mod Limits
+pub mod Faulty

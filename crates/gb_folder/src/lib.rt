@@ -9,6 +9,7 @@
 //! exists where a file stands beneath it, and a large file is read in parts.
 #![tactic(auto)]
 
+pub mod faulty;
 pub mod folder;
 pub mod limits;
 pub mod memory;

@@ -19,7 +19,7 @@ use Rattle.gb_action.specs.Shapes.{source, target}
 use Rattle.gb_action.specs.declared.request.Request.{Request}
 use Rattle.gb_action.specs.declared.change.Change.{Change}
 use Rattle.gb_action.specs.declared.change.Change.TheVariants.{Modified}
-use Rattle.gb_action.proofs.Found.{tied_same, find-same, find-other}
+use Rattle.gb_core.proofs.Found.{tied_same, find-same, find-other}
 use Rattle.gb_kinds.specs.Carried.{file_of_lines, holds_in, is_carried, is_looked_at, is_of_change, path_of, told_at, IsCarried}
 use Rattle.gb_kinds.specs.ByFile.{source_changes}
 use Rattle.gb_kinds.specs.Remade.{as_made, standing}

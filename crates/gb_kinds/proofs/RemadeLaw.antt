@@ -9,7 +9,7 @@ use Rattle.gb_action.specs.Files.{Tree, file_at}
 use Rattle.gb_action.specs.Outputs.{written_at, files_of, stands_at, is_removed}
 use Rattle.gb_action.specs.Shapes.{target}
 use Rattle.gb_action.specs.declared.output.OutputFiles.{OutputFiles}
-use Rattle.gb_action.proofs.Found.{find-same, find-other}
+use Rattle.gb_core.proofs.Found.{find-same, find-other}
 use Rattle.gb_kinds.specs.ByFile.{file_of, holds, where_new}
 use Rattle.gb_kinds.specs.Remade.{outdated, renewed, standing}
 use Rattle.gb_kinds.proofs.FileLaw.{and_false, and_true, itself, some_none, some_same}

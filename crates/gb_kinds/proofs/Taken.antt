@@ -8,7 +8,7 @@ use Rattle.std.specs.FinMap.Entries.{find}
 use Rattle.gb_core.specs.Lists.{byte_order}
 use Rattle.gb_action.specs.declared.table.TableFault.{TableFault}
 use Rattle.gb_action.specs.declared.table.TableFault.TheVariants.{OutOfMemory, DuplicateAction}
-use Rattle.gb_action.proofs.Found.{find-other}
+use Rattle.gb_core.proofs.Found.{find-other}
 
 neither : (a b : Bool) → (a || b) ≡ false → (a ≡ false) × (b ≡ false)
 neither true b e = absurd (true≢false e)

@@ -11,7 +11,7 @@ use Rattle.gb_action.specs.Files.{Tree, file_at}
 use Rattle.gb_action.specs.Outputs.{written_at}
 use Rattle.gb_action.specs.Shapes.{target}
 use Rattle.gb_action.specs.declared.reply.Written.{Written}
-use Rattle.gb_action.proofs.Found.{find-same, find-other}
+use Rattle.gb_core.proofs.Found.{find-same, find-other}
 use Rattle.gb_kinds.specs.ByFile.{by_file}
 
 pub or_none : {X : Type 0} (o : Option X) → option_or o None ≡ o

@@ -12,7 +12,7 @@ use Rattle.gb_core.specs.Lists.{byte_order}
 use Rattle.gb_action.specs.Files.{Tree, file_at}
 use Rattle.gb_action.specs.declared.change.Change.{Change}
 use Rattle.gb_action.specs.declared.change.Change.TheVariants.{Added, Removed}
-use Rattle.gb_action.proofs.Found.{find-same, find-other, same_tied, tied_same}
+use Rattle.gb_core.proofs.Found.{find-same, find-other, same_tied, tied_same}
 use Rattle.gb_tree.specs.Merge.{told, past}
 use Rattle.gb_tree.proofs.Loops.{step_here, with_none}
 

@@ -14,7 +14,7 @@ use Rattle.std.specs.declared.cmp.Ordering.{Ordering}
 use Rattle.std.specs.declared.cmp.Ordering.TheVariants.{Less, Equal, Greater}
 use Rattle.gb_core.specs.Lists.{byte_order}
 use Rattle.gb_folder.specs.Files.{Place}
-use Rattle.gb_action.proofs.Found.{tied_same}
+use Rattle.gb_core.proofs.Found.{tied_same}
 use Rattle.gb_tree.specs.Property.{entry_order, in_order, inserted}
 use Rattle.gb_tree.specs.Rising.{IsFrom, IsRising}
 use Rattle.gb_tree.specs.Tree.{Entries}
