@@ -1,16 +1,14 @@
 -- Which place a fault of the device names.
 use Rattle.std.proofs.Common.{◌≡◌, ◌⊎◌, ◌≤◌, ◌<◌, Result, Ok, Err, arith, inl, inr, ℕ, zero, suc, Bool, true, false, ◌||◌, IsTrue, List, [], ◌∷◌, get_or, length, refl, sym, ◌∙◌, ap, subst}
 use Rattle.std.specs.Cmp.Lexicographic.{bytes_decides}
-use Rattle.std.specs.List.{AllByRecursion, list_any}
+use Rattle.std.specs.List.{AllByRecursion}
 use Rattle.std.specs.Prelude.{bytes_eq}
-use Rattle.gb_core.specs.Place.{is_under}
 use Rattle.gb_folder.specs.Files.{Place, HasRisen}
 use Rattle.gb_folder.proofs.Changes.{HasRisen-before}
 use Rattle.gb_folder.specs.declared.folder.FolderFault.{FolderFault}
 use Rattle.gb_folder.specs.declared.folder.FolderFault.TheVariants as folders
 use Rattle.gb_tree.specs.declared.fault.TreeFault.{TreeFault}
 use Rattle.gb_tree.specs.declared.fault.TreeFault.TheVariants as faults
-use Rattle.gb_tree.specs.Property.{is_under_any}
 use Rattle.gb_tree.specs.Tree.{Blames, Entries, is_among, tree_fault_at}
 
 -- the place of a device fault
@@ -60,6 +58,9 @@ among_such IsSuch (entry ∷ entries) all at h =
       | true ↦ λ same _. under_here entry.1 at same IsSuch all.0
       | false ↦ λ _ later. among_such IsSuch entries all.1 at later
     ] refl h
+
+pub among_read : (IsSuch : Place → Type 0) (entries read : Entries) → read ≡ entries → AllByRecursion (λ entry. IsSuch entry.1) entries → (at : Place) → IsTrue (is_among read at) → IsSuch at
+among_read IsSuch entries read same all at h = among_such IsSuch entries all at (subst (λ (es : Entries). IsTrue (is_among es at)) same h)
 
 -- an entry that is read is among them
 pub entry_among : (entries : Entries) (i : ℕ) (entry : List ℕ × Place) → i < length entries → entry ≡ get_or entries i entry → IsTrue (is_among entries entry.1)

@@ -1,5 +1,5 @@
 -- No more entries are held than tell that there are too many.
-use Rattle.std.proofs.Common.{arith, ◌≡◌, ◌≤◌, ◌<◌, ◌+◌, min, ℕ, zero, suc, Bool, true, false, cond, List, [], ◌∷◌, ◌++◌, length, map, take, drop, get_or, refl, sym, ◌∙◌, ap, subst, append_assoc}
+use Rattle.std.proofs.Common.{arith, ◌≡◌, ◌≤◌, ◌<◌, ◌+◌, min, ℕ, zero, suc, true, false, cond, List, [], ◌∷◌, ◌++◌, length, map, take, drop, get_or, refl, sym, ◌∙◌, ap, subst, append_assoc}
 use Rattle.std.proofs.lemmas.Bool.{lt-ltb}
 use Rattle.std.proofs.lemmas.List.{at_drop_all, length-take, take_all, take-append-le}
 use Rattle.std.specs.List.{AllByRecursion, filter}
@@ -83,7 +83,7 @@ all_append P [] ys first second = second
 all_append P (x ∷ xs) ys first second = (first.0, all_append P xs ys first.1 second)
 
 -- entries at places that are such
-pub at_places : (P : Place → Type 0) (path : Place → List ℕ) (places : List Place) → AllByRecursion P places → AllByRecursion (λ entry. P entry.1) (map (λ place. (path place, place)) places)
+pub at_places : (P : Place → Type 0) (path : Place → List ℕ) (places : List Place) → AllByRecursion P places → AllByRecursion (λ (entry : List ℕ × Place). P entry.1) (map (λ place. (path place, place)) places)
 at_places P path [] all = tt
 at_places P path (place ∷ places) all = (all.0, at_places P path places all.1)
 

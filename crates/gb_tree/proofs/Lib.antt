@@ -13,4 +13,5 @@ pub mod Doubles
 pub mod Found
 pub mod Blame
 pub mod Holding
+pub mod Listing
 pub mod Rest

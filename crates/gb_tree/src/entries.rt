@@ -53,7 +53,15 @@ pub(crate) fn entries_of<F: Folder>(
         (entry_faults name.now naming roots.now include.now exclude.now (F.contents folder.old)) fault) }
 {
     let roots = distinct(alloc, roots)?;
-    let mut entries = found_few(alloc, folder, name, naming, include, exclude, roots.as_slice())?;
+    let mut entries = found_few(
+        alloc,
+        folder,
+        name,
+        naming,
+        include,
+        exclude,
+        roots.as_slice(),
+    )?;
     sort(&mut entries);
     check_doubled(alloc, name, entries.as_slice())?;
     Ok(entries)

@@ -77,8 +77,11 @@ pub fn prints_of<F: Folder>(
     ensures tearing { SameTearing (F.may_leave folder.old) (F.may_leave folder.new) }
     ensures same { IsTrue F.tells → F.contents folder.new ≡ F.contents folder.old }
     ensures prints { IsTrue F.tells → IfOk result (λ prints. prints
-        ≡ (name.now, digests_of
-        (tree_of naming roots.now include.now exclude.now (F.contents folder.old).files))) }
+        ≡ (
+          name.now,
+          digests_of
+              (tree_of naming roots.now include.now exclude.now (F.contents folder.old).files),
+        )) }
     ensures fit { IsTrue F.tells → OnOk result
         (tree_faults name.now naming roots.now include.now exclude.now (F.contents folder.old) ≡ []) }
     ensures err { IsTrue F.tells → IfErr result (λ fault.

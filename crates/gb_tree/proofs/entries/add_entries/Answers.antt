@@ -17,7 +17,7 @@ loop-place-preserved c =
     let i = c.loop-place.place-index in
     let place = c.place-item.result in
     let kept : Entries = c.loop-place.entries.items in
-    let entry = (path_of naming root place, place) in
+    let entry : List ℕ × Place = (path_of naming root place, place) in
     let left = entries_in naming include exclude root (drop i places) in
     let rest = entries_in naming include exclude root (drop (i + 1) places) in
     let within = c.loop-place-test.true in
@@ -41,11 +41,11 @@ loop-place-preserved c =
             few = omega (arith, count, c.loop-place.invariant.few);
             held = ap (λ (es : Entries). held (es ++ rest)) now
                 ∙ (elim w.else-len-le-MAX_FILES.branch [
-                    | else-len-le-MAX_FILES-via-then-len-le-MAX_FILES+else-is_in v ↦
-                        ap (λ es. held (kept ++ es)) (sym (passed_here naming include exclude root places i place within is (sym v.is_in.ensures ∙ v.if-is_in.false)))
-                    | else-len-le-MAX_FILES-via-else-len-le-MAX_FILES v ↦
-                        enough (max_files + 1) kept rest left (omega (arith, c.len.ensures, v.if-len-le-MAX_FILES.false))
-                  ])
+                  | else-len-le-MAX_FILES-via-then-len-le-MAX_FILES+else-is_in v ↦
+                      ap (λ es. held (kept ++ es)) (sym (passed_here naming include exclude root places i place within is (sym v.is_in.ensures ∙ v.if-is_in.false)))
+                  | else-len-le-MAX_FILES-via-else-len-le-MAX_FILES v ↦
+                      enough (max_files + 1) kept rest left (omega (arith, c.len.ensures, v.if-len-le-MAX_FILES.false))
+                ])
                 ∙ c.loop-place.invariant.held;
           }
     ]
