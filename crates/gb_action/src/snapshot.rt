@@ -42,6 +42,13 @@ impl Snapshot {
     {
         &self.files
     }
+
+    /// Its files, of which none is copied.
+    pub fn into_files(self) -> Files
+        ensures { result ≡ self.1 }
+    {
+        self.files
+    }
 }
 
 /// The files of a task's file properties, in the order of their names.

@@ -1,12 +1,20 @@
 -- What the roots of a property give.
-use Rattle.std.proofs.Common.{◌≡◌, ℕ, Bool, true, false, cond, not, ◌||◌, List, [], ◌∷◌, ◌++◌, refl, sym, ◌∙◌, ap}
-use Rattle.std.proofs.lemmas.List.Elements.{filter-append}
+use Rattle.std.proofs.Common.{arith, ◌≡◌, ◌<◌, ◌+◌, ℕ, zero, suc, length, get_or, Bool, true, false, cond, not, ◌||◌, List, [], ◌∷◌, ◌++◌, refl, sym, ◌∙◌, ap, subst, IsTrue}
+use Rattle.std.proofs.lemmas.List.Elements.{filter-append, recursion_from_All}
+use Rattle.std.proofs.lemmas.List.Folds.{list_any-append}
+use Rattle.std.proofs.lemmas.Map.Text.{is_eq-slice_cmp}
 use Rattle.std.specs.Cmp.Lexicographic.{bytes_decides}
-use Rattle.std.specs.List.{AllByRecursion, filter, list_any}
+use Rattle.std.specs.List.{AllByRecursion, AllPass, filter, list_any}
+use Rattle.std.specs.Ordering.{eq_by_cmp}
 use Rattle.std.specs.Prelude.{IsSome, bytes_eq}
+use Rattle.gb_core.specs.Lists.{byte_order}
+use Rattle.gb_core.specs.Place.{is_under}
 use Rattle.gb_folder.specs.Files.{Place, Files, file_at, places_under}
-use Rattle.gb_tree.specs.Property.{distinct, entries_in, entries_of, found, is_in, path_of}
+use Rattle.gb_folder.specs.Limits.{max_files}
+use Rattle.gb_tree.specs.Tree.{Entries}
+use Rattle.gb_tree.specs.Property.{distinct, entries_in, entries_of, found, held, is_in, is_under_any, path_of}
 use Rattle.gb_tree.specs.declared.property.Naming.{Naming}
+use Rattle.gb_tree.proofs.Holding.{all_append, all_take, all_wider, at_places}
 use Rattle.gb_tree.proofs.InOrder.{all_filter, listed_stand}
 use Rattle.gb_tree.proofs.Loops.{with_none}
 use Rattle.gb_tree.proofs.Sorting.{all_in_order}
@@ -44,11 +52,81 @@ distinct_more (y ∷ places) x =
         ∙ ap (λ b. others y (distinct places) ++ cond (not b) (x ∷ []) []) is)
         ∙ sym (ap (λ b. cond b (y ∷ others y (distinct places)) (y ∷ others y (distinct places) ++ x ∷ [])) (still_in x y (distinct places) is ∙ has))
 
--- ---- Each of the files stands
+-- what is met first is kept
+pub distinct_next : (places : List Place) (x : Place) (added : Bool) → added ≡ not (stands_in x (distinct places)) → distinct (places ++ x ∷ []) ≡ cond added (distinct places ++ x ∷ []) (distinct places)
+distinct_next places x added is =
+    distinct_more places x
+    ∙ turned (stands_in x (distinct places)) (distinct places) (distinct places ++ x ∷ [])
+    ∙ ap (λ b. cond b (distinct places ++ x ∷ []) (distinct places)) (sym is)
+  where
+    turned : (b : Bool) (kept more : List Place) → cond b kept more ≡ cond (not b) more kept
+    turned true kept more = refl
+    turned false kept more = refl
 
-all_append : {X : Type 0} (P : X → Type 0) (xs ys : List X) → AllByRecursion P xs → AllByRecursion P ys → AllByRecursion P (xs ++ ys)
-all_append P [] ys first second = second
-all_append P (x ∷ xs) ys first second = (first.0, all_append P xs ys first.1 second)
+-- a set that has what is kept takes in the next
+pub met_next : (places : List Place) (x other : Place) (before after : Bool) → before ≡ stands_in other (distinct places) → after ≡ cond (eq_by_cmp byte_order x other) true before
+    → after ≡ stands_in other (distinct (places ++ x ∷ []))
+met_next places x other before after had now =
+    now
+    ∙ ap (λ b. cond b true before) (is_eq-slice_cmp x other)
+    ∙ either (bytes_eq x other) before
+    ∙ ap (λ b. b || bytes_eq x other) had
+    ∙ by (stands_in x (distinct places)) refl
+    ∙ sym (ap (stands_in other) (distinct_more places x))
+  where
+    either : (b before : Bool) → cond b true before ≡ (before || b)
+    either true true = refl
+    either true false = refl
+    either false true = refl
+    either false false = refl
+
+    none_more : (b : Bool) → (b || false) ≡ b
+    none_more true = refl
+    none_more false = refl
+
+    still : (b : Bool) → bytes_eq x other ≡ b → stands_in x (distinct places) ≡ true → (stands_in other (distinct places) || b) ≡ stands_in other (distinct places)
+    still true same has =
+        let here : stands_in other (distinct places) ≡ true = sym (ap (λ place. stands_in place (distinct places)) ((bytes_decides x other).0 same)) ∙ has in
+        ap (λ b. b || true) here ∙ sym here
+    still false apart has = none_more (stands_in other (distinct places))
+
+    by : (b : Bool) → stands_in x (distinct places) ≡ b → (stands_in other (distinct places) || bytes_eq x other) ≡ stands_in other (cond b (distinct places) (distinct places ++ x ∷ []))
+    by true has = still (bytes_eq x other) refl has
+    by false has =
+        ap (λ b. stands_in other (distinct places) || b) (sym (none_more (bytes_eq x other)))
+        ∙ sym (list_any-append (λ place. bytes_eq place other) (distinct places) (x ∷ []))
+
+any_way : (a b : Bool) → IsTrue b → IsTrue (a || b)
+any_way true b h = refl
+any_way false b h = h
+
+of_all : (place : Place) (kept : List Place) (at : Place) → IsTrue (is_under_any (others place kept) at) → IsTrue (is_under_any kept at)
+of_all place [] at h = h
+of_all place (other ∷ kept) at h =
+    elim (bytes_eq place other) as (λ b. IsTrue (is_under_any (cond (not b) (other ∷ others place kept) (others place kept)) at) → IsTrue (is_under at other || is_under_any kept at)) [
+      | true ↦ λ more. any_way (is_under at other) (is_under_any kept at) (of_all place kept at more)
+      | false ↦ λ all. elim (is_under at other) as (λ b. IsTrue (b || is_under_any (others place kept) at) → IsTrue (b || is_under_any kept at)) [
+        | true ↦ λ _. refl
+        | false ↦ λ more. of_all place kept at more
+      ] all
+    ] h
+
+-- a place at or beneath one of the roots
+pub under_root : (roots : List Place) (i : ℕ) (root at : Place) → i < length roots → root ≡ get_or roots i root → IsTrue (is_under at root) → IsTrue (is_under_any roots at)
+under_root [] i root at within is h = absurd (omega (arith, within))
+under_root (other ∷ roots) zero root at within is h = ap (λ b. b || is_under_any roots at) (ap (is_under at) (sym is) ∙ h)
+under_root (other ∷ roots) (suc i) root at within is h = any_way (is_under at other) (is_under_any roots at) (under_root roots i root at (omega (arith, within)) is h)
+
+-- a place beneath one of the places that are kept is beneath one of all
+pub distinct_under : (places : List Place) (at : Place) → IsTrue (is_under_any (distinct places) at) → IsTrue (is_under_any places at)
+distinct_under [] at h = h
+distinct_under (place ∷ places) at h =
+    elim (is_under at place) as (λ b. IsTrue (b || is_under_any (others place (distinct places)) at) → IsTrue (b || is_under_any places at)) [
+      | true ↦ λ _. refl
+      | false ↦ λ more. distinct_under places at (of_all place (distinct places) at more)
+    ] h
+
+-- ---- Each of the files stands
 
 found_each : (naming : Naming) (include exclude : List (List ℕ)) (files : Files) (roots : List Place) → Stand files (found naming include exclude files roots)
 found_each naming include exclude files [] = tt
@@ -60,3 +138,15 @@ found_each naming include exclude files (root ∷ roots) =
 pub found_stand : (naming : Naming) (roots : List Place) (include exclude : List (List ℕ)) (files : Files) → Stand files (entries_of naming roots include exclude files)
 found_stand naming roots include exclude files =
     all_in_order (λ entry. IsSome (file_at files entry.1)) (found naming include exclude files (distinct roots)) (found_each naming include exclude files (distinct roots))
+
+-- what is taken in from one root lies beneath it
+pub taken_beneath : (naming : Naming) (include exclude : List (List ℕ)) (roots : List Place) (i : ℕ) (root : Place) (places read : List Place) (kept new : Entries) → i < length roots → root ≡ get_or roots i root
+    → read ≡ places → AllPass (λ at. is_under at root) places → new ≡ held (kept ++ entries_in naming include exclude root read)
+    → AllByRecursion (λ entry. IsTrue (is_under_any roots entry.1)) kept → AllByRecursion (λ entry. IsTrue (is_under_any roots entry.1)) new
+taken_beneath naming include exclude roots i root places read kept new within is same under taken all =
+    let here = entries_in naming include exclude root read in
+    let each = all_wider (λ at. is_under at root ≡ true) (λ at. IsTrue (is_under_any roots at)) read (λ at. under_root roots i root at within is)
+    (recursion_from_All (λ at. is_under at root ≡ true) read (subst (λ (ps : List Place). AllPass (λ at. is_under at root) ps) (sym same) under)) in
+    subst (λ (es : Entries). AllByRecursion (λ entry. IsTrue (is_under_any roots entry.1)) es) (sym taken)
+    (all_take _ (max_files + 1) (kept ++ here) (all_append _ kept here all
+    (at_places (λ at. IsTrue (is_under_any roots at)) (path_of naming root) (filter (is_in include exclude root) read) (all_filter _ (is_in include exclude root) read each))))

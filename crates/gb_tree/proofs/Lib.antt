@@ -11,4 +11,7 @@ pub mod Pieces
 pub mod Told
 pub mod Doubles
 pub mod Found
+pub mod Blame
+pub mod Holding
+pub mod Listing
 pub mod Rest

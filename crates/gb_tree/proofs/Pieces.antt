@@ -6,7 +6,8 @@ use Rattle.std.proofs.Math.Seq.{take-add}
 use Rattle.std.specs.Prelude.{nat_lt, ◌==◌}
 use Rattle.gb_folder.specs.Files.{Place, Contents}
 use Rattle.sha2.specs.Sha256.{sha256}
-use Rattle.gb_tree.specs.Tree.{bytes_at, max_file}
+use Rattle.gb_folder.specs.Limits.{max_file}
+use Rattle.gb_tree.specs.Tree.{bytes_at}
 
 -- what a folder gave that holds the same still
 pub same_piece : (old now : Contents) (place : Place) (at count : ℕ) (piece : List ℕ) → now ≡ old → piece ≡ take count (drop at (bytes_at now.files place)) → piece ≡ take count (drop at (bytes_at old.files place))

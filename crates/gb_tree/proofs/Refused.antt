@@ -16,7 +16,8 @@ use Rattle.gb_folder.specs.declared.folder.FolderFault.{FolderFault}
 use Rattle.gb_folder.specs.declared.folder.FolderFault.TheVariants as folders
 use Rattle.gb_tree.specs.declared.fault.TreeFault.{TreeFault}
 use Rattle.gb_tree.specs.declared.fault.TreeFault.TheVariants as faults
-use Rattle.gb_tree.specs.Tree.{IsOfMachine, told_at, is_large, max_file}
+use Rattle.gb_folder.specs.Limits.{max_file}
+use Rattle.gb_tree.specs.Tree.{IsTreeFaultOfMachine, tree_fault_at, is_large}
 
 free_among : (all files : Files) (place bytes : List ℕ) → list_all (λ (file : List ℕ × List ℕ). not (is_blocked all file.0)) files ≡ true → file_at files place ≡ Some bytes → is_blocked all place ≡ false
 free_among all [] place bytes sound stands = absurd (none-some bytes stands)
@@ -42,9 +43,9 @@ large_from files place h = by (file_at files place) h
     by None h = absurd h
     by (Some bytes) h = grind (arith, nat_tests)
 
-pub read_refused : (before after : ℕ) (place : Place) (fault : FolderFault) (told : TreeFault) (large : Bool) → (told ≡ faults.OutOfMemory) ⊎ (told ≡ told_at place fault)
+pub read_refused : (before after : ℕ) (place : Place) (fault : FolderFault) (told : TreeFault) (large : Bool) → (told ≡ faults.OutOfMemory) ⊎ (told ≡ tree_fault_at place fault)
     → (fault ≡ folders.Device → HasRisen before after) → (fault ≡ folders.Missing → ⊥) → (fault ≡ folders.Blocked → ⊥) → (fault ≡ folders.BadFileName → ⊥) → (fault ≡ folders.TooLarge → large ≡ true)
-    → IsOfMachine before after told ⊎ ((large ≡ true) × (told ≡ faults.TooLarge place))
+    → IsTreeFaultOfMachine before after told ⊎ ((large ≡ true) × (told ≡ faults.TooLarge place))
 read_refused before after place fault told large (inl is) rose missing blocked odd over = inl (inl is)
 read_refused before after place folders.OutOfMemory told large (inr is) rose missing blocked odd over = inl (inl is)
 read_refused before after place folders.Device told large (inr is) rose missing blocked odd over = inl (inr (place, is, rose refl))
@@ -54,7 +55,7 @@ read_refused before after place folders.TooLarge told large (inr is) rose missin
 read_refused before after place folders.BadFileName told large (inr is) rose missing blocked odd over = absurd (odd refl)
 
 -- it began to rise before the call
-pub machine_before : (first second third : ℕ) (fault : TreeFault) → first ≤ second → second ≤ third → IsOfMachine second third fault → IsOfMachine first third fault
+pub machine_before : (first second third : ℕ) (fault : TreeFault) → first ≤ second → second ≤ third → IsTreeFaultOfMachine second third fault → IsTreeFaultOfMachine first third fault
 machine_before first second third fault le more (inl is) = inl is
 machine_before first second third fault le more (inr device) = inr (device.0, device.1, HasRisen-before first second third le more device.2)
 

@@ -1,19 +1,20 @@
 -- Why the files at entries are not read, told of the whole.
-use Rattle.std.proofs.Common.{◌≡◌, ◌⊎◌, ◌≤◌, ◌++◌, ℕ, List, [], ◌∷◌, map, Some, inl, inr, sym, ◌∙◌, subst}
+use Rattle.std.proofs.Common.{◌≡◌, ◌≤◌, ◌++◌, ℕ, true, false, cond, List, [], ◌∷◌, map, inl, inr, sym, ◌∙◌, subst}
 use Rattle.std.specs.List.{AllByRecursion}
 use Rattle.std.specs.Prelude.{IsSome}
-use Rattle.gb_core.specs.Lists.{first_of}
-use Rattle.gb_folder.specs.Files.{Place, Files, Contents, file_at, places_under}
+use Rattle.gb_folder.specs.Files.{Place, Files, Contents, file_at, is_own, places_under}
 use Rattle.gb_tree.specs.declared.fault.TreeFault.{TreeFault}
-use Rattle.gb_tree.specs.Tree.{Entries, IsOfMachine, entries_from, too_large}
+use Rattle.gb_tree.specs.Tree.{Entries, IsRefused, entries_from, output_entries, too_large}
 use Rattle.gb_tree.proofs.InOrder.{listed_stand}
-use Rattle.gb_tree.proofs.Refused.{back_first, machine_before}
+use Rattle.gb_tree.proofs.Refused.{back_first, front_first, machine_before}
 
 abbrev pub Stand : Files → Entries → Type 0
 Stand files entries = AllByRecursion (λ entry. IsSome (file_at files entry.1)) entries
 
-abbrev pub IsRefused : ℕ → ℕ → List TreeFault → TreeFault → Type 0
-IsRefused before after faults fault = IsOfMachine before after fault ⊎ (first_of faults ≡ Some fault)
+-- what hindered listing them comes first
+pub refused_listing : (before after : ℕ) (listing more : List TreeFault) (fault : TreeFault) → IsRefused before after listing fault → IsRefused before after (listing ++ more) fault
+refused_listing before after listing more fault (inl machine) = inl machine
+refused_listing before after listing more fault (inr first) = inr (front_first listing more fault first)
 
 -- nothing hindered listing the entries
 pub refused_reading : (before mid after : ℕ) (old now : Contents) (listing : List TreeFault) (entries read : Entries) (fault : TreeFault) → now ≡ old → read ≡ entries → before ≤ mid → mid ≤ after → listing ≡ []
@@ -30,5 +31,8 @@ pub with_paths : (files : Files) (path : Place → List ℕ) (places : List Plac
 with_paths files path [] all = tt
 with_paths files path (place ∷ places) all = (all.0, with_paths files path places all.1)
 
-pub outputs_stand : (files : Files) (root : Place) → Stand files (entries_from root (places_under files root))
-outputs_stand files root = with_paths files _ (places_under files root) (listed_stand files root)
+pub outputs_stand : (files : Files) (root : Place) → Stand files (output_entries files root)
+outputs_stand files root = elim (is_own root) as (λ b. Stand files (cond b [] (entries_from root (places_under files root)))) [
+  | true ↦ tt
+  | false ↦ with_paths files _ (places_under files root) (listed_stand files root)
+]

@@ -35,6 +35,10 @@ under_parts place root h = by (bytes_eq place root) refl h
     by true is h = inl ((bytes_decides place root).0 is)
     by false is h = let found = begins place (root ++ 47 ∷ []) h in inr (found.0, found.1 ∙ joined root found.0)
 
+-- a place is under itself
+pub own_place : (place : List ℕ) → IsTrue (is_under place place)
+own_place place = ap (λ b. b || is_beneath place place) ((bytes_decides place place).1 refl)
+
 -- what follows the root
 pub after_root : (place root : List ℕ) → IsUnder place root → (drop (length root) place ≡ []) ⊎ ((rest : List ℕ) × (drop (length root) place ≡ 47 ∷ rest))
 after_root place root (inl is) = inl (ap (drop (length root)) (is ∙ sym (with_none root)) ∙ drop_at root [] (length root) refl)

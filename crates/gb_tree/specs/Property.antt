@@ -1,11 +1,12 @@
 -- The files of a file property, by their paths, and why they are not read.
-use Rattle.std.specs.Prelude.{ℕ, Bool, not, ◌&&◌, ◌||◌, ◌==◌, ◌++◌, List, [], ◌∷◌, map, if◌then◌else◌, bytes_eq}
+use Rattle.std.specs.Prelude.{ℕ, Bool, not, ◌&&◌, ◌||◌, ◌==◌, ◌+◌, ◌++◌, List, [], ◌∷◌, map, take, if◌then◌else◌, bytes_eq}
 use Rattle.std.specs.List.{after_last, filter, flat_map, list_any}
 use Rattle.std.specs.Ordering.{is_lt, ordering_then}
 use Rattle.std.specs.declared.cmp.Ordering.{Ordering}
 use Rattle.gb_core.specs.Place.{is_under}
 use Rattle.gb_core.specs.Lists.{byte_order}
 use Rattle.gb_folder.specs.Files.{Place, Files, Contents, is_empty, is_own, places_under}
+use Rattle.gb_folder.specs.Limits.{max_files}
 use Rattle.gb_tree.specs.Pattern.{path_matches}
 use Rattle.gb_tree.specs.Tree.{Entries, contents_at, odd_roots, path_from, too_large, too_many}
 use Rattle.gb_tree.specs.declared.property.Naming.{Naming}
@@ -42,6 +43,10 @@ path_of NameOnly root place = last_segment place
 abbrev pub entries_in : Naming → List (List ℕ) → List (List ℕ) → Place → List Place → Entries
 entries_in naming include exclude root places = map (λ place. (path_of naming root place, place)) (filter (is_in include exclude root) places)
 
+-- at or beneath one of the roots
+abbrev pub is_under_any : List Place → Place → Bool
+is_under_any roots place = list_any (is_under place) roots
+
 -- each place once
 abbrev pub distinct : List Place → List Place
 distinct [] = []
@@ -50,6 +55,10 @@ distinct (place ∷ places) = place ∷ filter (λ other. not (bytes_eq place ot
 -- what each of the roots gives
 abbrev pub found : Naming → List (List ℕ) → List (List ℕ) → Files → List Place → Entries
 found naming include exclude files roots = flat_map (λ root. entries_in naming include exclude root (places_under files root)) roots
+
+-- no more of them than tell that there are too many
+abbrev pub held : Entries → Entries
+held entries = take (max_files + 1) entries
 
 -- ---- Their order
 

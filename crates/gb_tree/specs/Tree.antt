@@ -1,17 +1,13 @@
 -- The files at places, those beneath an output's place, and why they are not read.
-use Rattle.std.specs.Prelude.{ℕ, ◌≡◌, ◌⊎◌, ◌*◌, ◌+◌, ◌++◌, Bool, List, [], ◌∷◌, map, length, drop, if◌then◌else◌, nat_lt, unwrap_or}
-use Rattle.std.specs.List.{filter}
-use Rattle.gb_folder.specs.Files.{Place, Bytes, Files, Contents, HasRisen, file_at, is_odd_under, places_under}
+use Rattle.std.specs.Prelude.{ℕ, ◌≡◌, ◌⊎◌, ◌+◌, ◌++◌, Bool, List, [], ◌∷◌, map, length, drop, if◌then◌else◌, nat_lt, unwrap_or, bytes_eq, Some, Result, Err}
+use Rattle.std.specs.List.{filter, list_any}
+use Rattle.gb_core.specs.Lists.{first_of}
+use Rattle.gb_folder.specs.Files.{Place, Bytes, Files, Contents, HasRisen, file_at, is_odd_under, is_own, places_under}
+use Rattle.gb_folder.specs.Limits.{max_file, max_files}
 use Rattle.gb_tree.specs.declared.fault.TreeFault.{TreeFault}
 use Rattle.gb_tree.specs.declared.fault.TreeFault.TheVariants as faults
 use Rattle.gb_folder.specs.declared.folder.FolderFault.{FolderFault}
 use Rattle.gb_folder.specs.declared.folder.FolderFault.TheVariants as folders
-
-abbrev pub max_file : ℕ
-max_file = 8 * 1024 * 1024
-
-abbrev pub max_files : ℕ
-max_files = 65536
 
 -- the bytes of a file that stands at the place
 abbrev pub bytes_at : Files → Place → Bytes
@@ -33,9 +29,16 @@ contents_at files entries = map (λ entry. (entry.0, bytes_at files entry.1)) en
 abbrev pub entries_from : Place → List Place → Entries
 entries_from root places = map (λ place. (path_from root place, place)) places
 
--- the files at or beneath the root, by their paths from it
+-- The files of an output: those at or beneath its place, by their paths from it. Files of `.gb` belong to none.
+abbrev pub output_entries : Files → Place → Entries
+output_entries files root = if is_own root then [] else entries_from root (places_under files root)
+
 abbrev pub files_from : Files → Place → Files
-files_from files root = contents_at files (entries_from root (places_under files root))
+files_from files root = contents_at files (output_entries files root)
+
+-- the place is that of one of the entries
+abbrev pub is_among : Entries → Place → Bool
+is_among entries place = list_any (λ entry. bytes_eq entry.1 place) entries
 
 abbrev pub is_large : Files → Place → Bool
 is_large files place = nat_lt max_file (length (bytes_at files place))
@@ -51,22 +54,33 @@ too_many name entries = if nat_lt max_files (length entries) then faults.TooMany
 abbrev pub too_large : Files → Entries → List TreeFault
 too_large files entries = map (λ entry. faults.TooLarge entry.1) (filter (λ entry. is_large files entry.1) entries)
 
--- What hinders listing an output's files, and then reading them, in this order.
+-- What hinders listing the files beneath a place, and an output's, and then reading them, in this order.
 abbrev pub listing_faults : List ℕ → Place → Contents → List TreeFault
 listing_faults name root contents = odd_roots contents (root ∷ []) ++ too_many name (entries_from root (places_under contents.files root))
 
+abbrev pub output_listing_faults : List ℕ → Place → Contents → List TreeFault
+output_listing_faults name root contents = if is_own root then [] else listing_faults name root contents
+
 abbrev pub output_faults : List ℕ → Place → Contents → List TreeFault
-output_faults name root contents = listing_faults name root contents ++ too_large contents.files (entries_from root (places_under contents.files root))
+output_faults name root contents = output_listing_faults name root contents ++ too_large contents.files (output_entries contents.files root)
 
 -- want of memory, or a failure of the device, whose count rose
-abbrev pub IsOfMachine : ℕ → ℕ → TreeFault → Type 0
-IsOfMachine before after fault = (fault ≡ faults.OutOfMemory) ⊎ ((place : Place) × (fault ≡ faults.Device place) × HasRisen before after)
+abbrev pub IsTreeFaultOfMachine : ℕ → ℕ → TreeFault → Type 0
+IsTreeFaultOfMachine before after fault = (fault ≡ faults.OutOfMemory) ⊎ ((place : Place) × (fault ≡ faults.Device place) × HasRisen before after)
 
--- a folder's fault, with the place at which it came
-abbrev pub told_at : Place → FolderFault → TreeFault
-told_at place folders.OutOfMemory = faults.OutOfMemory
-told_at place folders.Device = faults.Device place
-told_at place folders.Missing = faults.Missing place
-told_at place folders.Blocked = faults.Blocked place
-told_at place folders.TooLarge = faults.TooLarge place
-told_at place folders.BadFileName = faults.BadFileName place
+-- refused by the machine, or by the first of these faults
+abbrev pub IsRefused : ℕ → ℕ → List TreeFault → TreeFault → Type 0
+IsRefused before after faults fault = IsTreeFaultOfMachine before after fault ⊎ (first_of faults ≡ Some fault)
+
+-- A fault of the device names such a place, and the count of its failures rose.
+abbrev pub Blames : {A : Type 0} → (Place → Type 0) → ℕ → ℕ → Result A TreeFault → Type 0
+Blames IsSuch before after result = (place : Place) → result ≡ Err (faults.Device place) → IsSuch place × HasRisen before after
+
+-- a folder's fault as a tree's, with the place at which it came
+abbrev pub tree_fault_at : Place → FolderFault → TreeFault
+tree_fault_at place folders.OutOfMemory = faults.OutOfMemory
+tree_fault_at place folders.Device = faults.Device place
+tree_fault_at place folders.Missing = faults.Missing place
+tree_fault_at place folders.Blocked = faults.Blocked place
+tree_fault_at place folders.TooLarge = faults.TooLarge place
+tree_fault_at place folders.BadFileName = faults.BadFileName place

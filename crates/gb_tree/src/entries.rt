@@ -1,25 +1,29 @@
 //! The files that belong to a property, in the order of their paths.
-ghost use Rattle.std.specs.Prelude.{◌≡◌, ◌≤◌, ◌⊎◌, ◌++◌, [], ◌∷◌, ℕ, List, length, take, drop, true, None, Some, Err, IsTrue, IfOk, IfErr, OnOk, string_bytes};
+ghost use Rattle.std.specs.Prelude.{◌≡◌, ◌≤◌, ◌⊎◌, ◌+◌, ◌++◌, [], ◌∷◌, ℕ, List, length, take, drop, true, None, Some, IsTrue, IfOk, IfErr, OnOk, string_bytes};
 ghost use Rattle.std.specs.List.{AllByRecursion, AllPass, filter};
 ghost use Rattle.std.specs.Option.{option_copied};
 ghost use Rattle.std.specs.Ordering.{is_lt};
 ghost use Rattle.std.specs.FinMap.Entries.{is_sorted};
 ghost use Rattle.gb_core.specs.Place.{is_beneath, is_under};
 ghost use Rattle.gb_core.specs.Lists.{byte_order, first_of};
-ghost use Rattle.gb_folder.specs.Files.{HasRisen, is_own};
-ghost use Rattle.gb_tree.specs.Tree.{IsOfMachine, odd_roots};
-ghost use Rattle.gb_tree.specs.Property.{distinct, doubled, entries_in, entries_of, entry_faults, found, in_order, is_in, lets_in, matches_any, paths_of};
+ghost use Rattle.gb_folder.specs.Files.{SameTearing};
+ghost use Rattle.gb_folder.specs.Limits.{max_files};
+ghost use Rattle.gb_tree.specs.Tree.{Blames, IsRefused, odd_roots, too_many};
+ghost use Rattle.gb_tree.specs.Property.{distinct, doubled, entries_in, entries_of, entry_faults, found, held, in_order, is_in, is_under_any, lets_in, matches_any, paths_of};
 ghost use Rattle.gb_tree.specs.Rising.{IsFrom, IsRising};
 
 use crate::fault::TreeFault;
 use crate::path::{path_of, seen_from};
 use crate::pattern::Pattern;
 use crate::property::Naming;
-use crate::reading::{MAX_FILES, listed};
+use crate::reading::listed;
 use gb_core::name::Name;
 use gb_core::place::{Place, RelPath, lies_beneath};
 use gb_folder::folder::Folder;
+use gb_folder::limits::MAX_FILES;
+use gb_folder::own::is_own;
 use std::alloc::{AllocError, Global};
+use std::collections::BTreeSet;
 
 /// The places of the property's files, in the order of their paths, of which each can stand beside
 /// the others. Of no content anything is read.
@@ -33,39 +37,86 @@ pub(crate) fn entries_of<F: Folder>(
     exclude: &[Pattern],
 ) -> Result<Vec<(RelPath, Place)>, TreeFault>
     ensures count { F.failures folder.old ≤ F.failures folder.new }
-    ensures blame { (at : List ℕ) → result ≡ Err (TreeFault.Device at) → HasRisen (F.failures folder.old) (F.failures folder.new) }
+    ensures blame { Blames (λ at. IsTrue (is_under_any roots.now at))
+        (F.failures folder.old) (F.failures folder.new) result }
+    ensures tearing { SameTearing (F.may_leave folder.old) (F.may_leave folder.new) }
+    ensures under { IfOk result
+        (λ entries. AllByRecursion (λ entry. IsTrue (is_under_any roots.now entry.1)) entries.items) }
     ensures ordered { IfOk result (λ entries. IsTrue (is_sorted byte_order entries.items)) }
     ensures same { IsTrue F.tells → F.contents folder.new ≡ F.contents folder.old }
-    ensures entries { IsTrue F.tells → IfOk result (λ entries. entries.items ≡ entries_of naming roots.now include.now exclude.now (F.contents folder.old).files) }
-    ensures fit { IsTrue F.tells → OnOk result (entry_faults name.now naming roots.now include.now exclude.now (F.contents folder.old) ≡ []) }
-    ensures err { IsTrue F.tells → IfErr result (λ fault. IsOfMachine (F.failures folder.old) (F.failures folder.new) fault
-        ⊎ (first_of (entry_faults name.now naming roots.now include.now exclude.now (F.contents folder.old)) ≡ Some fault)) }
+    ensures entries { IsTrue F.tells → IfOk result (λ entries.
+        entries.items ≡ entries_of naming roots.now include.now exclude.now (F.contents folder.old).files) }
+    ensures fit { IsTrue F.tells → OnOk result
+        (entry_faults name.now naming roots.now include.now exclude.now (F.contents folder.old) ≡ []) }
+    ensures err { IsTrue F.tells → IfErr result (λ fault.
+        IsRefused (F.failures folder.old) (F.failures folder.new)
+        (entry_faults name.now naming roots.now include.now exclude.now (F.contents folder.old)) fault) }
 {
     let roots = distinct(alloc, roots)?;
-    let mut entries = found(alloc, folder, naming, include, exclude, roots.as_slice())?;
+    let mut entries = found_few(
+        alloc,
+        folder,
+        name,
+        naming,
+        include,
+        exclude,
+        roots.as_slice(),
+    )?;
     sort(&mut entries);
-    if entries.len() > MAX_FILES {
-        return Err(TreeFault::TooManyFiles(name.copy()?));
-    }
     check_doubled(alloc, name, entries.as_slice())?;
     Ok(entries)
 }
 
-/// Each place once. Its steps grow with the square of how many places there are: a script writes
-/// them one by one.
+/// Each place once. Those that were met stand in a set, so that the steps grow as n log n.
 fn distinct(alloc: Global, places: &[Place]) -> Result<Vec<Place>, AllocError>
     ensures { IfOk result (λ kept. kept.items ≡ distinct places.now) }
 {
+    let mut met = BTreeSet::new(alloc);
     let mut kept: Vec<Place> = Vec::new(alloc);
     for place in places.iter() {
-        if !kept.as_slice().contains(place) {
+        if met.insert(place.copy()?)? {
             kept.push(place.copy()?)?;
         }
     }
     Ok(kept)
 }
 
-/// What each of the roots gives.
+/// What the roots give, of which there are no more than can be read.
+fn found_few<F: Folder>(
+    alloc: Global,
+    folder: &mut F,
+    name: &Name,
+    naming: Naming,
+    include: &[Pattern],
+    exclude: &[Pattern],
+    roots: &[Place],
+) -> Result<Vec<(RelPath, Place)>, TreeFault>
+    ensures count { F.failures folder.old ≤ F.failures folder.new }
+    ensures blame { Blames (λ at. IsTrue (is_under_any roots.now at))
+        (F.failures folder.old) (F.failures folder.new) result }
+    ensures tearing { SameTearing (F.may_leave folder.old) (F.may_leave folder.new) }
+    ensures under { IfOk result
+        (λ entries. AllByRecursion (λ entry. IsTrue (is_under_any roots.now entry.1)) entries.items) }
+    ensures same { IsTrue F.tells → F.contents folder.new ≡ F.contents folder.old }
+    ensures found { IsTrue F.tells → IfOk result (λ entries.
+        entries.items ≡ found naming include.now exclude.now (F.contents folder.old).files roots.now) }
+    ensures none_odd { IsTrue F.tells → OnOk result (odd_roots (F.contents folder.old) roots.now ≡ []) }
+    ensures few { IfOk result (λ entries. too_many name.now entries.items ≡ []) }
+    ensures err { IsTrue F.tells → IfErr result (λ fault.
+        IsRefused (F.failures folder.old) (F.failures folder.new)
+        (odd_roots (F.contents folder.old) roots.now
+        ++ too_many name.now
+        (found naming include.now exclude.now (F.contents folder.old).files roots.now)) fault) }
+{
+    let entries = found(alloc, folder, naming, include, exclude, roots)?;
+    if entries.len() > MAX_FILES {
+        return Err(TreeFault::TooManyFiles(name.copy()?));
+    }
+    Ok(entries)
+}
+
+/// What each of the roots gives, but no more than tell that there are too many: later roots are
+/// listed all the same, since something odd beneath them counts first.
 fn found<F: Folder>(
     alloc: Global,
     folder: &mut F,
@@ -75,12 +126,19 @@ fn found<F: Folder>(
     roots: &[Place],
 ) -> Result<Vec<(RelPath, Place)>, TreeFault>
     ensures count { F.failures folder.old ≤ F.failures folder.new }
-    ensures blame { (at : List ℕ) → result ≡ Err (TreeFault.Device at) → HasRisen (F.failures folder.old) (F.failures folder.new) }
+    ensures blame { Blames (λ at. IsTrue (is_under_any roots.now at))
+        (F.failures folder.old) (F.failures folder.new) result }
+    ensures tearing { SameTearing (F.may_leave folder.old) (F.may_leave folder.new) }
+    ensures under { IfOk result
+        (λ entries. AllByRecursion (λ entry. IsTrue (is_under_any roots.now entry.1)) entries.items) }
+    ensures few { IfOk result (λ entries. length entries.items ≤ max_files + 1) }
     ensures same { IsTrue F.tells → F.contents folder.new ≡ F.contents folder.old }
-    ensures found { IsTrue F.tells → IfOk result (λ entries. entries.items ≡ found naming include.now exclude.now (F.contents folder.old).files roots.now) }
+    ensures found { IsTrue F.tells → IfOk result (λ entries.
+        entries.items ≡ held (found naming include.now exclude.now (F.contents folder.old).files roots.now)) }
     ensures none_odd { IsTrue F.tells → OnOk result (odd_roots (F.contents folder.old) roots.now ≡ []) }
-    ensures odd { IsTrue F.tells → IfErr result (λ fault. IsOfMachine (F.failures folder.old) (F.failures folder.new) fault
-        ⊎ (first_of (odd_roots (F.contents folder.old) roots.now) ≡ Some fault)) }
+    ensures odd { IsTrue F.tells → IfErr result (λ fault.
+        IsRefused (F.failures folder.old) (F.failures folder.new)
+        (odd_roots (F.contents folder.old) roots.now) fault) }
 {
     let mut entries = Vec::new(alloc);
     for root in roots.iter() {
@@ -98,7 +156,7 @@ fn found<F: Folder>(
     Ok(entries)
 }
 
-/// Adds those of the places beneath a root that belong to the property.
+/// Adds those of the places beneath a root that belong to the property, until there are too many.
 fn add_entries(
     alloc: Global,
     entries: &mut Vec<(RelPath, Place)>,
@@ -108,12 +166,15 @@ fn add_entries(
     root: &Place,
     places: &[Place],
 ) -> Result<(), TreeFault>
-    requires { AllPass (λ at. is_under at root.now) places.now }
-    ensures entries { OnOk result (entries.new.items ≡ entries.old.items ++ entries_in naming include.now exclude.now root.now places.now) }
+    requires under { AllPass (λ at. is_under at root.now) places.now }
+    requires few { length entries.old.items ≤ max_files + 1 }
+    ensures few { OnOk result (length entries.new.items ≤ max_files + 1) }
+    ensures entries { OnOk result (entries.new.items
+        ≡ held (entries.old.items ++ entries_in naming include.now exclude.now root.now places.now)) }
     ensures err { IfErr result (λ fault. fault ≡ TreeFault.OutOfMemory) }
 {
     for place in places.iter() {
-        if is_in(include, exclude, root, place) {
+        if entries.len() <= MAX_FILES && is_in(include, exclude, root, place) {
             entries.push((path_of(alloc, naming, root, place)?, place.copy()?))?;
         }
     }
@@ -126,13 +187,6 @@ fn is_in(include: &[Pattern], exclude: &[Pattern], root: &Place, place: &Place) 
     ensures { result ≡ is_in include.now exclude.now root.now place.now }
 {
     !is_own(place) && lets_in(include, exclude, seen_from(root.as_str(), place.as_str()))
-}
-
-/// Whether the place is the tool's own folder, or beneath it.
-fn is_own(place: &Place) -> bool
-    ensures { result ≡ is_own place.now }
-{
-    place.as_str() == ".gb" || lies_beneath(place.as_str().as_bytes(), b".gb")
 }
 
 /// Whether some include matches the path, or there is none, and no exclude does.
@@ -161,7 +215,8 @@ fn check_doubled(alloc: Global, name: &Name, entries: &[(RelPath, Place)]) -> Re
     ensures ordered { OnOk result (IsTrue (is_sorted byte_order entries.now)) }
     ensures fit { OnOk result (doubled (paths_of entries.now) ≡ []) }
     ensures err { IfErr result (λ fault. (fault ≡ TreeFault.OutOfMemory)
-        ⊎ ((path : List ℕ) × (first_of (doubled (paths_of entries.now)) ≡ Some path) × (fault ≡ TreeFault.DuplicateInput name.now path))) }
+        ⊎ ((path : List ℕ) × (first_of (doubled (paths_of entries.now)) ≡ Some path)
+        × (fault ≡ TreeFault.DuplicateInput name.now path))) }
 {
     for index in 0..entries.len() {
         if let Some(other) = first_under(alloc, &entries[index].0, &entries[index + 1..])? {
@@ -179,7 +234,8 @@ fn first_under<'a>(
 ) -> Result<Option<&'a RelPath>, AllocError>
     requires rising { IsRising later.now }
     requires from { IsFrom path.now later.now }
-    ensures { IfOk result (λ other. option_copied other ≡ first_of (filter (λ other. is_under other path.now) (paths_of later.now))) }
+    ensures { IfOk result (λ other.
+        option_copied other ≡ first_of (filter (λ other. is_under other path.now) (paths_of later.now))) }
 {
     match later.first() {
         Some((other, _)) if other == path => Ok(Some(other)),
@@ -195,7 +251,8 @@ fn first_beneath<'a>(
     later: &'a [(RelPath, Place)],
 ) -> Result<Option<&'a RelPath>, AllocError>
     requires { IsRising later.now }
-    ensures { IfOk result (λ other. option_copied other ≡ first_of (filter (λ other. is_beneath other path.now) (paths_of later.now))) }
+    ensures { IfOk result (λ other.
+        option_copied other ≡ first_of (filter (λ other. is_beneath other path.now) (paths_of later.now))) }
 {
     let front = with_slash(alloc, path)?;
     let index = count_before(front.as_str(), later);
@@ -224,7 +281,8 @@ fn with_slash(alloc: Global, path: &RelPath) -> Result<String, AllocError>
 fn count_before(text: &str, entries: &[(RelPath, Place)]) -> usize
     requires { IsRising entries.now }
     ensures within { result ≤ length entries.now }
-    ensures before { AllByRecursion (λ entry. is_lt (byte_order entry.0 text.now) ≡ true) (take result entries.now) }
+    ensures before { AllByRecursion (λ entry. is_lt (byte_order entry.0 text.now) ≡ true)
+        (take result entries.now) }
     ensures from { IsFrom text.now (drop result entries.now) }
 {
     entries.partition_point(|entry| entry.0.as_str() < text)

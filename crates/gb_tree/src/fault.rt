@@ -1,6 +1,6 @@
 //! Why a tree is not read.
 ghost use Rattle.std.specs.Prelude.{◌≡◌, ◌⊎◌};
-ghost use Rattle.gb_tree.specs.Tree.{told_at};
+ghost use Rattle.gb_tree.specs.Tree.{tree_fault_at};
 
 use gb_core::name::Name;
 use gb_core::place::{Place, RelPath};
@@ -76,7 +76,7 @@ impl<T: Drop> From<AllocFailed<T>> for TreeFault {
 
 /// The fault at a place; want of memory takes its stead where there is none to name the place.
 pub(crate) fn fault_at(fault: FolderFault, place: &Place) -> TreeFault
-    ensures { (result ≡ TreeFault.OutOfMemory) ⊎ (result ≡ told_at place.now fault) }
+    ensures { (result ≡ TreeFault.OutOfMemory) ⊎ (result ≡ tree_fault_at place.now fault) }
 {
     match place.copy() {
         Ok(place) => fault_of(fault, place),
@@ -85,7 +85,7 @@ pub(crate) fn fault_at(fault: FolderFault, place: &Place) -> TreeFault
 }
 
 fn fault_of(fault: FolderFault, place: Place) -> TreeFault
-    ensures { result ≡ told_at place fault }
+    ensures { result ≡ tree_fault_at place fault }
 {
     match fault {
         FolderFault::OutOfMemory => TreeFault::OutOfMemory,

@@ -1,26 +1,29 @@
 //! The files beneath an output's place.
-ghost use Rattle.std.specs.Prelude.{◌≡◌, ◌≤◌, ◌⊎◌, [], ℕ, List, Some, Err, IsTrue, IfOk, IfErr, OnOk};
-ghost use Rattle.std.specs.List.{AllPass};
+ghost use Rattle.std.specs.Prelude.{◌≡◌, ◌≤◌, [], IsTrue, IfOk, IfErr, OnOk};
+ghost use Rattle.std.specs.List.{AllByRecursion, AllPass};
 ghost use Rattle.std.specs.List.Sorted.{IsStrictlySortedBy};
 ghost use Rattle.std.specs.FinMap.Entries.{is_sorted};
 ghost use Rattle.gb_core.specs.Place.{is_under};
-ghost use Rattle.gb_core.specs.Lists.{byte_order, first_of};
-ghost use Rattle.gb_folder.specs.Files.{HasRisen, places_under};
-ghost use Rattle.gb_tree.specs.Tree.{IsOfMachine, entries_from, files_from, listing_faults, output_faults};
+ghost use Rattle.gb_core.specs.Lists.{byte_order};
+ghost use Rattle.gb_folder.specs.Files.{SameTearing, places_under};
+ghost use Rattle.gb_tree.specs.Tree.{Blames, IsRefused, entries_from, files_from, listing_faults, output_entries, output_faults, output_listing_faults};
 ghost use Rattle.gb_tree.specs.Prints.{digests_of};
 
 use crate::fault::TreeFault;
 use crate::path::path_from;
 use crate::prints::Prints;
-use crate::reading::{MAX_FILES, digest_all, listed, read_all};
+use crate::reading::{digest_all, listed, read_all};
 use gb_action::snapshot::Snapshot;
 use gb_core::name::Name;
 use gb_core::place::{Place, RelPath};
 use gb_folder::folder::Folder;
+use gb_folder::limits::MAX_FILES;
+use gb_folder::own::is_own;
 use std::alloc::Global;
 
 /// The files at or beneath the place, by their paths from it; a file at the place itself has the
-/// empty path. Nothing is written.
+/// empty path. At a place in the tool's own folder `.gb` there are none, and nothing is listed.
+/// Nothing is written.
 pub fn outputs<F: Folder>(
     alloc: Global,
     folder: &mut F,
@@ -28,12 +31,17 @@ pub fn outputs<F: Folder>(
     place: &Place,
 ) -> Result<Snapshot, TreeFault>
     ensures count { F.failures folder.old ≤ F.failures folder.new }
-    ensures blame { (at : List ℕ) → result ≡ Err (TreeFault.Device at) → HasRisen (F.failures folder.old) (F.failures folder.new) }
+    ensures blame { Blames (λ at. IsTrue (is_under at place.now))
+        (F.failures folder.old) (F.failures folder.new) result }
+    ensures tearing { SameTearing (F.may_leave folder.old) (F.may_leave folder.new) }
     ensures same { IsTrue F.tells → F.contents folder.new ≡ F.contents folder.old }
-    ensures files { IsTrue F.tells → IfOk result (λ snapshot. snapshot ≡ (name.now, files_from (F.contents folder.old).files place.now)) }
-    ensures fit { IsTrue F.tells → OnOk result (output_faults name.now place.now (F.contents folder.old) ≡ []) }
-    ensures err { IsTrue F.tells → IfErr result (λ fault. IsOfMachine (F.failures folder.old) (F.failures folder.new) fault
-        ⊎ (first_of (output_faults name.now place.now (F.contents folder.old)) ≡ Some fault)) }
+    ensures files { IsTrue F.tells → IfOk result
+        (λ snapshot. snapshot ≡ (name.now, files_from (F.contents folder.old).files place.now)) }
+    ensures fit { IsTrue F.tells → OnOk result
+        (output_faults name.now place.now (F.contents folder.old) ≡ []) }
+    ensures err { IsTrue F.tells → IfErr result (λ fault.
+        IsRefused (F.failures folder.old) (F.failures folder.new)
+        (output_faults name.now place.now (F.contents folder.old)) fault) }
 {
     let entries = entries_at(alloc, folder, name, place)?;
     let files = read_all(alloc, folder, entries.as_slice())?;
@@ -49,19 +57,24 @@ pub fn output_prints<F: Folder>(
     place: &Place,
 ) -> Result<Prints, TreeFault>
     ensures count { F.failures folder.old ≤ F.failures folder.new }
-    ensures blame { (at : List ℕ) → result ≡ Err (TreeFault.Device at) → HasRisen (F.failures folder.old) (F.failures folder.new) }
+    ensures blame { Blames (λ at. IsTrue (is_under at place.now))
+        (F.failures folder.old) (F.failures folder.new) result }
+    ensures tearing { SameTearing (F.may_leave folder.old) (F.may_leave folder.new) }
     ensures same { IsTrue F.tells → F.contents folder.new ≡ F.contents folder.old }
-    ensures prints { IsTrue F.tells → IfOk result (λ prints. prints ≡ (name.now, digests_of (files_from (F.contents folder.old).files place.now))) }
-    ensures fit { IsTrue F.tells → OnOk result (output_faults name.now place.now (F.contents folder.old) ≡ []) }
-    ensures err { IsTrue F.tells → IfErr result (λ fault. IsOfMachine (F.failures folder.old) (F.failures folder.new) fault
-        ⊎ (first_of (output_faults name.now place.now (F.contents folder.old)) ≡ Some fault)) }
+    ensures prints { IsTrue F.tells → IfOk result
+        (λ prints. prints ≡ (name.now, digests_of (files_from (F.contents folder.old).files place.now))) }
+    ensures fit { IsTrue F.tells → OnOk result
+        (output_faults name.now place.now (F.contents folder.old) ≡ []) }
+    ensures err { IsTrue F.tells → IfErr result (λ fault.
+        IsRefused (F.failures folder.old) (F.failures folder.new)
+        (output_faults name.now place.now (F.contents folder.old)) fault) }
 {
     let entries = entries_at(alloc, folder, name, place)?;
     let digests = digest_all(alloc, folder, entries.as_slice())?;
     Ok(Prints::new(name.copy()?, digests))
 }
 
-/// The places of the files at or beneath the place, by their paths from it.
+/// The places of the output's files, by their paths from its place.
 fn entries_at<F: Folder>(
     alloc: Global,
     folder: &mut F,
@@ -69,13 +82,49 @@ fn entries_at<F: Folder>(
     place: &Place,
 ) -> Result<Vec<(RelPath, Place)>, TreeFault>
     ensures count { F.failures folder.old ≤ F.failures folder.new }
-    ensures blame { (at : List ℕ) → result ≡ Err (TreeFault.Device at) → HasRisen (F.failures folder.old) (F.failures folder.new) }
+    ensures blame { Blames (λ at. IsTrue (is_under at place.now))
+        (F.failures folder.old) (F.failures folder.new) result }
+    ensures tearing { SameTearing (F.may_leave folder.old) (F.may_leave folder.new) }
+    ensures under { IfOk result
+        (λ entries. AllByRecursion (λ entry. IsTrue (is_under entry.1 place.now)) entries.items) }
     ensures ordered { IfOk result (λ entries. IsTrue (is_sorted byte_order entries.items)) }
     ensures same { IsTrue F.tells → F.contents folder.new ≡ F.contents folder.old }
-    ensures entries { IsTrue F.tells → IfOk result (λ entries. entries.items ≡ entries_from place.now (places_under (F.contents folder.old).files place.now)) }
-    ensures fit { IsTrue F.tells → OnOk result (listing_faults name.now place.now (F.contents folder.old) ≡ []) }
-    ensures err { IsTrue F.tells → IfErr result (λ fault. IsOfMachine (F.failures folder.old) (F.failures folder.new) fault
-        ⊎ (first_of (listing_faults name.now place.now (F.contents folder.old)) ≡ Some fault)) }
+    ensures entries { IsTrue F.tells → IfOk result
+        (λ entries. entries.items ≡ output_entries (F.contents folder.old).files place.now) }
+    ensures fit { IsTrue F.tells → OnOk result
+        (output_listing_faults name.now place.now (F.contents folder.old) ≡ []) }
+    ensures err { IsTrue F.tells → IfErr result (λ fault.
+        IsRefused (F.failures folder.old) (F.failures folder.new)
+        (output_listing_faults name.now place.now (F.contents folder.old)) fault) }
+{
+    if is_own(place) {
+        return Ok(Vec::new(alloc));
+    }
+    entries_beneath(alloc, folder, name, place)
+}
+
+/// The places of the files at or beneath the place, by their paths from it.
+fn entries_beneath<F: Folder>(
+    alloc: Global,
+    folder: &mut F,
+    name: &Name,
+    place: &Place,
+) -> Result<Vec<(RelPath, Place)>, TreeFault>
+    ensures count { F.failures folder.old ≤ F.failures folder.new }
+    ensures blame { Blames (λ at. IsTrue (is_under at place.now))
+        (F.failures folder.old) (F.failures folder.new) result }
+    ensures tearing { SameTearing (F.may_leave folder.old) (F.may_leave folder.new) }
+    ensures under { IfOk result
+        (λ entries. AllByRecursion (λ entry. IsTrue (is_under entry.1 place.now)) entries.items) }
+    ensures ordered { IfOk result (λ entries. IsTrue (is_sorted byte_order entries.items)) }
+    ensures same { IsTrue F.tells → F.contents folder.new ≡ F.contents folder.old }
+    ensures entries { IsTrue F.tells → IfOk result (λ entries.
+        entries.items ≡ entries_from place.now (places_under (F.contents folder.old).files place.now)) }
+    ensures fit { IsTrue F.tells → OnOk result
+        (listing_faults name.now place.now (F.contents folder.old) ≡ []) }
+    ensures err { IsTrue F.tells → IfErr result (λ fault.
+        IsRefused (F.failures folder.old) (F.failures folder.new)
+        (listing_faults name.now place.now (F.contents folder.old)) fault) }
 {
     let places = listed(alloc, folder, place)?;
     if places.len() > MAX_FILES {
@@ -92,6 +141,8 @@ fn entries_from(
 ) -> Result<Vec<(RelPath, Place)>, TreeFault>
     requires under { AllPass (λ at. is_under at root.now) places.now }
     requires ordered { IsStrictlySortedBy byte_order places.now }
+    ensures under { IfOk result
+        (λ entries. AllByRecursion (λ entry. IsTrue (is_under entry.1 root.now)) entries.items) }
     ensures ordered { IfOk result (λ entries. IsTrue (is_sorted byte_order entries.items)) }
     ensures entries { IfOk result (λ entries. entries.items ≡ entries_from root.now places.now) }
     ensures err { IfErr result (λ fault. fault ≡ TreeFault.OutOfMemory) }

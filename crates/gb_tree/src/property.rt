@@ -1,10 +1,9 @@
 //! The files of a file property.
-ghost use Rattle.std.specs.Prelude.{◌≡◌, ◌≤◌, ◌⊎◌, [], ℕ, List, Some, Err, IsTrue, IfOk, IfErr, OnOk};
-ghost use Rattle.gb_core.specs.Lists.{first_of};
-ghost use Rattle.gb_folder.specs.Files.{HasRisen};
-ghost use Rattle.gb_tree.specs.Tree.{IsOfMachine};
+ghost use Rattle.std.specs.Prelude.{◌≡◌, ◌≤◌, [], IsTrue, IfOk, IfErr, OnOk};
+ghost use Rattle.gb_folder.specs.Files.{SameTearing};
+ghost use Rattle.gb_tree.specs.Tree.{Blames, IsRefused};
 ghost use Rattle.gb_tree.specs.Prints.{digests_of};
-ghost use Rattle.gb_tree.specs.Property.{tree_faults, tree_of};
+ghost use Rattle.gb_tree.specs.Property.{is_under_any, tree_faults, tree_of};
 
 use crate::entries::entries_of;
 use crate::fault::TreeFault;
@@ -43,12 +42,18 @@ pub fn snapshot<F: Folder>(
     exclude: &[Pattern],
 ) -> Result<Snapshot, TreeFault>
     ensures count { F.failures folder.old ≤ F.failures folder.new }
-    ensures blame { (at : List ℕ) → result ≡ Err (TreeFault.Device at) → HasRisen (F.failures folder.old) (F.failures folder.new) }
+    ensures blame { Blames (λ at. IsTrue (is_under_any roots.now at))
+        (F.failures folder.old) (F.failures folder.new) result }
+    ensures tearing { SameTearing (F.may_leave folder.old) (F.may_leave folder.new) }
     ensures same { IsTrue F.tells → F.contents folder.new ≡ F.contents folder.old }
-    ensures files { IsTrue F.tells → IfOk result (λ snapshot. snapshot ≡ (name.now, tree_of naming roots.now include.now exclude.now (F.contents folder.old).files)) }
-    ensures fit { IsTrue F.tells → OnOk result (tree_faults name.now naming roots.now include.now exclude.now (F.contents folder.old) ≡ []) }
-    ensures err { IsTrue F.tells → IfErr result (λ fault. IsOfMachine (F.failures folder.old) (F.failures folder.new) fault
-        ⊎ (first_of (tree_faults name.now naming roots.now include.now exclude.now (F.contents folder.old)) ≡ Some fault)) }
+    ensures files { IsTrue F.tells → IfOk result
+        (λ snapshot. snapshot
+        ≡ (name.now, tree_of naming roots.now include.now exclude.now (F.contents folder.old).files)) }
+    ensures fit { IsTrue F.tells → OnOk result
+        (tree_faults name.now naming roots.now include.now exclude.now (F.contents folder.old) ≡ []) }
+    ensures err { IsTrue F.tells → IfErr result (λ fault.
+        IsRefused (F.failures folder.old) (F.failures folder.new)
+        (tree_faults name.now naming roots.now include.now exclude.now (F.contents folder.old)) fault) }
 {
     let entries = entries_of(alloc, folder, name, naming, roots, include, exclude)?;
     let files = read_all(alloc, folder, entries.as_slice())?;
@@ -67,12 +72,21 @@ pub fn prints_of<F: Folder>(
     exclude: &[Pattern],
 ) -> Result<Prints, TreeFault>
     ensures count { F.failures folder.old ≤ F.failures folder.new }
-    ensures blame { (at : List ℕ) → result ≡ Err (TreeFault.Device at) → HasRisen (F.failures folder.old) (F.failures folder.new) }
+    ensures blame { Blames (λ at. IsTrue (is_under_any roots.now at))
+        (F.failures folder.old) (F.failures folder.new) result }
+    ensures tearing { SameTearing (F.may_leave folder.old) (F.may_leave folder.new) }
     ensures same { IsTrue F.tells → F.contents folder.new ≡ F.contents folder.old }
-    ensures prints { IsTrue F.tells → IfOk result (λ prints. prints ≡ (name.now, digests_of (tree_of naming roots.now include.now exclude.now (F.contents folder.old).files))) }
-    ensures fit { IsTrue F.tells → OnOk result (tree_faults name.now naming roots.now include.now exclude.now (F.contents folder.old) ≡ []) }
-    ensures err { IsTrue F.tells → IfErr result (λ fault. IsOfMachine (F.failures folder.old) (F.failures folder.new) fault
-        ⊎ (first_of (tree_faults name.now naming roots.now include.now exclude.now (F.contents folder.old)) ≡ Some fault)) }
+    ensures prints { IsTrue F.tells → IfOk result (λ prints. prints
+        ≡ (
+          name.now,
+          digests_of
+              (tree_of naming roots.now include.now exclude.now (F.contents folder.old).files),
+        )) }
+    ensures fit { IsTrue F.tells → OnOk result
+        (tree_faults name.now naming roots.now include.now exclude.now (F.contents folder.old) ≡ []) }
+    ensures err { IsTrue F.tells → IfErr result (λ fault.
+        IsRefused (F.failures folder.old) (F.failures folder.new)
+        (tree_faults name.now naming roots.now include.now exclude.now (F.contents folder.old)) fault) }
 {
     let entries = entries_of(alloc, folder, name, naming, roots, include, exclude)?;
     let digests = digest_all(alloc, folder, entries.as_slice())?;

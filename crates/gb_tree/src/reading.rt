@@ -1,12 +1,12 @@
 //! Files are listed and read, or digested, one after another.
-ghost use Rattle.std.specs.Prelude.{◌≡◌, ◌≤◌, ◌⊎◌, [], ℕ, List, map, length, take, drop, None, Some, Err, false, true, IsTrue, IsSome, IfOk, IfErr, OnOk};
+ghost use Rattle.std.specs.Prelude.{◌≡◌, ◌≤◌, ◌⊎◌, [], length, take, drop, None, Some, false, true, IsTrue, IsSome, IfOk, IfErr, OnOk};
 ghost use Rattle.std.specs.List.{AllByRecursion, AllPass};
 ghost use Rattle.std.specs.List.Sorted.{IsStrictlySortedBy};
 ghost use Rattle.std.specs.FinMap.Entries.{is_sorted};
 ghost use Rattle.gb_core.specs.Place.{is_under};
-ghost use Rattle.gb_core.specs.Lists.{byte_order, first_of};
-ghost use Rattle.gb_folder.specs.Files.{HasRisen, file_at, is_odd_under, places_under};
-ghost use Rattle.gb_tree.specs.Tree.{IsOfMachine, bytes_at, contents_at, is_large, too_large};
+ghost use Rattle.gb_core.specs.Lists.{byte_order};
+ghost use Rattle.gb_folder.specs.Files.{SameTearing, file_at, is_odd_under, places_under};
+ghost use Rattle.gb_tree.specs.Tree.{Blames, IsRefused, IsTreeFaultOfMachine, bytes_at, contents_at, is_among, is_large, too_large};
 ghost use Rattle.gb_tree.specs.Prints.{digests_of};
 ghost use Rattle.sha2.specs.Sha256.{sha256};
 
@@ -15,14 +15,9 @@ use gb_action::files::Files;
 use gb_core::bytes::Bytes;
 use gb_core::place::{Place, RelPath};
 use gb_folder::folder::Folder;
+use gb_folder::limits::MAX_FILE;
 use sha2::{Digest, Sha256};
 use std::alloc::Global;
-
-/// The most bytes of a file.
-const MAX_FILE: u64 = 8 * 1024 * 1024;
-
-/// The most files of a property or an output.
-pub(crate) const MAX_FILES: usize = 65_536;
 
 /// The bytes of a piece of a file that is digested.
 const PIECE: u64 = 65_536;
@@ -37,16 +32,20 @@ pub(crate) fn listed<F: Folder>(
     place: &Place,
 ) -> Result<Vec<Place>, TreeFault>
     ensures count { F.failures folder.old ≤ F.failures folder.new }
-    ensures blame { (at : List ℕ) → result ≡ Err (TreeFault.Device at) → HasRisen (F.failures folder.old) (F.failures folder.new) }
+    ensures blame { Blames (λ at. at ≡ place.now)
+        (F.failures folder.old) (F.failures folder.new) result }
+    ensures tearing { SameTearing (F.may_leave folder.old) (F.may_leave folder.new) }
     ensures under { IfOk result (λ places. AllPass (λ at. is_under at place.now) places.items) }
     ensures ordered { IfOk result (λ places. IsStrictlySortedBy byte_order places.items) }
     ensures same { IsTrue F.tells → F.contents folder.new ≡ F.contents folder.old }
     ensures listed { IsTrue F.tells → IfOk result
         (λ places. places.items ≡ places_under (F.contents folder.old).files place.now) }
-    ensures none_odd { IsTrue F.tells → OnOk result (is_odd_under (F.contents folder.old) place.now ≡ false) }
+    ensures none_odd { IsTrue F.tells → OnOk result
+        (is_odd_under (F.contents folder.old) place.now ≡ false) }
     ensures odd { IsTrue F.tells → IfErr result
-        (λ fault. IsOfMachine (F.failures folder.old) (F.failures folder.new) fault
-        ⊎ (IsTrue (is_odd_under (F.contents folder.old) place.now) × (fault ≡ TreeFault.BadFileName place.now))) }
+        (λ fault. IsTreeFaultOfMachine (F.failures folder.old) (F.failures folder.new) fault
+        ⊎ (IsTrue (is_odd_under (F.contents folder.old) place.now)
+        × (fault ≡ TreeFault.BadFileName place.now))) }
 {
     folder
         .list(alloc, place)
@@ -56,13 +55,18 @@ pub(crate) fn listed<F: Folder>(
 /// The bytes of one file.
 fn read_file<F: Folder>(alloc: Global, folder: &mut F, place: &Place) -> Result<Bytes, TreeFault>
     ensures count { F.failures folder.old ≤ F.failures folder.new }
-    ensures blame { (at : List ℕ) → result ≡ Err (TreeFault.Device at) → HasRisen (F.failures folder.old) (F.failures folder.new) }
+    ensures blame { Blames (λ at. at ≡ place.now)
+        (F.failures folder.old) (F.failures folder.new) result }
+    ensures tearing { SameTearing (F.may_leave folder.old) (F.may_leave folder.new) }
     ensures same { IsTrue F.tells → F.contents folder.new ≡ F.contents folder.old }
-    ensures read { IsTrue F.tells → IfOk result (λ bytes. bytes ≡ bytes_at (F.contents folder.old).files place.now) }
-    ensures small { IsTrue F.tells → OnOk result (is_large (F.contents folder.old).files place.now ≡ false) }
-    ensures err { IsTrue F.tells → IsSome (file_at (F.contents folder.old).files place.now) → IfErr result
-        (λ fault. IsOfMachine (F.failures folder.old) (F.failures folder.new) fault
-        ⊎ ((is_large (F.contents folder.old).files place.now ≡ true) × (fault ≡ TreeFault.TooLarge place.now))) }
+    ensures read { IsTrue F.tells → IfOk result
+        (λ bytes. bytes ≡ bytes_at (F.contents folder.old).files place.now) }
+    ensures small { IsTrue F.tells → OnOk result
+        (is_large (F.contents folder.old).files place.now ≡ false) }
+    ensures err { IsTrue F.tells → IsSome (file_at (F.contents folder.old).files place.now)
+        → IfErr result (λ fault. IsTreeFaultOfMachine (F.failures folder.old) (F.failures folder.new) fault
+        ⊎ ((is_large (F.contents folder.old).files place.now ≡ true)
+        × (fault ≡ TreeFault.TooLarge place.now))) }
 {
     match folder.read(alloc, place, MAX_FILE) {
         Ok(bytes) => Ok(Bytes::new(bytes)),
@@ -78,13 +82,18 @@ pub(crate) fn read_all<F: Folder>(
 ) -> Result<Files, TreeFault>
     requires { IsTrue (is_sorted byte_order entries.now) }
     ensures count { F.failures folder.old ≤ F.failures folder.new }
-    ensures blame { (at : List ℕ) → result ≡ Err (TreeFault.Device at) → HasRisen (F.failures folder.old) (F.failures folder.new) }
+    ensures blame { Blames (λ at. IsTrue (is_among entries.now at))
+        (F.failures folder.old) (F.failures folder.new) result }
+    ensures tearing { SameTearing (F.may_leave folder.old) (F.may_leave folder.new) }
     ensures same { IsTrue F.tells → F.contents folder.new ≡ F.contents folder.old }
-    ensures read { IsTrue F.tells → IfOk result (λ files. files ≡ contents_at (F.contents folder.old).files entries.now) }
+    ensures read { IsTrue F.tells → IfOk result
+        (λ files. files ≡ contents_at (F.contents folder.old).files entries.now) }
     ensures small { IsTrue F.tells → OnOk result (too_large (F.contents folder.old).files entries.now ≡ []) }
-    ensures err { IsTrue F.tells → AllByRecursion (λ entry. IsSome (file_at (F.contents folder.old).files entry.1)) entries.now → IfErr result
-        (λ fault. IsOfMachine (F.failures folder.old) (F.failures folder.new) fault
-        ⊎ (first_of (too_large (F.contents folder.old).files entries.now) ≡ Some fault)) }
+    ensures err { IsTrue F.tells
+        → AllByRecursion (λ entry. IsSome (file_at (F.contents folder.old).files entry.1)) entries.now
+        → IfErr result (λ fault.
+        IsRefused (F.failures folder.old) (F.failures folder.new)
+        (too_large (F.contents folder.old).files entries.now) fault) }
 {
     let mut files = Files::new(alloc);
     for (path, place) in entries.iter() {
@@ -103,12 +112,15 @@ fn read_piece<F: Folder>(
     len: u64,
 ) -> Result<Vec<u8>, TreeFault>
     ensures count { F.failures folder.old ≤ F.failures folder.new }
-    ensures blame { (at : List ℕ) → result ≡ Err (TreeFault.Device at) → HasRisen (F.failures folder.old) (F.failures folder.new) }
+    ensures blame { Blames (λ at. at ≡ place.now)
+        (F.failures folder.old) (F.failures folder.new) result }
+    ensures tearing { SameTearing (F.may_leave folder.old) (F.may_leave folder.new) }
     ensures same { IsTrue F.tells → F.contents folder.new ≡ F.contents folder.old }
     ensures within { IfOk result (λ piece. length piece.items ≤ len) }
-    ensures read { IsTrue F.tells → IfOk result (λ piece. piece.items ≡ take len (drop at (bytes_at (F.contents folder.old).files place.now))) }
-    ensures err { IsTrue F.tells → IsSome (file_at (F.contents folder.old).files place.now) → IfErr result
-        (λ fault. IsOfMachine (F.failures folder.old) (F.failures folder.new) fault) }
+    ensures read { IsTrue F.tells → IfOk result
+        (λ piece. piece.items ≡ take len (drop at (bytes_at (F.contents folder.old).files place.now))) }
+    ensures err { IsTrue F.tells → IsSome (file_at (F.contents folder.old).files place.now)
+        → IfErr result (λ fault. IsTreeFaultOfMachine (F.failures folder.old) (F.failures folder.new) fault) }
 {
     match folder.read_part(alloc, place, at, len) {
         Ok(piece) => Ok(piece),
@@ -123,13 +135,18 @@ fn digest_file<F: Folder>(
     place: &Place,
 ) -> Result<[u8; 32], TreeFault>
     ensures count { F.failures folder.old ≤ F.failures folder.new }
-    ensures blame { (at : List ℕ) → result ≡ Err (TreeFault.Device at) → HasRisen (F.failures folder.old) (F.failures folder.new) }
+    ensures blame { Blames (λ at. at ≡ place.now)
+        (F.failures folder.old) (F.failures folder.new) result }
+    ensures tearing { SameTearing (F.may_leave folder.old) (F.may_leave folder.new) }
     ensures same { IsTrue F.tells → F.contents folder.new ≡ F.contents folder.old }
-    ensures digest { IsTrue F.tells → IfOk result (λ digest. digest ≡ sha256 (bytes_at (F.contents folder.old).files place.now)) }
-    ensures small { IsTrue F.tells → OnOk result (is_large (F.contents folder.old).files place.now ≡ false) }
-    ensures err { IsTrue F.tells → IsSome (file_at (F.contents folder.old).files place.now) → IfErr result
-        (λ fault. IsOfMachine (F.failures folder.old) (F.failures folder.new) fault
-        ⊎ ((is_large (F.contents folder.old).files place.now ≡ true) × (fault ≡ TreeFault.TooLarge place.now))) }
+    ensures digest { IsTrue F.tells → IfOk result
+        (λ digest. digest ≡ sha256 (bytes_at (F.contents folder.old).files place.now)) }
+    ensures small { IsTrue F.tells → OnOk result
+        (is_large (F.contents folder.old).files place.now ≡ false) }
+    ensures err { IsTrue F.tells → IsSome (file_at (F.contents folder.old).files place.now)
+        → IfErr result (λ fault. IsTreeFaultOfMachine (F.failures folder.old) (F.failures folder.new) fault
+        ⊎ ((is_large (F.contents folder.old).files place.now ≡ true)
+        × (fault ≡ TreeFault.TooLarge place.now))) }
 {
     let mut hasher = Sha256::new();
     for index in 0..PIECES {
@@ -155,14 +172,19 @@ pub(crate) fn digest_all<F: Folder>(
 ) -> Result<Vec<(RelPath, [u8; 32])>, TreeFault>
     requires { IsTrue (is_sorted byte_order entries.now) }
     ensures count { F.failures folder.old ≤ F.failures folder.new }
-    ensures blame { (at : List ℕ) → result ≡ Err (TreeFault.Device at) → HasRisen (F.failures folder.old) (F.failures folder.new) }
+    ensures blame { Blames (λ at. IsTrue (is_among entries.now at))
+        (F.failures folder.old) (F.failures folder.new) result }
+    ensures tearing { SameTearing (F.may_leave folder.old) (F.may_leave folder.new) }
     ensures same { IsTrue F.tells → F.contents folder.new ≡ F.contents folder.old }
     ensures ordered { IfOk result (λ digests. IsTrue (is_sorted byte_order digests.items)) }
-    ensures digests { IsTrue F.tells → IfOk result (λ digests. digests.items ≡ digests_of (contents_at (F.contents folder.old).files entries.now)) }
+    ensures digests { IsTrue F.tells → IfOk result
+        (λ digests. digests.items ≡ digests_of (contents_at (F.contents folder.old).files entries.now)) }
     ensures small { IsTrue F.tells → OnOk result (too_large (F.contents folder.old).files entries.now ≡ []) }
-    ensures err { IsTrue F.tells → AllByRecursion (λ entry. IsSome (file_at (F.contents folder.old).files entry.1)) entries.now → IfErr result
-        (λ fault. IsOfMachine (F.failures folder.old) (F.failures folder.new) fault
-        ⊎ (first_of (too_large (F.contents folder.old).files entries.now) ≡ Some fault)) }
+    ensures err { IsTrue F.tells
+        → AllByRecursion (λ entry. IsSome (file_at (F.contents folder.old).files entry.1)) entries.now
+        → IfErr result (λ fault.
+        IsRefused (F.failures folder.old) (F.failures folder.new)
+        (too_large (F.contents folder.old).files entries.now) fault) }
 {
     let mut digests = Vec::with_capacity(alloc, entries.len())?;
     for (path, place) in entries.iter() {

@@ -243,6 +243,25 @@ fn outputs_stand_by_their_paths(rt: HostRuntime) -> Result<(), Fail> {
 }
 
 #[test]
+fn the_own_folder_has_no_outputs(rt: HostRuntime) -> Result<(), Fail> {
+    let alloc = rt.alloc();
+    let files = [
+        (".gb/state/a", b"1".as_slice()),
+        (".gbx/b", b"12".as_slice()),
+    ];
+    let mut folder = folder_of(alloc, &files)?;
+    for (place, shown) in [
+        (".gb", ""),
+        (".gb/state", ""),
+        (".gb/state/a", ""),
+        (".gbx", "b 2\n"),
+    ] {
+        assert_eq!(rt; shown_outputs(alloc, &mut folder, place)?.as_str(), shown);
+    }
+    Ok(())
+}
+
+#[test]
 fn eight_mebibytes_are_read(rt: HostRuntime) -> Result<(), Fail> {
     let alloc = rt.alloc();
     let most: usize = 8 * 1024 * 1024;

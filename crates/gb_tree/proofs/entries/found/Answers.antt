@@ -1,13 +1,20 @@
-use Rattle.std.proofs.Common.{◌+◌, ◌∷◌, Some, IfErr, inl, inr, cond, drop, map, sym, ◌∙◌, ap}
+use Rattle.std.proofs.Common.{arith, ◌≡◌, ◌+◌, ◌++◌, ◌∷◌, List, Some, IfErr, IsTrue, inl, inr, cond, drop, map, refl, sym, ◌∙◌, ap, subst, append_assoc}
 use Rattle.std.proofs.lemmas.Result.{err_from_is_err_and}
 use Rattle.std.specs.List.{filter}
 use Rattle.gb_core.specs.Lists.{first_of}
-use Rattle.gb_folder.specs.Files.{Contents, is_odd_under}
+use Rattle.gb_core.specs.Place.{is_under}
+use Rattle.gb_folder.specs.Files.{Contents, Place, is_odd_under, places_under}
+use Rattle.gb_folder.specs.Limits.{max_files}
+use Rattle.gb_folder.proofs.Changes.{SameTearing-chain}
 use Rattle.gb_tree.specs.declared.fault.TreeFault.TheVariants as faults
-use Rattle.gb_tree.specs.Tree.{odd_roots}
+use Rattle.gb_tree.specs.Property.{entries_in, found, held, is_under_any}
+use Rattle.gb_tree.specs.Tree.{Entries, IsRefused, odd_roots}
+use Rattle.gb_tree.proofs.Blame.{blamed_before}
+use Rattle.gb_tree.proofs.Found.{taken_beneath, under_root}
+use Rattle.gb_tree.proofs.Holding.{held_done, take_again}
 use Rattle.gb_tree.proofs.Loops.{step_here}
 use Rattle.gb_tree.proofs.Refused.{at_err, machine_before}
-use Rattle.gb_tree.proofs.Told.{IsRefused}
+use Rattle.gb_tree.proofs.Under.{own_place}
 use Rattle.gb_tree.proofs.entries.found.Goals as goal
 
 pub returns-in_err-places-clause-odd : goal.returns-in_err-places-clause-odd
@@ -28,3 +35,55 @@ returns-in_err-places-clause-odd g c = λ tells.
           ∙ ap Some (sym odd.1)
           )
     ])
+
+pub returns-in_err-places-clause-blame : goal.returns-in_err-places-clause-blame
+returns-in_err-places-clause-blame g c =
+    let p = err_from_is_err_and c.from_residual.result c.from_residual.ensures.1 in
+    let roots = c.args.roots.now in
+    let root = c.root-item.result in
+    blamed_before (λ at. at ≡ root) (λ at. IsTrue (is_under_any roots at)) _ _ _ _ c.in_err-places.field-0.0 p.0 c.loop-root.invariant.count c.in_err-places.ensures.count p.1 p.2
+    (λ at is. under_root roots c.loop-root.root-index root at c.loop-root-test.true c.root-item.is (subst (λ (place : Place). IsTrue (is_under place root)) (sym is) (own_place root)))
+    c.in_err-places.ensures.blame
+
+pub loop-root-preserved : goal.loop-root-preserved
+loop-root-preserved g c =
+    let old = g.F.Folder.contents c.args.folder.now in
+    let was = c.loop-root.invariant in
+    let naming = c.args.naming in
+    let include = c.args.include.now in
+    let exclude = c.args.exclude.now in
+    let roots = c.args.roots.now in
+    let i = c.loop-root.root-index in
+    let root = c.root-item.result in
+    let places = c.as_slice.result.now in
+    let kept : Entries = c.loop-root.entries.items in
+    let here : List Place → Entries = entries_in naming include exclude root in
+    let rest = found naming include exclude old.files (drop (i + 1) roots) in
+    let odd_rest = filter (is_odd_under old) (drop (i + 1) roots) in
+    let within = c.loop-root-test.true in
+    let is = c.root-item.is in
+    record {
+      count = omega (arith, was.count, c.in_ok-places.ensures.count);
+      tearing = SameTearing-chain _ _ _ was.tearing c.in_ok-places.ensures.tearing;
+      few = c.in_ok-add_entries.ensures.few;
+      under = taken_beneath naming include exclude roots i root c.in_ok-places.places.items places kept c.add_entries.new.entries.items within is c.as_slice.ensures.value c.in_ok-places.ensures.under c.in_ok-add_entries.ensures.entries was.under;
+      same = λ tells. c.in_ok-places.ensures.same tells ∙ was.same tells;
+      found = λ tells.
+          let listed : places ≡ places_under old.files root = c.as_slice.ensures.value ∙ c.in_ok-places.ensures.listed tells ∙ ap (λ (now : Contents). places_under now.files root) (was.same tells) in
+          ap (λ (es : Entries). held (es ++ rest)) c.in_ok-add_entries.ensures.entries
+          ∙ take_again (max_files + 1) (kept ++ here places) rest
+          ∙ ap held (append_assoc kept (here places) rest)
+          ∙ ap (λ ps. held (kept ++ (here ps ++ rest))) listed
+          ∙ ap (λ es. held (kept ++ es)) (sym (step_here (found naming include exclude old.files) roots i root within is))
+          ∙ was.found tells;
+      odd = λ tells.
+          let none = ap (λ (now : Contents). is_odd_under now root) (sym (was.same tells)) ∙ c.in_ok-places.ensures.none_odd tells in
+          sym (step_here (λ rs. first_of (odd_roots old rs)) roots i root within is ∙ ap (λ b. first_of (map faults.BadFileName (cond b (root ∷ odd_rest) odd_rest))) none)
+          ∙ was.odd tells;
+    }
+
+pub returns-clause-found : goal.returns-clause-found
+returns-clause-found g c = λ tells.
+    let all : List Place → Entries = found c.args.naming c.args.include.now c.args.exclude.now (g.F.Folder.contents c.args.folder.now).files in
+    let end = c.loop-root-test.false in
+    held_done all c.loop-root.entries.items (all c.args.roots.now) c.args.roots.now c.loop-root.root-index refl (omega (arith, end)) c.loop-root.invariant.few (c.loop-root.invariant.found tells)

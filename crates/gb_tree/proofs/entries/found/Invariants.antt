@@ -1,6 +1,9 @@
-use Rattle.std.proofs.Common.{◌≡◌, ◌≤◌, ◌++◌, IsTrue, drop}
+use Rattle.std.proofs.Common.{◌≡◌, ◌≤◌, ◌+◌, ◌++◌, IsTrue, drop, length}
+use Rattle.std.specs.List.{AllByRecursion}
 use Rattle.gb_core.specs.Lists.{first_of}
-use Rattle.gb_tree.specs.Property.{found}
+use Rattle.gb_folder.specs.Files.{SameTearing}
+use Rattle.gb_folder.specs.Limits.{max_files}
+use Rattle.gb_tree.specs.Property.{found, held, is_under_any}
 use Rattle.gb_tree.specs.Tree.{odd_roots}
 use Rattle.gb_tree.proofs.entries.found.Given as goal
 
@@ -10,7 +13,10 @@ invariant-loop-root g l =
     let old = contents l.fn.folder in
     record {
       count : g.F.Folder.failures l.fn.folder ≤ g.F.Folder.failures l.folder;
+      tearing : SameTearing (g.F.Folder.may_leave l.fn.folder) (g.F.Folder.may_leave l.folder);
+      few : length l.entries.items ≤ max_files + 1;
+      under : AllByRecursion (λ entry. IsTrue (is_under_any l.roots entry.1)) l.entries.items;
       same : IsTrue g.F.Folder.tells → contents l.folder ≡ old;
-      found : IsTrue g.F.Folder.tells → l.entries.items ++ found l.naming l.include l.exclude old.files (drop l.root-index l.roots) ≡ found l.naming l.include l.exclude old.files l.roots;
+      found : IsTrue g.F.Folder.tells → held (l.entries.items ++ found l.naming l.include l.exclude old.files (drop l.root-index l.roots)) ≡ held (found l.naming l.include l.exclude old.files l.roots);
       odd : IsTrue g.F.Folder.tells → first_of (odd_roots old (drop l.root-index l.roots)) ≡ first_of (odd_roots old l.roots);
     }

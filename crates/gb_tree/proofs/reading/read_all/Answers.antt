@@ -1,9 +1,12 @@
-use Rattle.std.proofs.Common.{arith, ◌+◌, ◌∷◌, ℕ, List, map, cond, drop, sym, ◌∙◌, ap}
+use Rattle.std.proofs.Common.{arith, ◌≡◌, ◌+◌, IsTrue, ◌∷◌, ℕ, List, map, cond, drop, sym, ◌∙◌, ap}
+use Rattle.std.proofs.lemmas.Result.{err_from_is_err_and}
 use Rattle.std.specs.List.{filter}
 use Rattle.std.specs.FinMap.Entries.{put}
 use Rattle.gb_core.specs.Lists.{byte_order, first_of}
 use Rattle.gb_tree.specs.declared.fault.TreeFault.TheVariants as faults
-use Rattle.gb_tree.specs.Tree.{bytes_at, is_large, too_large}
+use Rattle.gb_tree.specs.Tree.{bytes_at, is_among, is_large, too_large}
+use Rattle.gb_folder.proofs.Changes.{SameTearing-chain}
+use Rattle.gb_tree.proofs.Blame.{at_entry, blamed_before}
 use Rattle.gb_tree.proofs.Loops.{step_here}
 use Rattle.gb_tree.proofs.InOrder.{file_more}
 use Rattle.gb_tree.proofs.reading.read_all.Goals as goal
@@ -20,6 +23,7 @@ loop-path-preserved g c =
     let is = c.loop-path-item.is in
     record {
       count = omega (arith, old.invariant.count, c.read_file.ensures.count);
+      tearing = SameTearing-chain _ _ _ old.invariant.tearing c.read_file.ensures.tearing;
       same = λ tells. c.read_file.ensures.same tells ∙ old.invariant.same tells;
       read = λ tells.
           c.in_ok-insert.ensures.ok
@@ -32,3 +36,11 @@ loop-path-preserved g c =
           sym (step_here (λ es. first_of (too_large files es)) entries i e within is ∙ ap (λ b. first_of (map (λ (f : List ℕ × List ℕ). faults.TooLarge f.1) (cond b (e ∷ filter (λ f. is_large files f.1) (drop (i + 1) entries)) (filter (λ f. is_large files f.1) (drop (i + 1) entries))))) small)
           ∙ old.invariant.large tells;
     }
+
+pub returns-in_err-bytes-clause-blame : goal.returns-in_err-bytes-clause-blame
+returns-in_err-bytes-clause-blame g c =
+    let p = err_from_is_err_and c.from_residual.result c.from_residual.ensures.1 in
+    let entries = c.args.entries.now in
+    let entry = c.loop-path-item.result in
+    blamed_before (λ at. at ≡ entry.1) (λ at. IsTrue (is_among entries at)) _ _ _ _ c.in_err-bytes.field-0.0 p.0 c.loop-path.invariant.count c.in_err-bytes.ensures.count p.1 p.2
+    (at_entry entries c.loop-path.path-index entry c.loop-path-test.true c.loop-path-item.is) c.in_err-bytes.ensures.blame

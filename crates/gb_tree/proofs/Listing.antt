@@ -1,0 +1,65 @@
+-- Why the files of a property are not listed.
+use Rattle.std.proofs.Common.{◌≡◌, ℕ, suc, true, false, cond, List, [], ◌∷◌, ◌++◌, length, map, Option, Some, None, inl, inr, refl, sym, ◌∙◌, ap}
+use Rattle.std.specs.Ordering.{is_lt}
+use Rattle.std.specs.Prelude.{nat_lt}
+use Rattle.gb_core.specs.Lists.{first_of}
+use Rattle.gb_folder.specs.Files.{Place, Contents}
+use Rattle.gb_folder.specs.Limits.{max_files}
+use Rattle.gb_tree.specs.Property.{distinct, doubled, entries_of, entry_faults, entry_order, found, in_order, inserted, paths_of}
+use Rattle.gb_tree.specs.Tree.{Entries, IsRefused, odd_roots, too_many}
+use Rattle.gb_tree.specs.declared.fault.TreeFault.{TreeFault}
+use Rattle.gb_tree.specs.declared.fault.TreeFault.TheVariants as faults
+use Rattle.gb_tree.specs.declared.property.Naming.{Naming}
+use Rattle.gb_tree.proofs.Refused.{front_first}
+
+length-inserted : (entry : List ℕ × Place) (entries : Entries) → length (inserted entry entries) ≡ suc (length entries)
+length-inserted entry [] = refl
+length-inserted entry (other ∷ others) = elim (is_lt (entry_order other entry)) as (λ b. length (cond b (other ∷ inserted entry others) (entry ∷ other ∷ others)) ≡ suc (suc (length others))) [
+  | true ↦ ap suc (length-inserted entry others)
+  | false ↦ refl
+]
+
+length-in_order : (entries : Entries) → length (in_order entries) ≡ length entries
+length-in_order [] = refl
+length-in_order (entry ∷ entries) = length-inserted entry (in_order entries) ∙ ap suc (length-in_order entries)
+
+-- the order does not count
+too_many-in_order : (name : List ℕ) (entries : Entries) → too_many name (in_order entries) ≡ too_many name entries
+too_many-in_order name entries = ap (λ n. cond (nat_lt max_files n) (faults.TooManyFiles name ∷ []) []) (length-in_order entries)
+
+first_map : {X Y : Type 0} (f : X → Y) (xs : List X) (x : X) → first_of xs ≡ Some x → first_of (map f xs) ≡ Some (f x)
+first_map f [] x e = absurd (cc)
+first_map {X} {Y} f (y ∷ xs) x e = ap (λ o. mapped o) e
+  where
+    mapped : Option X → Option Y
+    mapped None = None
+    mapped (Some z) = Some (f z)
+
+module _ (name : List ℕ) (naming : Naming) (roots : List Place) (include exclude : List (List ℕ)) (contents : Contents) (kept : List Place) (same : kept ≡ distinct roots) where
+  abbrev all : List Place → Entries
+  all places = found naming include exclude contents.files places
+
+  abbrev told : Entries → List TreeFault
+  told entries = map (faults.DuplicateInput name) (doubled (paths_of entries))
+
+  -- what hinders finding the entries comes first
+  pub found_refused : (before after : ℕ) (fault : TreeFault) → IsRefused before after (odd_roots contents kept ++ too_many name (all kept)) fault → IsRefused before after (entry_faults name naming roots include exclude contents) fault
+  found_refused before after fault (inl machine) = inl machine
+  found_refused before after fault (inr first) =
+      let entries = entries_of naming roots include exclude contents.files in
+      let here : odd_roots contents kept ++ too_many name (all kept) ≡ odd_roots contents (distinct roots) ++ too_many name entries =
+      ap (λ places. odd_roots contents places ++ too_many name (all places)) same ∙ ap (λ faults. odd_roots contents (distinct roots) ++ faults) (sym (too_many-in_order name (all (distinct roots)))) in
+      inr (front_first (odd_roots contents (distinct roots) ++ too_many name entries) (told entries) fault (sym (ap first_of here) ∙ first))
+
+  -- where nothing hindered that, what is left is that paths are doubled
+  pub only_doubled : (entries sorted : Entries) → odd_roots contents kept ≡ [] → entries ≡ all kept → too_many name entries ≡ [] → sorted ≡ in_order entries → entry_faults name naming roots include exclude contents ≡ told sorted
+  only_doubled entries sorted none is few order =
+      let these : entries ≡ all (distinct roots) = is ∙ ap all same in
+      let final = entries_of naming roots include exclude contents.files in
+      ap (λ faults. faults ++ too_many name final ++ told final) (sym (ap (odd_roots contents) same) ∙ none)
+      ∙ ap (λ faults. faults ++ told final) (too_many-in_order name (all (distinct roots)) ∙ sym (ap (too_many name) these) ∙ few)
+      ∙ ap told (sym (order ∙ ap in_order these))
+
+  pub doubled_first : (sorted : Entries) (path : List ℕ) (fault : TreeFault) → entry_faults name naming roots include exclude contents ≡ told sorted → first_of (doubled (paths_of sorted)) ≡ Some path → fault ≡ faults.DuplicateInput name path
+      → first_of (entry_faults name naming roots include exclude contents) ≡ Some fault
+  doubled_first sorted path fault is first here = ap first_of is ∙ first_map (faults.DuplicateInput name) (doubled (paths_of sorted)) path first ∙ ap Some (sym here)

@@ -1,0 +1,73 @@
+use Rattle.std.proofs.Common.{arith, ◌≡◌, ℕ, List, IsTrue, IfErr, inl, inr, map, sym, ap, subst, ◌∙◌}
+use Rattle.std.proofs.lemmas.Result.{err_from_is_err_and}
+use Rattle.std.specs.List.{AllByRecursion}
+use Rattle.gb_folder.specs.Files.{Place}
+use Rattle.gb_tree.specs.declared.fault.TreeFault.TheVariants as faults
+use Rattle.gb_tree.specs.Property.{distinct, entry_faults, is_under_any}
+use Rattle.gb_tree.specs.Tree.{Entries, IsRefused}
+use Rattle.gb_tree.proofs.Blame.{blamed_before}
+use Rattle.gb_tree.proofs.Found.{distinct_under}
+use Rattle.gb_tree.proofs.Holding.{all_wider}
+use Rattle.gb_tree.proofs.Listing.{doubled_first, found_refused, only_doubled}
+use Rattle.gb_tree.proofs.Refused.{at_err}
+use Rattle.gb_tree.proofs.Sorting.{all_in_order}
+use Rattle.gb_tree.proofs.entries.entries_of.Goals as goal
+
+-- beneath one of the places that were kept is beneath one of the roots
+of_roots : (kept roots : List Place) → kept ≡ distinct roots → (at : Place) → IsTrue (is_under_any kept at) → IsTrue (is_under_any roots at)
+of_roots kept roots same at h = distinct_under roots at (subst (λ (places : List Place). IsTrue (is_under_any places at)) same h)
+
+pub returns-in_err-entries-clause-blame : goal.returns-in_err-entries-clause-blame
+returns-in_err-entries-clause-blame g c =
+    let p = err_from_is_err_and c.from_residual-in_err-entries.result c.from_residual-in_err-entries.ensures.1 in
+    let kept = c.as_slice.result.now in
+    let roots = c.args.roots.now in
+    blamed_before (λ at. IsTrue (is_under_any kept at)) (λ at. IsTrue (is_under_any roots at)) _ _ _ _ c.in_err-entries.field-0.0 p.0 (omega arith) c.in_err-entries.ensures.count p.1 p.2
+    (of_roots kept roots (c.as_slice.ensures.value ∙ c.in_ok-roots.ensures)) c.in_err-entries.ensures.blame
+
+pub returns-in_err-entries-clause-err : goal.returns-in_err-entries-clause-err
+returns-in_err-entries-clause-err g c = λ tells.
+    let p = err_from_is_err_and c.from_residual-in_err-entries.result c.from_residual-in_err-entries.ensures.1 in
+    let failures = g.F.Folder.failures in
+    let old = g.F.Folder.contents c.args.folder.now in
+    let name = c.args.name.now in
+    let roots = c.args.roots.now in
+    let include = c.args.include.now in
+    let exclude = c.args.exclude.now in
+    at_err (λ r. IfErr r (λ fault. IsRefused (failures c.args.folder.now) (failures c.found_few.new.folder) (entry_faults name c.args.naming roots include exclude old) fault)) c.from_residual-in_err-entries.result p.0 c.in_err-entries.field-0.0 p.1 p.2
+    (found_refused name c.args.naming roots include exclude old c.as_slice.result.now (c.as_slice.ensures.value ∙ c.in_ok-roots.ensures) _ _ _ (c.in_err-entries.ensures.err tells))
+
+pub returns-in_err-check_doubled-clause-err : goal.returns-in_err-check_doubled-clause-err
+returns-in_err-check_doubled-clause-err g c = λ tells.
+    let p = err_from_is_err_and c.from_residual-in_err-check_doubled.result c.from_residual-in_err-check_doubled.ensures.1 in
+    let failures = g.F.Folder.failures in
+    let old = g.F.Folder.contents c.args.folder.now in
+    let name = c.args.name.now in
+    let roots = c.args.roots.now in
+    let include = c.args.include.now in
+    let exclude = c.args.exclude.now in
+    let kept_is = c.as_slice.ensures.value ∙ c.in_ok-roots.ensures in
+    let sorted = c.as_slice-2.result.now in
+    at_err (λ r. IfErr r (λ fault. IsRefused (failures c.args.folder.now) (failures c.found_few.new.folder) (entry_faults name c.args.naming roots include exclude old) fault)) c.from_residual-in_err-check_doubled.result p.0 c.in_err-check_doubled.field-0.0 p.1 p.2
+    (elim c.in_err-check_doubled.ensures.err [
+      | inl none ↦ inl (inl none)
+      | inr found ↦ inr (doubled_first name c.args.naming roots include exclude old c.as_slice.result.now kept_is sorted found.0 _
+          (only_doubled name c.args.naming roots include exclude old c.as_slice.result.now kept_is c.in_ok-entries.entries.items sorted
+          (c.in_ok-entries.ensures.none_odd tells) (c.in_ok-entries.ensures.found tells) c.in_ok-entries.ensures.few (c.as_slice-2.ensures.value ∙ c.sort.ensures.sorted))
+          found.1 found.2)
+    ])
+
+pub returns-clause-under : goal.returns-clause-under
+returns-clause-under g c =
+    let roots = c.args.roots.now in
+    let kept = c.as_slice.result.now in
+    let entries : Entries = c.in_ok-entries.entries.items in
+    subst (λ (es : Entries). AllByRecursion (λ entry. IsTrue (is_under_any roots entry.1)) es) (sym c.sort.ensures.sorted)
+    (all_in_order _ entries (all_wider (λ (entry : List ℕ × Place). IsTrue (is_under_any kept entry.1)) (λ (entry : List ℕ × Place). IsTrue (is_under_any roots entry.1)) entries
+    (λ entry. of_roots kept roots (c.as_slice.ensures.value ∙ c.in_ok-roots.ensures) entry.1) c.in_ok-entries.ensures.under))
+
+pub returns-clause-fit : goal.returns-clause-fit
+returns-clause-fit g c = λ tells.
+    only_doubled c.args.name.now c.args.naming c.args.roots.now c.args.include.now c.args.exclude.now (g.F.Folder.contents c.args.folder.now) c.as_slice.result.now (c.as_slice.ensures.value ∙ c.in_ok-roots.ensures)
+    c.in_ok-entries.entries.items c.as_slice-2.result.now (c.in_ok-entries.ensures.none_odd tells) (c.in_ok-entries.ensures.found tells) c.in_ok-entries.ensures.few (c.as_slice-2.ensures.value ∙ c.sort.ensures.sorted)
+    ∙ ap (map (faults.DuplicateInput c.args.name.now)) c.in_ok-check_doubled.ensures.fit
