@@ -5,6 +5,7 @@ use Rattle.gb_core.specs.Place.{is_under}
 use Rattle.gb_folder.specs.Files.{Place, Contents}
 use Rattle.gb_report.specs.Outcome.{is_failed}
 use Rattle.gb_report.specs.declared.fault.Fault.{Fault}
+use Rattle.gb_report.specs.declared.fault.Fault.TheVariants as faults
 use Rattle.gb_report.specs.declared.report.Report.{Report}
 use Rattle.gb_report.specs.declared.report.TaskReport.{TaskReport}
 use Rattle.gb_project.specs.declared.plain.Registration.{Registration}
@@ -18,7 +19,7 @@ use Rattle.gb_exec.specs.Kinds.{kinds_of}
 use Rattle.gb_exec.specs.Scratch.{from_scratch}
 use Rattle.gb_store.specs.Faults.{IsOfMachine}
 use Rattle.gb_exec.specs.Turn.{Turn}
-use Rattle.gb_build.specs.Scripts.{ScriptSays}
+use Rattle.gb_build.specs.Scripts.{ScriptSays, script_place}
 
 -- a task failed
 abbrev pub has_failure : Report → Bool
@@ -56,10 +57,13 @@ module _ {S : Type 0} (meanings : Meanings S) (rows : Rows S) where
       × ((selected statements words ≡ Err fault)
       ⊎ ((registration : Registration) × (selected statements words ≡ Ok registration) × (first_of (declaration_faults meanings rows registration) ≡ Some fault))))
 
-  -- a refused build changes nothing; it is refused with its first fault, or the machine failed
-  pub record IsNotBuilt (before : ℕ) (old : Contents) (words : List (List ℕ)) (fault : Fault) (after : ℕ) (new : Contents) : Type 0 where
+  -- A refused build changes nothing. It is refused with its first fault, or memory ran out, or the device failed, and
+  -- then at the script, the only file that is read so early.
+  pub record IsNotBuilt (before : ℕ) (old : Contents) (words : List (List ℕ)) (fault : Fault)
+      (after : ℕ) (new : Contents) : Type 0 where
     pub unchanged : new ≡ old
     pub why : IsOfMachine before after fault ⊎ IsRefusal old words fault
+    pub blamed : (place : Place) → fault ≡ faults.Device place → place ≡ script_place
 
   -- what an invocation of these words answers and leaves
   abbrev pub Invokes : ℕ → Contents → List (List ℕ) → Result Report Fault → ℕ → Contents → Type 0
