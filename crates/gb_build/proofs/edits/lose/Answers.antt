@@ -1,11 +1,22 @@
-use Rattle.std.proofs.Common.{◌≡◌, ℕ, List, true, ap, sym, subst, ◌∙◌}
+use Rattle.std.proofs.Common.{◌≡◌, ℕ, List, true, Err, ap, sym, subst, ◌∙◌, inl}
+use Rattle.std.proofs.lemmas.Result.{err_from_is_err_and}
 use Rattle.std.specs.List.{AllByRecursion}
 use Rattle.gb_folder.specs.Files.{is_own, places_under}
 use Rattle.gb_store.proofs.Emptied.{all_under}
-use Rattle.gb_store.proofs.Machine.{changes_chain, changes_none}
-use Rattle.gb_build.specs.Edits.{own_place}
-use Rattle.gb_build.proofs.Editing.{lost_from}
+use Rattle.gb_store.proofs.Machine.{at_err, changes_chain, changes_none}
+use Rattle.gb_build.specs.Edits.{LostStep, own_place}
+use Rattle.gb_build.proofs.Editing.{lost_from, not_listed}
 use Rattle.gb_build.proofs.edits.lose.Goals as goal
+
+pub returns-in_err-places-clause-step : goal.returns-in_err-places-clause-step
+returns-in_err-places-clause-step g c = λ tells.
+    let contents = g.F.Folder.contents in
+    let failures = g.F.Folder.failures in
+    let old = contents c.args.folder.now in
+    let fault = c.in_err-places.field-0.0 in
+    let p = err_from_is_err_and c.from_residual-in_err-places.result c.from_residual-in_err-places.ensures.1 in
+    at_err (λ edit. LostStep (g.F.Folder.may_leave c.args.folder.now) (failures c.args.folder.now) old edit (failures c.listed_at.new.folder) (contents c.listed_at.new.folder)) c.from_residual-in_err-places.result p.0 fault p.1 p.2
+    (inl (c.listed_at.ensures.same tells, not_listed _ _ old _ fault c.in_ok-own.ensures (λ place device. c.listed_at.ensures.blamed place (c.in_err-places.was ∙ ap Err device)) (c.in_err-places.ensures.odd tells)))
 
 pub returns-clause-step : goal.returns-clause-step
 returns-clause-step g c = λ tells.

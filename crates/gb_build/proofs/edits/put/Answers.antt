@@ -26,4 +26,4 @@ returns-in-Err-clause-step g c = λ tells.
     put_failed may_leave place c.args.bytes.now _ _ _ _ fault c.fault_of.result (sym c.is_own.ensures ∙ c.if-is_own.false) (c.fault_of.ensures ∙ ap (λ p. told_at p fault) c.in_ok-at.ensures)
     (λ e. w.device (c.in-Err.is ∙ ap Err e)) (λ other. c.in-Err.ensures.same tells other) (λ e. w.blocked tells (c.in-Err.is ∙ ap Err e))
     (λ e. subst (λ (bytes : List ℕ). max_file < length bytes) c.as_slice.ensures (w.large (c.in-Err.is ∙ ap Err e))) (λ e. w.not_missing (c.in-Err.is ∙ ap Err e)) (λ e. w.not_named (c.in-Err.is ∙ ap Err e))
-    (λ e. subst (λ (bytes : List ℕ). IsTorn may_leave place (Some bytes) (contents c.args.folder.now) (contents c.write.new.folder)) c.as_slice.ensures (w.torn tells (c.in-Err.is ∙ ap Err e)))
+    (λ e. subst (λ (bytes : List ℕ). IsTorn may_leave place (Some bytes) (contents c.args.folder.now) (contents c.write.new.self)) c.as_slice.ensures (w.torn tells (c.in-Err.is ∙ ap Err e)))
