@@ -8,17 +8,17 @@ ghost use Rattle.gb_core.specs.Place.{is_place, beneath};
 ghost use Rattle.gb_store.specs.Changes.{shown};
 ghost use Rattle.gb_exec.specs.Making.{full_outputs, output_named, placed, placed_in, take_places, unless_full};
 
-use gb_store::faults::fault_at;
-use gb_folder::limits::{MAX_FILE, MAX_FILES};
 use gb_action::reply::Written;
 use gb_core::bytes::Bytes;
 use gb_core::name::Name;
 use gb_core::place::{Place, PlaceFault, RelPath};
 use gb_core::text::Text;
 use gb_folder::folder::{Folder, FolderFault};
+use gb_folder::limits::{MAX_FILE, MAX_FILES};
 use gb_folder::memory::MemoryFolder;
 use gb_project::task::Output;
 use gb_report::fault::Fault;
+use gb_store::faults::fault_at;
 use std::alloc::Global;
 
 /// Takes the places of the files that an action writes, beside those taken before.

@@ -1,6 +1,7 @@
 //! The run of a task: its output places emptied, then its actions, one after another.
 ghost use Rattle.std.specs.Prelude.{◌≡◌, ◌≤◌, ◌⊎◌, ◌++◌, ℕ, List, [], None, Some, Ok, Err, IsTrue, IfErr, OnOk, OnErr};
-ghost use Rattle.gb_folder.specs.Files.{HasRisen};
+ghost use Rattle.gb_folder.specs.Files.{SameTearing};
+ghost use Rattle.gb_store.specs.Faults.{Blames, BlamesOnly};
 ghost use Rattle.gb_project.specs.Task.{IsReady, IsReadyAction, is_output_of};
 ghost use Rattle.gb_project.specs.declared.task.Action.{Action};
 ghost use Rattle.gb_exec.specs.Kinds.{kinds_of};
@@ -12,8 +13,6 @@ ghost use Rattle.gb_exec.specs.Turn.{Runs, StopsAt};
 use crate::asking::ask;
 use crate::listing::listed_outputs;
 use crate::places::{check_counts, take_places};
-use gb_store::removal::remove_all;
-use gb_store::writing::write_all;
 use gb_action::actions::Actions;
 use gb_core::text::Texts;
 use gb_folder::folder::Folder;
@@ -21,6 +20,8 @@ use gb_folder::memory::MemoryFolder;
 use gb_project::tables::Tables;
 use gb_project::task::{Action, Output, TaskDeclaration};
 use gb_report::fault::Fault;
+use gb_store::removal::remove_all;
+use gb_store::writing::write_all;
 use std::alloc::Global;
 
 /// Runs a task, and puts the lines of its actions behind each other.
@@ -34,7 +35,9 @@ pub fn run_task<A: Actions, F: Folder>(
     requires ready { IsReady A.meanings tables.now.actions task.now }
     requires no_lines { lines.old ≡ [] }
     ensures count { F.failures folder.old ≤ F.failures folder.new }
-    ensures blame { (place : List ℕ) → result ≡ Err (Fault.Device place) → HasRisen (F.failures folder.old) (F.failures folder.new) }
+    ensures blame { Blames result (F.failures folder.old) (F.failures folder.new) }
+    ensures blamed { BlamesOnly (is_output_of task.now) result }
+    ensures tearing { SameTearing (F.may_leave folder.old) (F.may_leave folder.new) }
     ensures changes { IsTrue F.tells → ChangesOnly (is_output_of task.now) (F.contents folder.old) (F.contents folder.new) }
     ensures runs { IsTrue F.tells → Runs (kinds_of A.meanings tables.now.actions) task.now
         (F.failures folder.old) (F.contents folder.old) result lines.new (F.failures folder.new) (F.contents folder.new) }
@@ -55,7 +58,9 @@ fn run_actions<A: Actions, F: Folder>(
     requires ready { IsReady A.meanings tables.now.actions task.now }
     requires no_lines { lines.old ≡ [] }
     ensures count { F.failures folder.old ≤ F.failures folder.new }
-    ensures blame { (place : List ℕ) → result ≡ Err (Fault.Device place) → HasRisen (F.failures folder.old) (F.failures folder.new) }
+    ensures blame { Blames result (F.failures folder.old) (F.failures folder.new) }
+    ensures blamed { BlamesOnly (is_output_of task.now) result }
+    ensures tearing { SameTearing (F.may_leave folder.old) (F.may_leave folder.new) }
     ensures changes { IsTrue F.tells → ChangesOnly (is_output_of task.now) (F.contents folder.old) (F.contents folder.new) }
     ensures ok { IsTrue F.tells → OnOk result ((made : Made)
         × (ends (kinds_of A.meanings tables.now.actions) task.now.outputs (nothing_over (F.contents folder.old).files) task.now.actions ≡ (made, None))
@@ -90,7 +95,9 @@ fn run_one<A: Actions, F: Folder>(
 ) -> Result<(), Fault>
     requires ready { IsReadyAction A.meanings tables.now.actions outputs.now action.now }
     ensures count { F.failures folder.old ≤ F.failures folder.new }
-    ensures blame { (place : List ℕ) → result ≡ Err (Fault.Device place) → HasRisen (F.failures folder.old) (F.failures folder.new) }
+    ensures blame { Blames result (F.failures folder.old) (F.failures folder.new) }
+    ensures blamed { BlamesOnly (is_output_at outputs.now) result }
+    ensures tearing { SameTearing (F.may_leave folder.old) (F.may_leave folder.new) }
     ensures changes { IsTrue F.tells → ChangesOnly (is_output_at outputs.now) (F.contents folder.old) (F.contents folder.new) }
     ensures lines { OnErr result (lines.new ≡ lines.old) }
     ensures ok { IsTrue F.tells → OnOk result

@@ -1,7 +1,7 @@
 //! The turn of a task in a build.
 ghost use Rattle.std.specs.Prelude.{◌≡◌, ◌≤◌, ℕ, List, Err, IsTrue, IfOk, OnErr, Ok};
-ghost use Rattle.gb_folder.specs.Files.{HasRisen};
-ghost use Rattle.gb_project.specs.Task.{IsReady};
+ghost use Rattle.gb_folder.specs.Files.{HasRisen, SameTearing};
+ghost use Rattle.gb_project.specs.Task.{IsReady, is_output_of};
 ghost use Rattle.gb_report.specs.declared.report.Outcome.TheVariants.{Failed};
 ghost use Rattle.gb_exec.specs.Kinds.{kinds_of};
 ghost use Rattle.gb_exec.specs.Turn.{Turn};
@@ -29,6 +29,10 @@ pub fn take_turn<A: Actions, F: Folder>(
     // A task blames the device only where that failed in its turn.
     ensures blame { IfOk result (λ report. (place : List ℕ) → report.outcome ≡ Failed (Fault.Device place)
         → HasRisen (F.failures folder.old) (F.failures folder.new)) }
+    // It is blamed at a place of the task's outputs alone.
+    ensures blamed { IfOk result (λ report. (place : List ℕ) → report.outcome ≡ Failed (Fault.Device place)
+        → IsTrue (is_output_of task.now place)) }
+    ensures tearing { SameTearing (F.may_leave folder.old) (F.may_leave folder.new) }
     ensures unbegun { OnErr result (folder.new ≡ folder.old) }
     ensures turn { IsTrue F.tells → IfOk result (λ report. Turn (kinds_of A.meanings tables.now.actions) task.now
         (F.failures folder.old) (F.contents folder.old) report (F.failures folder.new) (F.contents folder.new)) }
