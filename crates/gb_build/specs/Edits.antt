@@ -11,9 +11,9 @@ use Rattle.gb_store.specs.Faults.{IsOfMachine}
 abbrev pub Edit : Type 0
 Edit = Result (Unit {0}) Fault
 
--- The device failed in an edit that is not of the tool's own: at its place stands what the device may leave.
-pub record IsTornEdit (may_leave : Tearing) (place : Place) (next : Option Bytes) (before : ℕ) (old : Contents)
-    (fault : Fault) (after : ℕ) (new : Contents) : Type 0 where
+-- The device failed in an edit outside of the tool's own: at its place stands what the device may leave.
+pub record IsTornEdit (may_leave : Tearing) (place : Place) (next : Option Bytes) (before : ℕ)
+    (old : Contents) (fault : Fault) (after : ℕ) (new : Contents) : Type 0 where
   pub outside : is_own place ≡ false
   pub rose : HasRisen before after
   pub told : fault ≡ faults.Device place
@@ -28,9 +28,10 @@ IsStopped may_leave place next before old fault after new =
 abbrev pub IsNoPlaceToEdit : Place → Contents → Fault → Contents → Type 0
 IsNoPlaceToEdit place old fault new =
     ((new ≡ old) × IsTrue (is_own place) × (fault ≡ faults.OwnState place))
-    ⊎ ((new ≡ old) × (is_own place ≡ false) × IsTrue (is_blocked old.files place) × (fault ≡ faults.Blocked place))
+    ⊎ ((new ≡ old) × (is_own place ≡ false) × IsTrue (is_blocked old.files place)
+    × (fault ≡ faults.Blocked place))
 
--- A file is put where the tool keeps nothing of its own, no other file is in the way, and it is not too large.
+-- A file is put where the tool keeps nothing of its own and no other file is in the way; it is not too large.
 abbrev pub PutStep : Tearing → Place → Bytes → ℕ → Contents → Edit → ℕ → Contents → Type 0
 PutStep may_leave place bytes before old (Ok done) after new =
     (is_own place ≡ false) × (is_blocked old.files place ≡ false) × (length bytes ≤ max_file)
@@ -42,7 +43,8 @@ PutStep may_leave place bytes before old (Err fault) after new =
 -- A file that stands is taken away.
 abbrev pub RemoveStep : Tearing → Place → ℕ → Contents → Edit → ℕ → Contents → Type 0
 RemoveStep may_leave place before old (Ok done) after new =
-    (is_own place ≡ false) × IsSome (file_at old.files place) × (new ≡ record old { files = without old.files place })
+    (is_own place ≡ false) × IsSome (file_at old.files place)
+    × (new ≡ record old { files = without old.files place })
 RemoveStep may_leave place before old (Err fault) after new =
     IsStopped may_leave place None before old fault after new ⊎ IsNoPlaceToEdit place old fault new
     ⊎ ((new ≡ old) × (is_own place ≡ false) × (is_blocked old.files place ≡ false)
@@ -53,14 +55,14 @@ RemoveStep may_leave place before old (Err fault) after new =
 abbrev pub own_place : Place
 own_place = codes ".gb"
 
--- why the files of `.gb` cannot be listed: memory ran out, the device failed there, or something odd stands there
+-- why the files of `.gb` cannot be listed: memory ran out, the device failed, or something odd stands there
 abbrev pub IsNoListing : ℕ → Contents → Fault → ℕ → Type 0
 IsNoListing before old fault after =
     (fault ≡ faults.OutOfMemory) ⊎ ((fault ≡ faults.Device own_place) × HasRisen before after)
     ⊎ (IsTrue (is_odd_under old own_place) × (fault ≡ faults.BadFileName own_place))
 
--- All that the tool keeps for itself is lost. A loss that is refused either changed nothing, as it found no list of
--- the files, or took some first ones of them away, and was hindered at the next.
+-- All that the tool keeps for itself is lost. A loss that is refused either changed nothing, as it got no
+-- list of the files, or took some first ones of them away, and was hindered at the next.
 abbrev pub LostStep : Tearing → ℕ → Contents → Edit → ℕ → Contents → Type 0
 LostStep may_leave before old (Ok done) after new =
     new ≡ record old { files = files_where (λ place. not (is_own place)) old.files }

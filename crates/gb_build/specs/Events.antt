@@ -52,10 +52,13 @@ module _ {S : Type 0} (meanings : Meanings S) (rows : Rows S) (may_leave : Teari
   Answered events.Lost answer before old after new =
       (edit : Edit) × (answer ≡ edit_answer edit) × LostStep may_leave before old edit after new
   Answered (events.Invoke invocation) answer before old after new =
-      (result : Result Report Fault) × (answer ≡ build_answer result) × Invokes meanings rows before old invocation.requested result after new
+      (result : Result Report Fault) × (answer ≡ build_answer result)
+      × Invokes meanings rows before old invocation.requested result after new
 
-  -- From a folder and a count of failures, the event gets this answer and leaves the next; elsewhere nothing changes.
-  pub record Step (event : Event) (answer : Answer) (before : ℕ) (old : Contents) (after : ℕ) (new : Contents) : Type 0 where
+  -- From a folder and a count of failures, the event gets this answer and leaves the next; elsewhere nothing
+  -- changes.
+  pub record Step (event : Event) (answer : Answer) (before : ℕ) (old : Contents)
+      (after : ℕ) (new : Contents) : Type 0 where
     pub answered : Answered event answer before old after new
     pub elsewhere : ChangesOnly (may_change event) old new
 
@@ -65,4 +68,5 @@ module _ {S : Type 0} (meanings : Meanings S) (rows : Rows S) (may_leave : Teari
   EventsHold before old [] (answer ∷ others) after new = ⊥
   EventsHold before old (event ∷ rest) [] after new = ⊥
   EventsHold before old (event ∷ rest) (answer ∷ others) after new =
-      (count : ℕ) × (mid : Contents) × (before ≤ count) × Step event answer before old count mid × EventsHold count mid rest others after new
+      (count : ℕ) × (mid : Contents) × (before ≤ count) × Step event answer before old count mid
+      × EventsHold count mid rest others after new

@@ -23,11 +23,13 @@ pub fn put<F: Folder>(folder: &mut F, place: &Place, bytes: &Bytes) -> Result<()
     ensures blame { Blames result (F.failures folder.old) (F.failures folder.new) }
     ensures tearing { SameTearing (F.may_leave folder.old) (F.may_leave folder.new) }
     ensures step { IsTrue F.tells → PutStep (F.may_leave folder.old) place.now bytes.now
-        (F.failures folder.old) (F.contents folder.old) result (F.failures folder.new) (F.contents folder.new) }
+        (F.failures folder.old) (F.contents folder.old)
+        result (F.failures folder.new) (F.contents folder.new) }
     ensures elsewhere { IsTrue F.tells
         → ChangesOnly (is_at place.now) (F.contents folder.old) (F.contents folder.new) }
 {
     let at = place.copy()?;
+    // The device is not asked about the tool's own.
     if is_own(place) {
         return Err(Fault::OwnState(at));
     }
@@ -43,7 +45,8 @@ pub fn remove<F: Folder>(folder: &mut F, place: &Place) -> Result<(), Fault>
     ensures blame { Blames result (F.failures folder.old) (F.failures folder.new) }
     ensures tearing { SameTearing (F.may_leave folder.old) (F.may_leave folder.new) }
     ensures step { IsTrue F.tells → RemoveStep (F.may_leave folder.old) place.now
-        (F.failures folder.old) (F.contents folder.old) result (F.failures folder.new) (F.contents folder.new) }
+        (F.failures folder.old) (F.contents folder.old)
+        result (F.failures folder.new) (F.contents folder.new) }
     ensures elsewhere { IsTrue F.tells
         → ChangesOnly (is_at place.now) (F.contents folder.old) (F.contents folder.new) }
 {
@@ -63,7 +66,8 @@ pub fn lose<F: Folder>(alloc: Global, folder: &mut F) -> Result<(), Fault>
     ensures blame { Blames result (F.failures folder.old) (F.failures folder.new) }
     ensures tearing { SameTearing (F.may_leave folder.old) (F.may_leave folder.new) }
     ensures step { IsTrue F.tells → LostStep (F.may_leave folder.old)
-        (F.failures folder.old) (F.contents folder.old) result (F.failures folder.new) (F.contents folder.new) }
+        (F.failures folder.old) (F.contents folder.old)
+        result (F.failures folder.new) (F.contents folder.new) }
     ensures elsewhere { IsTrue F.tells
         → ChangesOnly is_own (F.contents folder.old) (F.contents folder.new) }
 {

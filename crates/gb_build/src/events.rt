@@ -58,7 +58,8 @@ pub fn run_events<A: Actions, F: Folder>(
         HasFailed (times_blamed_in_all answers.items) (F.failures folder.old) (F.failures folder.new)) }
     // From event to event, each edit is exact, and each build is one.
     ensures hold { IsTrue F.tells → IfOk result (λ answers.
-        EventsHold A.meanings tables.now.actions (F.may_leave folder.old) (F.failures folder.old) (F.contents folder.old)
+        EventsHold A.meanings tables.now.actions (F.may_leave folder.old)
+        (F.failures folder.old) (F.contents folder.old)
         events.now answers.items (F.failures folder.new) (F.contents folder.new)) }
 {
     let mut answers = Vec::with_capacity(alloc, events.len())?;
@@ -78,7 +79,8 @@ fn take<A: Actions, F: Folder>(
     ensures count { F.failures folder.old ≤ F.failures folder.new }
     ensures device { HasFailed (times_blamed result) (F.failures folder.old) (F.failures folder.new) }
     ensures tearing { SameTearing (F.may_leave folder.old) (F.may_leave folder.new) }
-    ensures step { IsTrue F.tells → Step A.meanings tables.now.actions (F.may_leave folder.old) event.now result
+    ensures step { IsTrue F.tells
+        → Step A.meanings tables.now.actions (F.may_leave folder.old) event.now result
         (F.failures folder.old) (F.contents folder.old) (F.failures folder.new) (F.contents folder.new) }
 {
     match event {

@@ -40,8 +40,8 @@ returns-in_err-task-clause-device g c =
 pub returns-in_err-script-clause-build : goal.returns-in_err-script-clause-build
 returns-in_err-script-clause-build g c = λ tells.
     let fault = c.in_err-script.field-0.0 in
-    let p = err_from_is_err_and c.from_residual-in_err-script.result c.from_residual-in_err-script.ensures.1 in
-    not_built g.A.Actions.meanings c.args.tables.now.actions _ _ _ _ _ c.from_residual-in_err-script.result p.0 fault p.1 p.2 (c.read_build_script.ensures.same tells)
+    let p = err_from_is_err_and c.from_residual.result c.from_residual.ensures.1 in
+    not_built g.A.Actions.meanings c.args.tables.now.actions _ _ _ _ _ c.from_residual.result p.0 fault p.1 p.2 (c.read_build_script.ensures.same tells)
     (elim (c.in_err-script.ensures.said tells) [ inl machine ↦ inl machine | inr says ↦ inr (inl says) ])
     (λ place device. (bytes_decides place script_place).0 (c.read_build_script.ensures.blamed place (c.in_err-script.was ∙ ap Err device)))
 
