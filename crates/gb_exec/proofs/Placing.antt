@@ -11,6 +11,7 @@ use Rattle.gb_project.specs.declared.task.Action.{Action}
 use Rattle.gb_project.specs.declared.task.Output.{Output}
 use Rattle.gb_report.specs.declared.fault.Fault.{Fault}
 use Rattle.gb_report.specs.declared.fault.Fault.TheVariants as faults
+use Rattle.gb_store.proofs.Emptied.{all_under}
 use Rattle.gb_exec.specs.Kinds.{Kinds}
 use Rattle.gb_folder.specs.Limits.{max_file}
 use Rattle.gb_store.specs.Changes.{put_in, shown}

@@ -7,7 +7,7 @@ use Rattle.gb_folder.specs.Limits.{max_file}
 use Rattle.gb_store.specs.Changes.{put_in, shown}
 use Rattle.gb_exec.specs.Making.{is_output_at, made_so_far, placed, step}
 use Rattle.gb_store.specs.Faults.{IsOfMachine}
-use Rattle.gb_store.proofs.Machine.{at_err}
+use Rattle.gb_store.proofs.Machine.{among_passes, at_err, handed_on}
 use Rattle.gb_exec.proofs.Placing.{err_is, taking_blames_none, counting_blames_none, small_taken, placed_at_outputs, all_shown, step_blocked}
 use Rattle.gb_exec.proofs.run.run_one.Goals as goal
 
@@ -55,3 +55,22 @@ pub returns-clause-changes : goal.returns-clause-changes
 returns-clause-changes g c = λ tells.
     c.write_all.ensures.changes tells (is_output_at c.args.outputs.now)
     (all_shown (λ file. is_output_at c.args.outputs.now file.0 ≡ true) c.as_slice-2.result.now (placed c.args.outputs.now _) (ap shown c.as_slice-2.ensures.value ∙ c.in_ok-files.ensures.files) (placed_at_outputs c.args.outputs.now _))
+
+pub returns-in_err-files-clause-blamed : goal.returns-in_err-files-clause-blamed
+returns-in_err-files-clause-blamed g c = λ place is.
+    let p = err_from_is_err_and c.from_residual-in_err-files.result c.from_residual-in_err-files.ensures.1 in
+    let device : c.in_err-files.field-0.0 ≡ faults.Device place = err_is c.from_residual-in_err-files.result p.0 _ _ p.1 p.2 is in
+    absurd (elim c.in_err-files.ensures.err [ inl memory ↦ (cc) | inr taking ↦ taking_blames_none (placed c.args.outputs.now c.as_slice.result.now) c.args.taken.now.files _ place taking device ])
+
+pub returns-in_err-check_counts-clause-blamed : goal.returns-in_err-check_counts-clause-blamed
+returns-in_err-check_counts-clause-blamed g c = λ place is.
+    let p = err_from_is_err_and c.from_residual-in_err-check_counts.result c.from_residual-in_err-check_counts.ensures.1 in
+    let device : c.in_err-check_counts.field-0.0 ≡ faults.Device place = err_is c.from_residual-in_err-check_counts.result p.0 _ _ p.1 p.2 is in
+    absurd (elim c.in_err-check_counts.ensures.err [ inl memory ↦ (cc) | inr counting ↦ counting_blames_none _ _ _ place counting device ])
+
+pub returns-in_err-write_all-clause-blamed : goal.returns-in_err-write_all-clause-blamed
+returns-in_err-write_all-clause-blamed g c = λ place is.
+    let p = err_from_is_err_and c.from_residual-in_err-write_all.result c.from_residual-in_err-write_all.ensures.1 in
+    among_passes (λ file. file.0) (is_output_at c.args.outputs.now) c.as_slice-2.result.now place
+    (all_shown (λ file. is_output_at c.args.outputs.now file.0 ≡ true) c.as_slice-2.result.now (placed c.args.outputs.now _) (ap shown c.as_slice-2.ensures.value ∙ c.in_ok-files.ensures.files) (placed_at_outputs c.args.outputs.now _))
+    (c.write_all.ensures.blamed place (handed_on c.from_residual-in_err-write_all.result c.write_all.result p.0 c.in_err-write_all.field-0.0 place p.1 p.2 c.in_err-write_all.was is))
