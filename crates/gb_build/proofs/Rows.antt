@@ -56,13 +56,16 @@ lost = refl
 -- the first file is gone, and the device failed at the second, which stands
 cut_short : LostStep leaves 0 kept (Err (faults.Device (codes ".gb/b"))) 1 (record kept { files = (codes ".gb/b", codes "2") ∷ (codes "a", codes "3") ∷ [] })
 cut_short =
-    inr (inr (codes ".gb/b", refl, inl (omega arith)), record {
-      gone = codes ".gb/a" ∷ [];
-      place = codes ".gb/b";
-      left = [];
-      all = refl;
-      hindered = inr (refl, (Some (codes "2"), inl refl, refl));
-    })
+    inr (
+      inr (codes ".gb/b", refl, inl (omega arith)),
+      record {
+        gone = codes ".gb/a" ∷ [];
+        place = codes ".gb/b";
+        left = [];
+        all = refl;
+        hindered = inr (refl, (Some (codes "2"), inl refl, refl));
+      },
+    )
 
 none_left : (b : Bool) (found : Option Bytes) → found ≡ None → cond b found None ≡ None
 none_left true found none = none

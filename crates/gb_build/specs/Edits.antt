@@ -1,5 +1,5 @@
 -- Edits from outside, and what each leaves.
-use Rattle.std.specs.Prelude.{ℕ, ◌≡◌, ◌≤◌, ◌<◌, ◌⊎◌, false, not, List, Option, None, Some, IsSome, Result, Ok, Err, IsTrue, codes, length}
+use Rattle.std.specs.Prelude.{ℕ, ◌≡◌, ◌≤◌, ◌<◌, ◌⊎◌, false, not, Option, None, Some, IsSome, Result, Ok, Err, IsTrue, codes, length}
 use Rattle.gb_folder.specs.Files.{Place, Bytes, Contents, HasRisen, Tearing, file_at, files_where, is_blocked, is_odd_under, is_own, places_under, with_file, without}
 use Rattle.gb_folder.specs.Limits.{max_file}
 use Rattle.gb_report.specs.declared.fault.Fault.{Fault}
