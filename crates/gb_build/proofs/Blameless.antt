@@ -1,5 +1,6 @@
 -- Words and declarations blame no device.
-use Rattle.std.proofs.Common.{arith, ◌≡◌, ◌≤◌, ◌+◌, inl, ℕ, Bool, true, false, cond, List, [], ◌∷◌, ◌++◌, Option, None, Some, Err, refl, sym, subst, is_some}
+use Rattle.std.proofs.Common.{arith, ◌≡◌, ◌≤◌, ◌+◌, inl, ℕ, Bool, true, false, cond, List, [], ◌∷◌, ◌++◌, Option, None, Some, Err, refl, sym, ap, ◌∙◌, subst, is_some}
+use Rattle.std.proofs.lemmas.Bool.{false≢true}
 use Rattle.std.specs.List.{AllByRecursion, flat_map}
 use Rattle.std.specs.FinMap.Entries.{find}
 use Rattle.std.specs.Prelude.{bytes_eq, codes}
@@ -101,3 +102,7 @@ module _ {S : Type 0} (meanings : Meanings S) (rows : Rows S) where
 
 pub none_blamed : (fault : Fault) (before after : ℕ) → is_of_device fault ≡ false → before ≤ after → HasFailed (times_blamed_by (Err fault)) before after
 none_blamed fault before after is le = inl (subst (λ b. before + cond b 1 0 ≤ after) (sym is) (omega arith))
+
+-- what does not blame the device blames it nowhere
+pub blamed_nowhere : (fault : Fault) (at : List ℕ) → is_of_device fault ≡ false → (place : List ℕ) → fault ≡ faults.Device place → place ≡ at
+blamed_nowhere fault at none place is = absurd (false≢true (sym none ∙ ap is_of_device is))

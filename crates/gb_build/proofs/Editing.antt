@@ -1,50 +1,105 @@
 -- Edits, by what the folder answers.
-use Rattle.std.proofs.Common.{◌≡◌, ◌≢◌, ◌≤◌, ◌<◌, ℕ, true, false, List, None, Result, Ok, Err, OnOk, IfErr, IsTrue, length, refl, ap, ◌∙◌, inl, inr, fold}
+use Rattle.std.proofs.Common.{◌≡◌, ◌≢◌, ◌≤◌, ◌<◌, ◌⊎◌, ℕ, true, false, List, Option, None, Some, Ok, Err, OnOk, IfErr, IsTrue, length, refl, ap, subst, ◌∙◌, inl, inr}
 use Rattle.std.specs.Cmp.Lexicographic.{bytes_decides}
-use Rattle.std.specs.Prelude.{codes}
-use Rattle.gb_folder.specs.Files.{Place, Contents, IsFolder, HasRisen, file_at, is_blocked, is_own, places_under, without}
+use Rattle.gb_folder.specs.Files.{Place, Bytes, Contents, IsFolder, HasRisen, SameTearing, Tearing, file_at, is_blocked, is_odd_under, is_own, places_under}
 use Rattle.gb_folder.specs.declared.folder.FolderFault.{FolderFault}
 use Rattle.gb_folder.specs.declared.folder.FolderFault.TheVariants as folders
-use Rattle.gb_report.specs.declared.fault.Fault.{Fault}
-use Rattle.gb_store.specs.Faults.{told_at}
 use Rattle.gb_folder.specs.Limits.{max_file}
-use Rattle.gb_store.specs.Changes.{ChangesOnly}
-use Rattle.gb_store.specs.Faults.{IsOfMachine}
+use Rattle.gb_report.specs.declared.fault.Fault.{Fault}
+use Rattle.gb_report.specs.declared.fault.Fault.TheVariants as faults
+use Rattle.gb_store.specs.Changes.{IsCutShort, IsTorn, is_at, without_all}
+use Rattle.gb_store.specs.Faults.{IsOfMachine, told_at}
 use Rattle.gb_store.proofs.Emptied.{emptied_place}
 use Rattle.gb_store.proofs.Machine.{machine_before}
-use Rattle.gb_store.specs.Changes.{is_at}
-use Rattle.gb_build.specs.Events.{LostStep, PutStep, RemoveStep}
+use Rattle.gb_store.proofs.Removing.{hindered_before}
+use Rattle.gb_build.specs.Edits.{Edit, IsNoListing, IsStopped, LostStep, PutStep, RemoveStep, own_place}
 
 -- a place is at itself
 pub at_itself : (place : Place) → is_at place place ≡ true
 at_itself place = (bytes_decides place place).1 refl
 
+-- ---- Edits that are refused
+
 -- a write that was refused
-pub put_failed : (place bytes : List ℕ) (before after : ℕ) (old new : Contents) (fault : FolderFault) (told : Fault) → is_own place ≡ false → told ≡ told_at place fault
+pub put_failed : (may_leave : Tearing) (place bytes : List ℕ) (before after : ℕ) (old new : Contents) (fault : FolderFault) (told : Fault) → is_own place ≡ false → told ≡ told_at place fault
     → (fault ≡ folders.Device → HasRisen before after) → (fault ≢ folders.Device → new ≡ old) → (fault ≡ folders.Blocked → IsTrue (is_blocked old.files place))
-    → (fault ≡ folders.TooLarge → max_file < length bytes) → (fault ≢ folders.Missing) → (fault ≢ folders.BadFileName) → ChangesOnly (is_at place) old new
-    → PutStep place bytes before old (Err told) after new
-put_failed place bytes before after old new folders.OutOfMemory told out is rose same blocked large a b changes = inl (inl (same (λ e. cc), is))
-put_failed place bytes before after old new folders.Device told out is rose same blocked large a b changes = inl (inr (rose refl, is, changes))
-put_failed place bytes before after old new folders.Missing told out is rose same blocked large a b changes = absurd (a refl)
-put_failed place bytes before after old new folders.Blocked told out is rose same blocked large a b changes = inr (inl (inr (same (λ e. cc), out, blocked refl, is)))
-put_failed place bytes before after old new folders.TooLarge told out is rose same blocked large a b changes = inr (inr (same (λ e. cc), out, large refl, is))
-put_failed place bytes before after old new folders.BadFileName told out is rose same blocked large a b changes = absurd (b refl)
+    → (fault ≡ folders.TooLarge → max_file < length bytes) → (fault ≢ folders.Missing) → (fault ≢ folders.BadFileName)
+    → (fault ≡ folders.Device → IsTorn may_leave place (Some bytes) old new) → PutStep may_leave place bytes before old (Err told) after new
+put_failed may_leave place bytes before after old new folders.OutOfMemory told out is rose same blocked large a b torn = inl (inl (same (λ e. cc), is))
+put_failed may_leave place bytes before after old new folders.Device told out is rose same blocked large a b torn = inl (inr (record { outside = out; rose = rose refl; told = is; torn = torn refl }))
+put_failed may_leave place bytes before after old new folders.Missing told out is rose same blocked large a b torn = absurd (a refl)
+put_failed may_leave place bytes before after old new folders.Blocked told out is rose same blocked large a b torn = inr (inl (inr (same (λ e. cc), out, blocked refl, is)))
+put_failed may_leave place bytes before after old new folders.TooLarge told out is rose same blocked large a b torn = inr (inr (same (λ e. cc), out, large refl, is))
+put_failed may_leave place bytes before after old new folders.BadFileName told out is rose same blocked large a b torn = absurd (b refl)
 
 -- a removal that was refused
-pub remove_failed : (place : List ℕ) (before after : ℕ) (old new : Contents) (fault : FolderFault) (told : Fault) → is_own place ≡ false → told ≡ told_at place fault
+pub remove_failed : (may_leave : Tearing) (place : Place) (before after : ℕ) (old new : Contents) (fault : FolderFault) (told : Fault) → is_own place ≡ false → told ≡ told_at place fault
     → (fault ≡ folders.Device → HasRisen before after) → (fault ≢ folders.Device → new ≡ old) → (fault ≡ folders.Blocked → IsTrue (is_blocked old.files place))
     → (fault ≡ folders.Missing → file_at old.files place ≡ None) → (fault ≡ folders.Missing → is_blocked old.files place ≡ false)
-    → (fault ≢ folders.TooLarge) → (fault ≢ folders.BadFileName) → ChangesOnly (is_at place) old new → RemoveStep place before old (Err told) after new
-remove_failed place before after old new folders.OutOfMemory told out is rose same blocked gone free a b changes = inl (inl (same (λ e. cc), is))
-remove_failed place before after old new folders.Device told out is rose same blocked gone free a b changes = inl (inr (rose refl, is, changes))
-remove_failed place before after old new folders.Missing told out is rose same blocked gone free a b changes = inr (inr (same (λ e. cc), out, free refl, gone refl, is))
-remove_failed place before after old new folders.Blocked told out is rose same blocked gone free a b changes = inr (inl (inr (same (λ e. cc), out, blocked refl, is)))
-remove_failed place before after old new folders.TooLarge told out is rose same blocked gone free a b changes = absurd (a refl)
-remove_failed place before after old new folders.BadFileName told out is rose same blocked gone free a b changes = absurd (b refl)
+    → (fault ≢ folders.TooLarge) → (fault ≢ folders.BadFileName) → (fault ≡ folders.Device → IsTorn may_leave place None old new) → RemoveStep may_leave place before old (Err told) after new
+remove_failed may_leave place before after old new folders.OutOfMemory told out is rose same blocked gone free a b torn = inl (inl (same (λ e. cc), is))
+remove_failed may_leave place before after old new folders.Device told out is rose same blocked gone free a b torn = inl (inr (record { outside = out; rose = rose refl; told = is; torn = torn refl }))
+remove_failed may_leave place before after old new folders.Missing told out is rose same blocked gone free a b torn = inr (inr (same (λ e. cc), out, free refl, gone refl, is))
+remove_failed may_leave place before after old new folders.Blocked told out is rose same blocked gone free a b torn = inr (inl (inr (same (λ e. cc), out, blocked refl, is)))
+remove_failed may_leave place before after old new folders.TooLarge told out is rose same blocked gone free a b torn = absurd (a refl)
+remove_failed may_leave place before after old new folders.BadFileName told out is rose same blocked gone free a b torn = absurd (b refl)
 
--- all of the tool's own is taken away
-pub lost_from : (result : Result (Unit {0}) Fault) (places : List Place) (before mid after : ℕ) (old new : Contents) → IsFolder old.files → places ≡ places_under old.files (codes ".gb") → before ≤ mid → mid ≤ after
-    → OnOk result (new.files ≡ fold without old.files places) → IfErr result (λ fault. IsOfMachine mid after fault) → LostStep before old result after new
-lost_from (Ok done) places before mid after old new sound listed le more ok err = ok ∙ ap (fold without old.files) listed ∙ emptied_place (codes ".gb") old.files sound
-lost_from (Err fault) places before mid after old new sound listed le more ok err = inl (machine_before before mid after fault le more err)
+-- ---- The loss of the tool's own
+
+-- the files of `.gb` could not be listed
+pub not_listed : (before after : ℕ) (old : Contents) (own : Place) (fault : Fault) → own ≡ own_place → ((place : Place) → fault ≡ faults.Device place → IsTrue (is_at own place))
+    → IsOfMachine before after fault ⊎ (IsTrue (is_odd_under old own) × (fault ≡ faults.BadFileName own)) → IsNoListing before old fault after
+not_listed before after old own fault at blamed (inl (inl memory)) = inl memory
+not_listed before after old own fault at blamed (inl (inr device)) = inr (inl (device.1 ∙ ap faults.Device ((bytes_decides device.0 own).0 (blamed device.0 device.1) ∙ at), device.2))
+not_listed before after old own fault at blamed (inr odd) = inr (inr (subst (λ place. IsTrue (is_odd_under old place)) at odd.0, odd.1 ∙ ap faults.BadFileName at))
+
+cut_before : (first second : Tearing) (places : List Place) (old new : Contents) (fault : Fault) → SameTearing first second → IsCutShort second places old fault new → IsCutShort first places old fault new
+cut_before first second places old new fault same cut = record {
+  gone = cut.gone;
+  place = cut.place;
+  left = cut.left;
+  all = cut.all;
+  hindered = hindered_before first second cut.place None (without_all old cut.gone) new fault same cut.hindered;
+}
+
+-- the files of the tool's own are taken away
+pub lost_from : (first second : Tearing) (result : Edit) (places : List Place) (before mid after : ℕ) (old now new : Contents) → IsFolder old.files → places ≡ places_under old.files own_place → now ≡ old
+    → SameTearing first second → before ≤ mid → mid ≤ after → OnOk result (new ≡ without_all now places) → IfErr result (IsOfMachine mid after)
+    → IfErr result (λ fault. IsCutShort second places now fault new) → LostStep first before old result after new
+lost_from first second (Ok done) places before mid after old now new sound listed here same le more ok err cut =
+    ok ∙ ap (λ folder. without_all folder places) here ∙ ap (without_all old) listed ∙ ap (λ files. record old { files = files }) (emptied_place own_place old.files sound)
+lost_from first second (Err fault) places before mid after old now new sound listed here same le more ok err cut =
+    inr (
+      machine_before before mid after fault le more err,
+      subst (λ (all : List Place). IsCutShort first all old fault new) listed (cut_before first second places old new fault same (subst (λ (folder : Contents). IsCutShort second places folder fault new) here cut)),
+    )
+
+-- ---- What may be left is the same from call to call
+
+stopped_before : (first second : Tearing) (place : Place) (next : Option Bytes) (before after : ℕ) (old new : Contents) (fault : Fault) → SameTearing first second
+    → IsStopped second place next before old fault after new → IsStopped first place next before old fault after new
+stopped_before first second place next before after old new fault same (inl memory) = inl memory
+stopped_before first second place next before after old new fault same (inr stopped) =
+    inr (record {
+      outside = stopped.outside;
+      rose = stopped.rose;
+      told = stopped.told;
+      torn = (stopped.torn.0, (same place (file_at old.files place) next stopped.torn.0).0 stopped.torn.1, stopped.torn.2);
+    })
+
+pub put_before : (first second : Tearing) (place bytes : List ℕ) (before after : ℕ) (old new : Contents) (edit : Edit) → SameTearing first second
+    → PutStep second place bytes before old edit after new → PutStep first place bytes before old edit after new
+put_before first second place bytes before after old new (Ok done) same step = step
+put_before first second place bytes before after old new (Err fault) same (inl stopped) = inl (stopped_before first second place (Some bytes) before after old new fault same stopped)
+put_before first second place bytes before after old new (Err fault) same (inr refused) = inr refused
+
+pub remove_before : (first second : Tearing) (place : Place) (before after : ℕ) (old new : Contents) (edit : Edit) → SameTearing first second
+    → RemoveStep second place before old edit after new → RemoveStep first place before old edit after new
+remove_before first second place before after old new (Ok done) same step = step
+remove_before first second place before after old new (Err fault) same (inl stopped) = inl (stopped_before first second place None before after old new fault same stopped)
+remove_before first second place before after old new (Err fault) same (inr refused) = inr refused
+
+pub lost_before : (first second : Tearing) (before after : ℕ) (old new : Contents) (edit : Edit) → SameTearing first second → LostStep second before old edit after new → LostStep first before old edit after new
+lost_before first second before after old new (Ok done) same step = step
+lost_before first second before after old new (Err fault) same (inl unlisted) = inl unlisted
+lost_before first second before after old new (Err fault) same (inr cut) = inr (cut.0, cut_before first second (places_under old.files own_place) old new fault same cut.1)

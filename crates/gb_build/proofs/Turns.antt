@@ -1,14 +1,15 @@
 -- Turns in a build.
-use Rattle.std.proofs.Common.{◌≡◌, ◌≤◌, ℕ, Bool, true, false, cond, ◌||◌, List, [], ◌∷◌, ◌++◌, Result, Ok, Err, refl, sym, ap, ◌∙◌, inl, inr}
+use Rattle.std.proofs.Common.{◌≡◌, ◌≤◌, ◌⊎◌, ℕ, Bool, true, false, cond, ◌||◌, List, [], ◌∷◌, ◌++◌, Result, Ok, Err, refl, sym, ap, ◌∙◌, inl, inr}
 use Rattle.std.proofs.lemmas.Bool.{false≢true}
 use Rattle.std.specs.List.{list_any}
-use Rattle.gb_folder.specs.Files.{Contents, is_empty}
+use Rattle.gb_folder.specs.Files.{Place, Contents, is_empty}
 use Rattle.gb_action.specs.Meanings.{Meanings}
 use Rattle.gb_report.specs.Outcome.{is_failed}
 use Rattle.gb_report.specs.declared.fault.Fault.{Fault}
 use Rattle.gb_report.specs.declared.fault.Fault.TheVariants as faults
 use Rattle.gb_report.specs.declared.report.Outcome.{Outcome}
 use Rattle.gb_report.specs.declared.report.Outcome.TheVariants as outcomes
+use Rattle.gb_report.specs.declared.report.Report.{Report}
 use Rattle.gb_report.specs.declared.report.TaskReport.{TaskReport}
 use Rattle.gb_project.specs.declared.plain.Registration.{Registration}
 use Rattle.gb_project.specs.Declaration.{argument_faults, declaration_faults, lacks_actions, outside_faults, is_misshapen, shape_faults, statement_faults, task_faults, task_of}
@@ -16,10 +17,13 @@ use Rattle.gb_project.specs.Task.{Rows, seen_outputs}
 use Rattle.gb_project.specs.declared.task.Action.{Action}
 use Rattle.gb_project.specs.declared.task.Output.{Output}
 use Rattle.gb_project.specs.declared.task.TaskDeclaration.{TaskDeclaration}
-use Rattle.gb_store.proofs.Machine.{machine_before}
+use Rattle.gb_store.specs.Faults.{IsOfMachine}
+use Rattle.gb_store.proofs.Machine.{at_err, machine_before}
 use Rattle.gb_exec.specs.Kinds.{Kinds}
 use Rattle.gb_exec.specs.Scratch.{HasActionsForOutputs}
 use Rattle.gb_exec.specs.Turn.{Ended, HasRun, Runs, StopsAt, Turn, emptied_start}
+use Rattle.gb_build.specs.Build.{Invokes, IsRefusal}
+use Rattle.gb_build.specs.Scripts.{script_place}
 
 -- ---- the count of failures may have begun to rise earlier
 
@@ -95,3 +99,10 @@ sound_outputs meanings rows registration sound =
 -- one task did not fail where the report has no failure
 pub none_failed : (tasks : List TaskReport) (task : TaskReport) → tasks ≡ task ∷ [] → list_any (λ (t : TaskReport). is_failed t.outcome) tasks ≡ false → is_failed task.outcome ≡ false
 none_failed tasks task told none = or_first (is_failed task.outcome) false (ap (list_any (λ (t : TaskReport). is_failed t.outcome)) (sym told) ∙ none)
+
+-- a build that was refused
+pub not_built : {S : Type 0} (meanings : Meanings S) (rows : Rows S) (before : ℕ) (old : Contents) (words : List (List ℕ)) (after : ℕ) (new : Contents) (result : Result Report Fault) (told fault : Fault) → result ≡ Err told → told ≡ fault
+    → new ≡ old → IsOfMachine before after fault ⊎ IsRefusal meanings rows old words fault → ((place : Place) → fault ≡ faults.Device place → place ≡ script_place)
+    → Invokes meanings rows before old words result after new
+not_built meanings rows before old words after new result told fault is same unchanged why blamed =
+    at_err (λ (answer : Result Report Fault). Invokes meanings rows before old words answer after new) result told fault is same (record { unchanged = unchanged; why = why; blamed = blamed })

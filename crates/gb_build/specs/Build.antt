@@ -5,6 +5,7 @@ use Rattle.gb_core.specs.Place.{is_under}
 use Rattle.gb_folder.specs.Files.{Place, Contents}
 use Rattle.gb_report.specs.Outcome.{is_failed}
 use Rattle.gb_report.specs.declared.fault.Fault.{Fault}
+use Rattle.gb_report.specs.declared.fault.Fault.TheVariants as faults
 use Rattle.gb_report.specs.declared.report.Report.{Report}
 use Rattle.gb_report.specs.declared.report.TaskReport.{TaskReport}
 use Rattle.gb_project.specs.declared.plain.Registration.{Registration}
@@ -18,7 +19,7 @@ use Rattle.gb_exec.specs.Kinds.{kinds_of}
 use Rattle.gb_exec.specs.Scratch.{from_scratch}
 use Rattle.gb_store.specs.Faults.{IsOfMachine}
 use Rattle.gb_exec.specs.Turn.{Turn}
-use Rattle.gb_build.specs.Scripts.{ScriptSays}
+use Rattle.gb_build.specs.Scripts.{ScriptSays, script_place}
 
 -- a task failed
 abbrev pub has_failure : Report → Bool
@@ -36,9 +37,10 @@ module _ {S : Type 0} (meanings : Meanings S) (rows : Rows S) where
     pub chosen : selected statements words ≡ Ok registration
     pub sound : declaration_faults meanings rows registration ≡ []
 
-  -- A build: the chosen task takes its turn, and is what is told. Where it did not fail, the folder is what it makes
-  -- from scratch.
-  pub record IsBuild (before : ℕ) (old : Contents) (words : List (List ℕ)) (report : Report) (after : ℕ) (new : Contents) : Type 0 where
+  -- A build: the chosen task takes its turn, and is what is told. Where it did not fail, the folder is what
+  -- it makes from scratch.
+  pub record IsBuild (before : ℕ) (old : Contents) (words : List (List ℕ)) (report : Report)
+      (after : ℕ) (new : Contents) : Type 0 where
     pub registration : Registration
     pub chosen : Chooses old words registration
     pub task : TaskReport
@@ -46,20 +48,29 @@ module _ {S : Type 0} (meanings : Meanings S) (rows : Rows S) where
     pub ran : report.dry_run ≡ false
     pub heard : report.listener_refused ≡ false
     pub turn : Turn (kinds_of meanings rows) (task_of registration) before old task after new
-    pub success : has_failure report ≡ false → from_scratch (kinds_of meanings rows) (task_of registration ∷ []) old.files ≡ Some new.files
+    pub success : has_failure report ≡ false
+        → from_scratch (kinds_of meanings rows) (task_of registration ∷ []) old.files ≡ Some new.files
+
+  -- the words select a task whose declaration has this fault first
+  abbrev pub IsMisdeclared : List Statement → List (List ℕ) → Fault → Type 0
+  IsMisdeclared statements words fault =
+      (registration : Registration) × (selected statements words ≡ Ok registration)
+      × (first_of (declaration_faults meanings rows registration) ≡ Some fault)
 
   -- why a build is refused: the script, the words, or the declaration of the task are at fault, in this order
   abbrev pub IsRefusal : Contents → List (List ℕ) → Fault → Type 0
   IsRefusal old words fault =
       ScriptSays old.files (Err fault)
       ⊎ ((statements : List Statement) × ScriptSays old.files (Ok statements)
-      × ((selected statements words ≡ Err fault)
-      ⊎ ((registration : Registration) × (selected statements words ≡ Ok registration) × (first_of (declaration_faults meanings rows registration) ≡ Some fault))))
+      × ((selected statements words ≡ Err fault) ⊎ IsMisdeclared statements words fault))
 
-  -- a refused build changes nothing; it is refused with its first fault, or the machine failed
-  pub record IsNotBuilt (before : ℕ) (old : Contents) (words : List (List ℕ)) (fault : Fault) (after : ℕ) (new : Contents) : Type 0 where
+  -- A refused build changes nothing. It is refused with its first fault, or memory ran out, or the device
+  -- failed, and then at the script, the only file that is read so early.
+  pub record IsNotBuilt (before : ℕ) (old : Contents) (words : List (List ℕ)) (fault : Fault)
+      (after : ℕ) (new : Contents) : Type 0 where
     pub unchanged : new ≡ old
     pub why : IsOfMachine before after fault ⊎ IsRefusal old words fault
+    pub blamed : (place : Place) → fault ≡ faults.Device place → place ≡ script_place
 
   -- what an invocation of these words answers and leaves
   abbrev pub Invokes : ℕ → Contents → List (List ℕ) → Result Report Fault → ℕ → Contents → Type 0

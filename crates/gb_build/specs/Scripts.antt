@@ -25,7 +25,8 @@ in_script scripts.NotUtf8 = faults.NotUtf8 script_place
 
 -- the bytes spell a script that is plain, and this is what it says
 abbrev pub SpellsPlain : Bytes → List Statement → Type 0
-SpellsPlain bytes statements = (script : List written.Statement) × Spells bytes script × (plain_of script ≡ Some statements)
+SpellsPlain bytes statements =
+    (script : List written.Statement) × Spells bytes script × (plain_of script ≡ Some statements)
 
 -- the bytes spell a script that says more than builds know so far
 abbrev pub SpellsMore : Bytes → Type 0

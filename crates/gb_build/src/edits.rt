@@ -1,29 +1,35 @@
 //! Edits from outside.
-ghost use Rattle.std.specs.Prelude.{◌≡◌, ◌≤◌, ℕ, List, Err, IsTrue, MatchResult};
-ghost use Rattle.gb_folder.specs.Files.{HasRisen, is_own};
-ghost use Rattle.gb_store.specs.Changes.{ChangesOnly};
-ghost use Rattle.gb_store.specs.Changes.{is_at};
-ghost use Rattle.gb_build.specs.Events.{LostStep, PutStep, RemoveStep};
+ghost use Rattle.std.specs.Prelude.{◌≤◌, IsTrue};
+ghost use Rattle.gb_folder.specs.Files.{SameTearing, is_own};
+ghost use Rattle.gb_store.specs.Changes.{ChangesOnly, is_at};
+ghost use Rattle.gb_store.specs.Faults.{Blames};
+ghost use Rattle.gb_build.specs.Edits.{LostStep, PutStep, RemoveStep};
 
 use crate::script::good_place;
 use gb_core::bytes::Bytes;
-use gb_core::place::{Place, lies_beneath};
+use gb_core::place::Place;
+use gb_folder::folder::Folder;
+use gb_folder::limits::MAX_FILE;
+use gb_folder::own::is_own;
+use gb_report::fault::Fault;
 use gb_store::faults::fault_of;
 use gb_store::listing::listed_at;
 use gb_store::removal::remove_all;
-use gb_folder::limits::MAX_FILE;
-use gb_folder::folder::Folder;
-use gb_report::fault::Fault;
-use std::alloc::{AllocError, Global};
+use std::alloc::Global;
 
 /// Puts a file, over one that stands there (94 at or beneath `.gb`; 12, 13).
 pub fn put<F: Folder>(folder: &mut F, place: &Place, bytes: &Bytes) -> Result<(), Fault>
     ensures count { F.failures folder.old ≤ F.failures folder.new }
-    ensures blame { (place : List ℕ) → result ≡ Err (Fault.Device place) → HasRisen (F.failures folder.old) (F.failures folder.new) }
-    ensures step { IsTrue F.tells → PutStep place.now bytes.now (F.failures folder.old) (F.contents folder.old) result (F.failures folder.new) (F.contents folder.new) }
-    ensures elsewhere { IsTrue F.tells → ChangesOnly (is_at place.now) (F.contents folder.old) (F.contents folder.new) }
+    ensures blame { Blames result (F.failures folder.old) (F.failures folder.new) }
+    ensures tearing { SameTearing (F.may_leave folder.old) (F.may_leave folder.new) }
+    ensures step { IsTrue F.tells → PutStep (F.may_leave folder.old) place.now bytes.now
+        (F.failures folder.old) (F.contents folder.old)
+        result (F.failures folder.new) (F.contents folder.new) }
+    ensures elsewhere { IsTrue F.tells
+        → ChangesOnly (is_at place.now) (F.contents folder.old) (F.contents folder.new) }
 {
     let at = place.copy()?;
+    // The device is not asked about the tool's own.
     if is_own(place) {
         return Err(Fault::OwnState(at));
     }
@@ -36,9 +42,13 @@ pub fn put<F: Folder>(folder: &mut F, place: &Place, bytes: &Bytes) -> Result<()
 /// Takes a file away (94 at or beneath `.gb`; 11, 12).
 pub fn remove<F: Folder>(folder: &mut F, place: &Place) -> Result<(), Fault>
     ensures count { F.failures folder.old ≤ F.failures folder.new }
-    ensures blame { (place : List ℕ) → result ≡ Err (Fault.Device place) → HasRisen (F.failures folder.old) (F.failures folder.new) }
-    ensures step { IsTrue F.tells → RemoveStep place.now (F.failures folder.old) (F.contents folder.old) result (F.failures folder.new) (F.contents folder.new) }
-    ensures elsewhere { IsTrue F.tells → ChangesOnly (is_at place.now) (F.contents folder.old) (F.contents folder.new) }
+    ensures blame { Blames result (F.failures folder.old) (F.failures folder.new) }
+    ensures tearing { SameTearing (F.may_leave folder.old) (F.may_leave folder.new) }
+    ensures step { IsTrue F.tells → RemoveStep (F.may_leave folder.old) place.now
+        (F.failures folder.old) (F.contents folder.old)
+        result (F.failures folder.new) (F.contents folder.new) }
+    ensures elsewhere { IsTrue F.tells
+        → ChangesOnly (is_at place.now) (F.contents folder.old) (F.contents folder.new) }
 {
     let at = place.copy()?;
     if is_own(place) {
@@ -53,18 +63,15 @@ pub fn remove<F: Folder>(folder: &mut F, place: &Place) -> Result<(), Fault>
 /// Takes away all that stands at or beneath `.gb`.
 pub fn lose<F: Folder>(alloc: Global, folder: &mut F) -> Result<(), Fault>
     ensures count { F.failures folder.old ≤ F.failures folder.new }
-    ensures blame { (place : List ℕ) → result ≡ Err (Fault.Device place) → HasRisen (F.failures folder.old) (F.failures folder.new) }
-    ensures step { IsTrue F.tells → LostStep (F.failures folder.old) (F.contents folder.old) result (F.failures folder.new) (F.contents folder.new) }
-    ensures elsewhere { IsTrue F.tells → ChangesOnly is_own (F.contents folder.old) (F.contents folder.new) }
+    ensures blame { Blames result (F.failures folder.old) (F.failures folder.new) }
+    ensures tearing { SameTearing (F.may_leave folder.old) (F.may_leave folder.new) }
+    ensures step { IsTrue F.tells → LostStep (F.may_leave folder.old)
+        (F.failures folder.old) (F.contents folder.old)
+        result (F.failures folder.new) (F.contents folder.new) }
+    ensures elsewhere { IsTrue F.tells
+        → ChangesOnly is_own (F.contents folder.old) (F.contents folder.new) }
 {
     let own = good_place(alloc, ".gb")?;
     let places = listed_at(alloc, folder, &own)?;
     remove_all(folder, places.as_slice())
-}
-
-/// Whether the place is the tool's own: `.gb` or beneath it.
-fn is_own(place: &Place) -> bool
-    ensures { result ≡ is_own place.now }
-{
-    place.as_str() == ".gb" || lies_beneath(place.as_str().as_bytes(), b".gb")
 }

@@ -1,5 +1,6 @@
 //! Any list of edits and builds.
 ghost use Rattle.std.specs.Prelude.{◌≡◌, ◌≤◌, IsTrue, IfOk, OnErr, length};
+ghost use Rattle.gb_folder.specs.Files.{SameTearing};
 ghost use Rattle.gb_build.specs.Blame.{HasFailed};
 ghost use Rattle.gb_build.specs.Events.{EventsHold, Step, build_answer, edit_answer, times_blamed, times_blamed_in_all};
 
@@ -49,13 +50,17 @@ pub fn run_events<A: Actions, F: Folder>(
 ) -> Result<Vec<Answer>, AllocError>
     ensures count { F.failures folder.old ≤ F.failures folder.new }
     ensures unbegun { OnErr result (folder.new ≡ folder.old) }
+    ensures tearing { SameTearing (F.may_leave folder.old) (F.may_leave folder.new) }
     // One answer for each event.
     ensures each { IfOk result (λ answers. length answers.items ≡ length events.now) }
     // The device is blamed no more often than it failed.
-    ensures device { IfOk result (λ answers. HasFailed (times_blamed_in_all answers.items) (F.failures folder.old) (F.failures folder.new)) }
+    ensures device { IfOk result (λ answers.
+        HasFailed (times_blamed_in_all answers.items) (F.failures folder.old) (F.failures folder.new)) }
     // From event to event, each edit is exact, and each build is one.
-    ensures hold { IsTrue F.tells → IfOk result (λ answers. EventsHold A.meanings tables.now.actions
-        (F.failures folder.old) (F.contents folder.old) events.now answers.items (F.failures folder.new) (F.contents folder.new)) }
+    ensures hold { IsTrue F.tells → IfOk result (λ answers.
+        EventsHold A.meanings tables.now.actions (F.may_leave folder.old)
+        (F.failures folder.old) (F.contents folder.old)
+        events.now answers.items (F.failures folder.new) (F.contents folder.new)) }
 {
     let mut answers = Vec::with_capacity(alloc, events.len())?;
     for event in events.iter() {
@@ -73,7 +78,9 @@ fn take<A: Actions, F: Folder>(
 ) -> Answer
     ensures count { F.failures folder.old ≤ F.failures folder.new }
     ensures device { HasFailed (times_blamed result) (F.failures folder.old) (F.failures folder.new) }
-    ensures step { IsTrue F.tells → Step A.meanings tables.now.actions event.now result
+    ensures tearing { SameTearing (F.may_leave folder.old) (F.may_leave folder.new) }
+    ensures step { IsTrue F.tells
+        → Step A.meanings tables.now.actions (F.may_leave folder.old) event.now result
         (F.failures folder.old) (F.contents folder.old) (F.failures folder.new) (F.contents folder.new) }
 {
     match event {

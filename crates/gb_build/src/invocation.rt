@@ -19,7 +19,8 @@ impl Invocation {
     pub fn read(alloc: Global, words: Vec<String>) -> Result<Invocation, Fault>
         ensures { MatchResult result
             (λ invocation. requested_by (map string_bytes words.items) ≡ Ok invocation.requested)
-            (λ fault. (fault ≡ Fault.OutOfMemory) ⊎ (requested_by (map string_bytes words.items) ≡ Err fault)) }
+            (λ fault. (fault ≡ Fault.OutOfMemory)
+            ⊎ (requested_by (map string_bytes words.items) ≡ Err fault)) }
     {
         let requested = texts_of(alloc, words.as_slice())?;
         if has_option(requested.as_slice()) {
@@ -46,7 +47,9 @@ fn is_option(word: &str) -> bool
 }
 
 fn texts_of(alloc: Global, words: &[String]) -> Result<Texts, Fault>
-    ensures { MatchResult result (λ texts. texts ≡ map string_bytes words.now) (λ fault. fault ≡ Fault.OutOfMemory) }
+    ensures { MatchResult result
+        (λ texts. texts ≡ map string_bytes words.now)
+        (λ fault. fault ≡ Fault.OutOfMemory) }
 {
     let mut texts = Texts::new(alloc);
     for word in words.iter() {

@@ -1,5 +1,6 @@
 //! One build.
 ghost use Rattle.std.specs.Prelude.{◌≡◌, ◌≤◌, IsTrue};
+ghost use Rattle.gb_folder.specs.Files.{SameTearing};
 ghost use Rattle.gb_store.specs.Changes.{ChangesOnly};
 ghost use Rattle.gb_build.specs.Blame.{HasFailed, times_blamed_by};
 ghost use Rattle.gb_build.specs.Build.{Invokes, is_of_build};
@@ -31,11 +32,14 @@ pub fn invoke<A: Actions, F: Folder>(
     ensures count { F.failures folder.old ≤ F.failures folder.new }
     // The device is blamed no more often than it failed.
     ensures device { HasFailed (times_blamed_by result) (F.failures folder.old) (F.failures folder.new) }
+    ensures tearing { SameTearing (F.may_leave folder.old) (F.may_leave folder.new) }
     // Whatever fails, no file outside the build folder differs.
-    ensures elsewhere { IsTrue F.tells → ChangesOnly is_of_build (F.contents folder.old) (F.contents folder.new) }
+    ensures elsewhere { IsTrue F.tells
+        → ChangesOnly is_of_build (F.contents folder.old) (F.contents folder.new) }
     // The answer is a build of the chosen task, or the first fault over an unchanged folder.
     ensures build { IsTrue F.tells → Invokes A.meanings tables.now.actions
-        (F.failures folder.old) (F.contents folder.old) invocation.now.requested result (F.failures folder.new) (F.contents folder.new) }
+        (F.failures folder.old) (F.contents folder.old) invocation.now.requested
+        result (F.failures folder.new) (F.contents folder.new) }
 {
     let script = read_build_script(alloc, folder)?;
     let registration = select(alloc, &script, invocation.requested.as_slice())?;

@@ -1,10 +1,11 @@
 //! The script of a folder.
-ghost use Rattle.std.specs.Prelude.{◌≡◌, ◌≢◌, ◌≤◌, ◌<◌, ◌⊎◌, ℕ, List, [], Some, Ok, Err, IsTrue, IfOk, IfErr, MatchResult, length};
+ghost use Rattle.std.specs.Prelude.{◌≡◌, ◌≤◌, ◌⊎◌, Ok, Err, IsTrue, MatchResult, length};
 ghost use Rattle.gb_core.specs.Place.{is_place};
-ghost use Rattle.gb_folder.specs.Files.{HasRisen};
+ghost use Rattle.gb_folder.specs.Files.{SameTearing};
 ghost use Rattle.gb_script.specs.Lexing.{newlines};
 ghost use Rattle.gb_script.specs.Script.{Spells};
-ghost use Rattle.gb_store.specs.Faults.{IsOfMachine};
+ghost use Rattle.gb_store.specs.Changes.{is_at};
+ghost use Rattle.gb_store.specs.Faults.{Blames, BlamesOnly, IsOfMachine};
 ghost use Rattle.gb_build.specs.Scripts.{IsFaultOf, ScriptSays, SpellsPlain, last_line, script_place};
 
 use gb_core::place::Place;
@@ -22,11 +23,14 @@ const MAX_SCRIPT: u64 = 1_048_576;
 /// far it is refused at its last line (20).
 pub fn read_build_script<F: Folder>(alloc: Global, folder: &mut F) -> Result<Script, Fault>
     ensures count { F.failures folder.old ≤ F.failures folder.new }
-    ensures blame { (place : List ℕ) → result ≡ Err (Fault.Device place) → HasRisen (F.failures folder.old) (F.failures folder.new) }
+    ensures blame { Blames result (F.failures folder.old) (F.failures folder.new) }
+    ensures blamed { BlamesOnly (is_at script_place) result }
+    ensures tearing { SameTearing (F.may_leave folder.old) (F.may_leave folder.new) }
     ensures same { IsTrue F.tells → F.contents folder.new ≡ F.contents folder.old }
     ensures said { IsTrue F.tells → MatchResult result
         (λ script. ScriptSays (F.contents folder.old).files (Ok script))
-        (λ fault. IsOfMachine (F.failures folder.old) (F.failures folder.new) fault ⊎ ScriptSays (F.contents folder.old).files (Err fault)) }
+        (λ fault. IsOfMachine (F.failures folder.old) (F.failures folder.new) fault
+        ⊎ ScriptSays (F.contents folder.old).files (Err fault)) }
 {
     let place = good_place(alloc, "build.gb")?;
     match folder.read(alloc, &place, MAX_SCRIPT) {

@@ -1,8 +1,8 @@
-use Rattle.std.proofs.Common.{◌<◌, ℕ, List, length, subst, Err, ap, sym, ◌∙◌, inl, inr}
-use Rattle.gb_store.specs.Faults.{told_at}
+use Rattle.std.proofs.Common.{◌<◌, ℕ, List, Some, length, subst, Err, ap, sym, ◌∙◌, inl, inr}
 use Rattle.gb_folder.specs.Limits.{max_file}
+use Rattle.gb_store.specs.Changes.{IsTorn, is_at}
+use Rattle.gb_store.specs.Faults.{told_at}
 use Rattle.gb_store.proofs.Machine.{changes_with, changes_left, changes_none, is_device}
-use Rattle.gb_store.specs.Changes.{is_at}
 use Rattle.gb_build.proofs.Editing.{at_itself, put_failed}
 use Rattle.gb_build.proofs.edits.put.Goals as goal
 
@@ -20,11 +20,10 @@ pub returns-in-Err-clause-step : goal.returns-in-Err-clause-step
 returns-in-Err-clause-step g c = λ tells.
     let fault = c.in-Err.fault in
     let place = c.args.place.now in
+    let contents = g.F.Folder.contents in
+    let may_leave = g.F.Folder.may_leave c.args.folder.now in
     let w = c.write.ensures in
-    put_failed place c.args.bytes.now _ _ _ _ fault c.fault_of.result (sym c.is_own.ensures ∙ c.if-is_own.false) (c.fault_of.ensures ∙ ap (λ p. told_at p fault) c.in_ok-at.ensures)
+    put_failed may_leave place c.args.bytes.now _ _ _ _ fault c.fault_of.result (sym c.is_own.ensures ∙ c.if-is_own.false) (c.fault_of.ensures ∙ ap (λ p. told_at p fault) c.in_ok-at.ensures)
     (λ e. w.device (c.in-Err.is ∙ ap Err e)) (λ other. c.in-Err.ensures.same tells other) (λ e. w.blocked tells (c.in-Err.is ∙ ap Err e))
     (λ e. subst (λ (bytes : List ℕ). max_file < length bytes) c.as_slice.ensures (w.large (c.in-Err.is ∙ ap Err e))) (λ e. w.not_missing (c.in-Err.is ∙ ap Err e)) (λ e. w.not_named (c.in-Err.is ∙ ap Err e))
-    (elim (is_device fault) [
-      | inl device ↦ let torn = w.torn tells (c.in-Err.is ∙ ap Err device) in changes_left (is_at place) _ _ place torn.0 torn.2 (at_itself place)
-      | inr not_device ↦ changes_none (is_at place) _ _ (c.in-Err.ensures.same tells not_device)
-    ])
+    (λ e. subst (λ (bytes : List ℕ). IsTorn may_leave place (Some bytes) (contents c.args.folder.now) (contents c.write.new.self)) c.as_slice.ensures (w.torn tells (c.in-Err.is ∙ ap Err e)))
