@@ -1,5 +1,8 @@
 -- Faults of the machine, and where they count.
-use Rattle.std.proofs.Common.{◌≡◌, ◌≢◌, ◌≤◌, ◌⊎◌, ℕ, Bool, true, List, Option, not, refl, sym, ◌∙◌, ap, subst, inl, inr, arith, Result, Ok, Err, IsTrue}
+use Rattle.std.proofs.Common.{◌≡◌, ◌≢◌, ◌≤◌, ◌⊎◌, ◌||◌, ◌∷◌, [], true≢false, ℕ, Bool, true, false, List, Option, not, refl, sym, ◌∙◌, ap, subst, inl, inr, arith, Result, Ok, Err, IsTrue}
+use Rattle.std.specs.Cmp.Lexicographic.{bytes_decides}
+use Rattle.std.specs.List.{AllByRecursion, list_any}
+use Rattle.std.specs.Prelude.{bytes_eq}
 use Rattle.gb_folder.specs.Files.{Place, Contents, DiffersOnlyAt, HasRisen, files_where, without, with_file, with_left}
 use Rattle.gb_folder.proofs.Changes.{HasRisen-after, HasRisen-before, DiffersOnlyAt-chain, DiffersOnlyAt-without, DiffersOnlyAt-with_file, DiffersOnlyAt-with_left}
 use Rattle.gb_folder.specs.declared.folder.FolderFault.{FolderFault}
@@ -7,7 +10,7 @@ use Rattle.gb_folder.specs.declared.folder.FolderFault.TheVariants as folders
 use Rattle.gb_report.specs.declared.fault.Fault.{Fault}
 use Rattle.gb_report.specs.declared.fault.Fault.TheVariants as faults
 use Rattle.gb_store.specs.Faults.{told_at}
-use Rattle.gb_store.specs.Changes.{ChangesOnly}
+use Rattle.gb_store.specs.Changes.{ChangesOnly, is_at}
 use Rattle.gb_store.specs.Faults.{IsOfMachine}
 
 -- the count goes on rising after a call
@@ -93,3 +96,13 @@ err_is r y w a b = cc
 -- who blames the device blames it as the call did whose fault is handed on
 pub handed_on : {T U : Type 0} (r : Result T Fault) (call : Result U Fault) (y z : Fault) (place : Place) → r ≡ Err y → y ≡ z → call ≡ Err z → r ≡ Err (faults.Device place) → call ≡ Err (faults.Device place)
 handed_on r call y z place told same is device = is ∙ ap Err (sym same ∙ err_is r y (faults.Device place) told device)
+
+-- what holds of the places of all holds of each place among them
+pub among_passes : {X : Type 0} (at : X → Place) (test : Place → Bool) (xs : List X) (place : Place) → AllByRecursion (λ x. test (at x) ≡ true) xs
+    → list_any (λ x. is_at (at x) place) xs ≡ true → test place ≡ true
+among_passes at test [] place all any = absurd (true≢false (sym any))
+among_passes at test (x ∷ xs) place all any =
+    elim (bytes_eq place (at x)) as (λ b. bytes_eq place (at x) ≡ b → (b || list_any (λ y. is_at (at y) place) xs) ≡ true → test place ≡ true) [
+      | true ↦ λ is _. ap test ((bytes_decides place (at x)).0 is) ∙ all.0
+      | false ↦ λ _ more. among_passes at test xs place all.1 more
+    ] refl any

@@ -3,6 +3,7 @@ use Rattle.std.proofs.lemmas.Result.{err_from_is_err_and}
 use Rattle.std.specs.List.{filter}
 use Rattle.gb_core.specs.Lists.{first_of}
 use Rattle.gb_folder.specs.Files.{Contents, is_odd_under}
+use Rattle.gb_folder.proofs.Changes.{SameTearing-chain}
 use Rattle.gb_project.specs.declared.task.Output.{Output}
 use Rattle.gb_report.specs.declared.fault.Fault.{Fault}
 use Rattle.gb_report.specs.declared.fault.Fault.TheVariants as faults
@@ -32,3 +33,12 @@ returns-in_err-listed-clause-odd g c = λ tells.
         odd.1,
       )
     ])
+
+pub returns-in_err-listed-clause-tearing : goal.returns-in_err-listed-clause-tearing
+returns-in_err-listed-clause-tearing g c = SameTearing-chain _ _ _ c.loop-output.invariant.tearing c.listed_at.ensures.tearing
+
+pub returns-in_err-append-clause-tearing : goal.returns-in_err-append-clause-tearing
+returns-in_err-append-clause-tearing g c = SameTearing-chain _ _ _ c.loop-output.invariant.tearing c.listed_at.ensures.tearing
+
+pub returns-clause-tearing : goal.returns-clause-tearing
+returns-clause-tearing g c = c.loop-output.invariant.tearing

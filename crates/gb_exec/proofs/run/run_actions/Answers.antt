@@ -8,6 +8,7 @@ use Rattle.gb_project.specs.declared.task.Output.{Output}
 use Rattle.gb_report.specs.declared.fault.Fault.{Fault}
 use Rattle.gb_exec.specs.Kinds.{kinds_of}
 use Rattle.gb_exec.specs.Making.{Made, ends, is_output_at, made_so_far, nothing_over, step}
+use Rattle.gb_folder.proofs.Changes.{SameTearing-chain}
 use Rattle.gb_store.specs.Changes.{ChangesOnly}
 use Rattle.gb_store.specs.Faults.{IsOfMachine}
 use Rattle.gb_exec.specs.Turn.{StopsAt}
@@ -24,13 +25,15 @@ loop-action-preserved g c =
     let next : deque_iter_rest old.action-iterator ≡ c.in-Some.action.now ∷ deque_iter_rest c.next.new.self = c.in-Some.ensures.steps in
     record {
       count = omega arith;
+      placed = c.in_ok-run_one.ensures.placed;
+      tearing = SameTearing-chain _ _ _ old.invariant.tearing c.run_one.ensures.tearing;
       ready = (subst (λ (actions : List Action). AllByRecursion (IsReadyAction g.A.Actions.meanings c.args.tables.now.actions task.outputs) actions) next old.invariant.ready).1;
       changes = λ tells. changes_chain (is_output_of task) _ _ _ (old.invariant.changes tells)
           (subst (λ (outputs : List Output). ChangesOnly (is_output_at outputs) (contents old.folder) (contents c.run_one.new.folder)) c.as_slice.ensures (c.run_one.ensures.changes tells));
       ran = λ tells.
           let ran = old.invariant.ran tells in
-          let stepped = subst (λ (outputs : List Output). step kinds outputs (made_so_far old.taken.files (contents old.folder).files old.lines) c.in-Some.action.now
-          ≡ Ok (made_so_far c.run_one.new.taken.files (contents c.run_one.new.folder).files c.run_one.new.lines)) c.as_slice.ensures (c.in_ok-run_one.ensures.ok tells) in (
+          let stepped = subst (λ (outputs : List Output). step kinds outputs (made_so_far old.taken (contents old.folder).files old.lines) c.in-Some.action.now
+          ≡ Ok (made_so_far c.run_one.new.taken (contents c.run_one.new.folder).files c.run_one.new.lines)) c.as_slice.ensures (c.in_ok-run_one.ensures.ok tells) in (
             ran.0 ++ c.in-Some.action.now ∷ [],
             ran.1 ∙ ap (λ left. ran.0 ++ left) next ∙ sym (append_assoc ran.0 (c.in-Some.action.now ∷ []) (deque_iter_rest c.next.new.self)),
             ends_more kinds task.outputs ran.0 _ _ _ c.in-Some.action.now ran.2 stepped,
@@ -44,7 +47,7 @@ returns-in_err-run_one-clause-err g c = λ tells.
     let kinds = kinds_of g.A.Actions.meanings c.args.tables.now.actions in
     let task = c.args.task.now in
     let old = c.loop-action in
-    let made = made_so_far old.taken.files (contents old.folder).files old.lines in
+    let made = made_so_far old.taken (contents old.folder).files old.lines in
     let next : deque_iter_rest old.action-iterator ≡ c.in-Some.action.now ∷ deque_iter_rest c.next.new.self = c.in-Some.ensures.steps in
     let p = err_from_is_err_and c.from_residual.result c.from_residual.ensures.1 in
     let ran = old.invariant.ran tells in
@@ -74,7 +77,13 @@ returns-clause-ok g c = λ tells.
     let kinds = kinds_of g.A.Actions.meanings c.args.tables.now.actions in
     let old = c.loop-action in
     let ran = old.invariant.ran tells in
-    let made = made_so_far old.taken.files (contents old.folder).files old.lines in
+    let made = made_so_far old.taken (contents old.folder).files old.lines in
     let nothing = none_left (deque_iter_rest old.action-iterator) c.in-None.ensures.steps.0 in
     let all : c.args.task.now.actions ≡ ran.0 = ran.1 ∙ ap (λ left. ran.0 ++ left) nothing ∙ with_none ran.0 in
     (made, ap (ends kinds c.args.task.now.outputs (nothing_over (contents c.args.folder.now).files)) all ∙ ran.2, refl, refl)
+
+pub returns-in_err-run_one-clause-tearing : goal.returns-in_err-run_one-clause-tearing
+returns-in_err-run_one-clause-tearing g c = SameTearing-chain _ _ _ c.loop-action.invariant.tearing c.run_one.ensures.tearing
+
+pub returns-clause-tearing : goal.returns-clause-tearing
+returns-clause-tearing g c = c.loop-action.invariant.tearing

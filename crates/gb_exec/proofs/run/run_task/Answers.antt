@@ -41,6 +41,9 @@ returns-in_err-remove_all-clause-changes g c = λ tells.
     changes_chain (is_output_of task) _ _ _ (changes_none (is_output_of task) (contents c.args.folder.now) (contents c.listed_outputs.new.folder) (c.listed_outputs.ensures.same tells))
     (c.remove_all.ensures.changes tells (is_output_of task) (subst (λ (places : List (List ℕ)). AllByRecursion (λ place. is_output_of task place ≡ true) places) (sym listed) (listed_at_outputs task.outputs (contents c.args.folder.now).files)))
 
+pub returns-in_err-remove_all-clause-blamed : goal.returns-in_err-remove_all-clause-blamed
+returns-in_err-remove_all-clause-blamed g c = λ place is. ?
+
 pub returns-clause-changes : goal.returns-clause-changes
 returns-clause-changes g c = λ tells.
     let contents = g.F.Folder.contents in
@@ -60,7 +63,7 @@ returns-clause-runs g c = λ tells.
     let listed : c.as_slice-2.result.now ≡ flat_map (λ (output : Output). places_under old.files output.place) task.outputs =
     c.as_slice-2.ensures.value ∙ c.in_ok-places.ensures.listed tells ∙ ap (flat_map (λ (output : Output). places_under old.files output.place)) c.as_slice.ensures in
     let mid : (contents c.remove_all.new.folder).files ≡ others task old.files =
-    c.in_ok-remove_all.ensures.ok tells
+    ap (λ (folder : Contents). folder.files) (c.in_ok-remove_all.ensures.ok tells)
     ∙ ap (λ (places : List (List ℕ)). fold without (contents c.listed_outputs.new.folder).files places) listed
     ∙ ap (λ (folder : Contents). fold without folder.files (flat_map (λ (output : Output). places_under old.files output.place) task.outputs)) (c.listed_outputs.ensures.same tells)
     ∙ emptied (λ (output : Output). output.place) task.outputs old.files (g.met.F.Folder.sound c.args.folder.now) in
