@@ -1,6 +1,6 @@
 //! Which files stand at the outputs of a task.
 ghost use Rattle.std.specs.Prelude.{◌≡◌, ◌≤◌, ◌⊎◌, ℕ, List, Some, None, Err, false, IsTrue, IfOk, IfErr, OnOk};
-ghost use Rattle.std.specs.List.{flat_map};
+ghost use Rattle.std.specs.List.{flat_map, list_all};
 ghost use Rattle.gb_core.specs.Lists.{first_of};
 ghost use Rattle.gb_folder.specs.Files.{SameTearing, places_under};
 ghost use Rattle.gb_exec.specs.Making.{is_output_at};
@@ -25,6 +25,7 @@ pub fn listed_outputs<F: Folder>(
     ensures blame { Blames result (F.failures folder.old) (F.failures folder.new) }
     ensures blamed { BlamesOnly (is_output_at outputs.now) result }
     ensures tearing { SameTearing (F.may_leave folder.old) (F.may_leave folder.new) }
+    ensures under { IfOk result (λ places. IsTrue (list_all (is_output_at outputs.now) places.items)) }
     ensures same { IsTrue F.tells → F.contents folder.new ≡ F.contents folder.old }
     ensures listed { IsTrue F.tells → IfOk result
         (λ places. places.items ≡ flat_map (λ output. places_under (F.contents folder.old).files output.place) outputs.now) }

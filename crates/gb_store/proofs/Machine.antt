@@ -1,7 +1,8 @@
 -- Faults of the machine, and where they count.
 use Rattle.std.proofs.Common.{◌≡◌, ◌≢◌, ◌≤◌, ◌⊎◌, ◌||◌, ◌∷◌, [], true≢false, ℕ, Bool, true, false, List, Option, not, refl, sym, ◌∙◌, ap, subst, inl, inr, arith, Result, Ok, Err, IsTrue}
 use Rattle.std.specs.Cmp.Lexicographic.{bytes_decides}
-use Rattle.std.specs.List.{AllByRecursion, list_any}
+use Rattle.std.specs.List.{AllByRecursion, list_all, list_any}
+use Rattle.std.proofs.lemmas.Bool.{and_parts}
 use Rattle.std.specs.Prelude.{bytes_eq}
 use Rattle.gb_folder.specs.Files.{Place, Contents, DiffersOnlyAt, HasRisen, files_where, without, with_file, with_left}
 use Rattle.gb_folder.proofs.Changes.{HasRisen-after, HasRisen-before, DiffersOnlyAt-chain, DiffersOnlyAt-without, DiffersOnlyAt-with_file, DiffersOnlyAt-with_left}
@@ -105,4 +106,14 @@ among_passes at test (x ∷ xs) place all any =
     elim (bytes_eq place (at x)) as (λ b. bytes_eq place (at x) ≡ b → (b || list_any (λ y. is_at (at y) place) xs) ≡ true → test place ≡ true) [
       | true ↦ λ is _. ap test ((bytes_decides place (at x)).0 is) ∙ all.0
       | false ↦ λ _ more. among_passes at test xs place all.1 more
+    ] refl any
+
+-- the same of a test of places alone
+pub among_all : (test : Place → Bool) (places : List Place) (place : Place) → list_all test places ≡ true → list_any (λ other. is_at other place) places ≡ true → test place ≡ true
+among_all test [] place all any = absurd (true≢false (sym any))
+among_all test (other ∷ places) place all any =
+    let parts = and_parts (test other) (list_all test places) all in
+    elim (bytes_eq place other) as (λ b. bytes_eq place other ≡ b → (b || list_any (λ at. is_at at place) places) ≡ true → test place ≡ true) [
+      | true ↦ λ is _. ap test ((bytes_decides place other).0 is) ∙ parts.0
+      | false ↦ λ _ more. among_all test places place parts.1 more
     ] refl any

@@ -1,16 +1,21 @@
-use Rattle.std.proofs.Common.{◌≡◌, ◌⊎◌, ℕ, List, Bool, true, cond, IsTrue, IfErr, Some, refl, sym, ap, subst, ◌∙◌, inl, inr, drop, ◌∷◌, ◌+◌}
+use Rattle.std.proofs.Common.{arith, ◌<◌, ◌++◌, [], false, append_assoc, get_or, length, ◌≡◌, ◌⊎◌, ℕ, List, Bool, true, cond, IsTrue, IfErr, Some, refl, sym, ap, subst, ◌∙◌, inl, inr, drop, ◌∷◌, ◌+◌}
 use Rattle.std.proofs.lemmas.Result.{err_from_is_err_and}
-use Rattle.std.specs.List.{filter}
+use Rattle.std.specs.List.{filter, flat_map, list_all}
+use Rattle.std.proofs.lemmas.Bool.{and_from, and_parts}
+use Rattle.std.proofs.lemmas.List.Folds.{list_all-append}
+use Rattle.std.proofs.lemmas.List.Sums.{list_all-from_AllPass}
+use Rattle.gb_core.specs.Place.{is_under}
 use Rattle.gb_core.specs.Lists.{first_of}
-use Rattle.gb_folder.specs.Files.{Contents, is_odd_under}
+use Rattle.gb_folder.specs.Files.{Contents, is_odd_under, places_under}
 use Rattle.gb_folder.proofs.Changes.{SameTearing-chain}
 use Rattle.gb_project.specs.declared.task.Output.{Output}
 use Rattle.gb_report.specs.declared.fault.Fault.{Fault}
 use Rattle.gb_report.specs.declared.fault.Fault.TheVariants as faults
 use Rattle.gb_store.specs.Faults.{IsOfMachine}
+use Rattle.gb_exec.specs.Making.{is_output_at}
 use Rattle.gb_exec.specs.Turn.{odd_outputs}
 use Rattle.gb_store.proofs.Machine.{at_err, machine_before}
-use Rattle.gb_store.proofs.Loops.{step_here}
+use Rattle.gb_store.proofs.Loops.{any_here, step_here}
 use Rattle.gb_exec.proofs.listing.listed_outputs.Goals as goal
 
 -- an output beneath which something odd stands is the first of those that are left
@@ -42,3 +47,43 @@ returns-in_err-append-clause-tearing g c = SameTearing-chain _ _ _ c.loop-output
 
 pub returns-clause-tearing : goal.returns-clause-tearing
 returns-clause-tearing g c = c.loop-output.invariant.tearing
+
+-- what stands beneath an output stands at the outputs
+at_outputs : (outputs : List Output) (i : ℕ) (output : Output) → i < length outputs → output ≡ get_or outputs i output → (places : List (List ℕ))
+    → list_all (λ at. is_under at output.place) places ≡ true → list_all (is_output_at outputs) places ≡ true
+at_outputs outputs i output within is [] all = refl
+at_outputs outputs i output within is (place ∷ places) all =
+    let parts = and_parts (is_under place output.place) (list_all (λ at. is_under at output.place) places) all in
+    and_from _ _ (any_here (λ (o : Output). is_under place o.place) outputs i output within is parts.0) (at_outputs outputs i output within is places parts.1)
+
+pub loop-output-preserved : goal.loop-output-preserved
+loop-output-preserved g c =
+    let F = g.F.Folder in
+    let outputs = c.args.outputs.now in
+    let old = F.contents c.args.folder.now in
+    let i = c.loop-output.output-index in
+    let output = c.output-item.result in
+    let so_far = c.loop-output.invariant in
+    let items : c.append.new.self.items ≡ c.loop-output.places.items ++ c.in_ok-listed.listed.items = c.in_ok-append.ensures.items in
+    let under : list_all (is_output_at outputs) c.in_ok-listed.listed.items ≡ true =
+    at_outputs outputs i output c.loop-output-test.true c.output-item.is _ (list_all-from_AllPass (λ at. is_under at output.place) c.in_ok-listed.listed.items c.in_ok-listed.ensures.under) in
+    record {
+      count = omega (arith, so_far.count, c.listed_at.ensures.count);
+      tearing = SameTearing-chain _ _ _ so_far.tearing c.listed_at.ensures.tearing;
+      under =
+          ap (list_all (is_output_at outputs)) items ∙ list_all-append (is_output_at outputs) c.loop-output.places.items c.in_ok-listed.listed.items
+          ∙ and_from _ _ so_far.under under;
+      same = λ tells. c.listed_at.ensures.same tells ∙ so_far.same tells;
+      listed = λ tells.
+          let here : c.in_ok-listed.listed.items ≡ places_under old.files output.place = c.in_ok-listed.ensures.listed tells ∙ ap (λ (folder : Contents). places_under folder.files output.place) (so_far.same tells) in
+          let rest = flat_map (λ (o : Output). places_under old.files o.place) (drop (i + 1) outputs) in
+          ap (λ (found : List (List ℕ)). found ++ rest) (items ∙ ap (λ (more : List (List ℕ)). c.loop-output.places.items ++ more) here)
+          ∙ append_assoc c.loop-output.places.items (places_under old.files output.place) rest
+          ∙ ap (λ (more : List (List ℕ)). c.loop-output.places.items ++ more) (sym (step_here (flat_map (λ (o : Output). places_under old.files o.place)) outputs i output c.loop-output-test.true c.output-item.is))
+          ∙ so_far.listed tells;
+      odd = λ tells.
+          let none : is_odd_under old output.place ≡ false = ap (λ folder. is_odd_under folder output.place) (sym (so_far.same tells)) ∙ c.in_ok-listed.ensures.none_odd tells in
+          sym (ap (λ b. first_of (cond b (output ∷ odd_outputs (drop (i + 1) outputs) old) (odd_outputs (drop (i + 1) outputs) old))) none)
+          ∙ sym (step_here (λ os. first_of (odd_outputs os old)) outputs i output c.loop-output-test.true c.output-item.is)
+          ∙ so_far.odd tells;
+    }

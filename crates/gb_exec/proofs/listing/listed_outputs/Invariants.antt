@@ -1,5 +1,6 @@
 use Rattle.std.proofs.Common.{◌≡◌, ◌≤◌, ◌++◌, ℕ, List, Bool, IsTrue, drop}
-use Rattle.std.specs.List.{flat_map}
+use Rattle.std.specs.List.{flat_map, list_all}
+use Rattle.gb_exec.specs.Making.{is_output_at}
 use Rattle.gb_core.specs.Lists.{first_of}
 use Rattle.gb_folder.specs.Files.{SameTearing, places_under}
 use Rattle.gb_exec.specs.Turn.{odd_outputs}
@@ -11,6 +12,7 @@ invariant-loop-output g l =
     record {
       count : g.F.Folder.failures l.fn.folder ≤ g.F.Folder.failures l.folder;
       tearing : SameTearing (g.F.Folder.may_leave l.fn.folder) (g.F.Folder.may_leave l.folder);
+      under : IsTrue (list_all (is_output_at l.outputs) l.places.items);
       same : IsTrue g.F.Folder.tells → g.F.Folder.contents l.folder ≡ old;
       listed : IsTrue g.F.Folder.tells → l.places.items ++ flat_map (λ output. places_under old.files output.place) (drop l.output-index l.outputs)
           ≡ flat_map (λ output. places_under old.files output.place) l.outputs;

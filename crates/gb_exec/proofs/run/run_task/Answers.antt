@@ -1,16 +1,17 @@
 use Rattle.std.proofs.Common.{◌≡◌, ◌≤◌, arith, ℕ, List, Bool, true, None, Result, Ok, Err, OnOk, IfErr, IsTrue, refl, sym, ap, subst, ◌∙◌, inl, inr, fold}
-use Rattle.std.specs.List.{AllByRecursion, flat_map}
+use Rattle.std.specs.List.{AllByRecursion, flat_map, list_all}
+use Rattle.std.proofs.lemmas.Result.{err_from_is_err_and}
 use Rattle.gb_folder.specs.Files.{Contents, places_under, without}
 use Rattle.gb_project.specs.Task.{is_output_of}
 use Rattle.gb_project.specs.declared.task.Output.{Output}
 use Rattle.gb_project.specs.declared.task.TaskDeclaration.{TaskDeclaration}
 use Rattle.gb_report.specs.declared.fault.Fault.{Fault}
 use Rattle.gb_exec.specs.Kinds.{Kinds, kinds_of}
-use Rattle.gb_exec.specs.Making.{Made, ends, nothing_over, others}
+use Rattle.gb_exec.specs.Making.{Made, ends, is_output_at, nothing_over, others}
 use Rattle.gb_store.specs.Changes.{ChangesOnly}
 use Rattle.gb_exec.specs.Turn.{Runs, StopsAt, emptied_start}
 use Rattle.gb_store.proofs.Emptied.{emptied}
-use Rattle.gb_store.proofs.Machine.{changes_chain, changes_none, machine_before}
+use Rattle.gb_store.proofs.Machine.{among_all, handed_on, changes_chain, changes_none, machine_before}
 use Rattle.gb_exec.proofs.Placing.{listed_at_outputs}
 use Rattle.gb_exec.proofs.run.run_task.Goals as goal
 
@@ -42,7 +43,12 @@ returns-in_err-remove_all-clause-changes g c = λ tells.
     (c.remove_all.ensures.changes tells (is_output_of task) (subst (λ (places : List (List ℕ)). AllByRecursion (λ place. is_output_of task place ≡ true) places) (sym listed) (listed_at_outputs task.outputs (contents c.args.folder.now).files)))
 
 pub returns-in_err-remove_all-clause-blamed : goal.returns-in_err-remove_all-clause-blamed
-returns-in_err-remove_all-clause-blamed g c = λ place is. ?
+returns-in_err-remove_all-clause-blamed g c = λ place is.
+    let p = err_from_is_err_and c.from_residual-in_err-remove_all.result c.from_residual-in_err-remove_all.ensures.1 in
+    let listed : list_all (is_output_at c.args.task.now.outputs) c.as_slice-2.result.now ≡ true =
+    ap (list_all (is_output_at c.args.task.now.outputs)) c.as_slice-2.ensures.value ∙ ap (λ outputs. list_all (is_output_at outputs) c.in_ok-places.places.items) (sym c.as_slice.ensures) ∙ c.in_ok-places.ensures.under in
+    among_all (is_output_at c.args.task.now.outputs) c.as_slice-2.result.now place listed
+    (c.remove_all.ensures.blamed place (handed_on c.from_residual-in_err-remove_all.result c.remove_all.result p.0 c.in_err-remove_all.field-0.0 place p.1 p.2 c.in_err-remove_all.was is))
 
 pub returns-clause-changes : goal.returns-clause-changes
 returns-clause-changes g c = λ tells.
