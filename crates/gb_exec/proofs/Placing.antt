@@ -1,13 +1,13 @@
 -- The places of files: which faults they meet, how large they are, and that they lie at outputs.
-use Rattle.std.proofs.Common.{◌≡◌, ◌≤◌, ◌+◌, ℕ, Bool, true, false, cond, not, ◌&&◌, ◌||◌, List, [], ◌∷◌, ◌++◌, length, map, take, Option, Some, None, Result, Ok, Err, refl, sym, ap, subst, ◌∙◌, arith, nat_eq, Bor}
-use Rattle.std.proofs.lemmas.Bool.{and_from, and_parts, not-false, or_from}
-use Rattle.std.specs.Cmp.Lexicographic.{bytes_decides, pointwise}
-use Rattle.std.specs.List.{AllByRecursion, list_all, list_any, flat_map, starts_with}
+use Rattle.std.proofs.Common.{◌≡◌, ◌≤◌, ℕ, Bool, true, false, cond, not, ◌&&◌, ◌||◌, List, [], ◌∷◌, ◌++◌, length, map, Option, Some, None, Result, Ok, Err, refl, sym, ap, subst, ◌∙◌, arith, nat_eq, Bor}
+use Rattle.std.proofs.lemmas.Bool.{and_from, and_parts, not-false}
+use Rattle.std.specs.Cmp.Lexicographic.{bytes_decides}
+use Rattle.std.specs.List.{AllByRecursion, list_all, flat_map, starts_with}
 use Rattle.std.specs.Prelude.{bytes_eq, nat_lt}
 use Rattle.gb_core.specs.Place.{is_place, is_beneath, is_under, beneath}
 use Rattle.gb_core.specs.Lists.{first_of}
 use Rattle.gb_action.specs.declared.reply.Written.{Written}
-use Rattle.gb_folder.specs.Files.{Place, Bytes, Files, are_placed, is_blocked, with_file, files_under, files_where, places_under}
+use Rattle.gb_folder.specs.Files.{Place, Bytes, Files, are_placed, is_blocked, with_file, places_under}
 use Rattle.gb_folder.proofs.Sound.{all_put}
 use Rattle.gb_project.specs.declared.task.Action.{Action}
 use Rattle.gb_project.specs.declared.task.Output.{Output}
@@ -17,7 +17,7 @@ use Rattle.gb_store.proofs.Emptied.{all_under}
 use Rattle.gb_exec.specs.Kinds.{Kinds}
 use Rattle.gb_folder.specs.Limits.{max_file}
 use Rattle.gb_store.specs.Changes.{put_in, shown}
-use Rattle.gb_exec.specs.Making.{Made, ◌>>=◌, blank, count_faults, fault_if, file_faults, full_outputs, is_output_at, made_so_far, output_named, placed, placed_in, put_over, step, step_faults, take_places, unless_hindered, written_by}
+use Rattle.gb_exec.specs.Making.{Made, blank, count_faults, fault_if, file_faults, full_outputs, is_output_at, output_named, placed, placed_in, put_over, step, step_faults, take_places, unless_hindered}
 
 -- errors of one result are one
 pub err_is : {T E : Type 0} (r : Result T E) (y z w : E) → r ≡ Err y → y ≡ z → r ≡ Err w → z ≡ w
@@ -85,8 +85,8 @@ files_blame_none all (file ∷ files) =
     let larger = fault_if (nat_lt max_file (length file.1)) (faults.TooLarge file.0) in
     all_append BlamesNone (file_faults all file) (flat_map (file_faults all) files)
     (all_append BlamesNone (bad ++ blocked) larger
-        (all_append BlamesNone bad blocked (if_blames_none _ _ (λ place e. cc)) (if_blames_none _ _ (λ place e. cc)))
-        (if_blames_none _ _ (λ place e. cc)))
+    (all_append BlamesNone bad blocked (if_blames_none _ _ (λ place e. cc)) (if_blames_none _ _ (λ place e. cc)))
+    (if_blames_none _ _ (λ place e. cc)))
     (files_blame_none all files)
 
 counts_blame_none : (outputs : List Output) → AllByRecursion BlamesNone (map (λ (output : Output). faults.TooManyFiles output.name) outputs)

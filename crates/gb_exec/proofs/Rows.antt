@@ -1,7 +1,6 @@
 -- Worked turns, by computation.
-use Rattle.std.proofs.Common.{◌≡◌, ℕ, true, length, List, [], ◌∷◌, Option, None, Some, Result, Ok, Err, refl, cond}
+use Rattle.std.proofs.Common.{◌≡◌, ℕ, true, length, List, [], ◌∷◌, None, Some, Result, Ok, Err, refl, cond}
 use Rattle.std.specs.Prelude.{bytes_eq, codes, nat_lt}
-use Rattle.gb_action.specs.Meanings.{Making, Printing}
 use Rattle.gb_action.specs.declared.output.Form.TheVariants.{File}
 use Rattle.gb_core.specs.declared.value.Value.{Value}
 use Rattle.gb_core.specs.declared.value.Value.TheVariants.{Text}
@@ -14,7 +13,7 @@ use Rattle.gb_project.specs.declared.task.TaskDeclaration.{TaskDeclaration}
 use Rattle.gb_report.specs.declared.fault.Fault.{Fault}
 use Rattle.gb_report.specs.declared.fault.Fault.TheVariants as faults
 use Rattle.gb_exec.specs.Kinds.{Kinds}
-use Rattle.gb_exec.specs.Making.{Made, ends, made_so_far, nothing_over, others, placed, take_places}
+use Rattle.gb_exec.specs.Making.{ends, made_so_far, nothing_over, others, placed, take_places}
 use Rattle.gb_exec.specs.Scratch.{from_scratch}
 
 abbrev first_text : List Value → List ℕ

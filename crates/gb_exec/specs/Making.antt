@@ -1,6 +1,5 @@
 -- What the actions of a task make, one after another.
 use Rattle.std.specs.Prelude.{ℕ, Bool, not, List, [], ◌∷◌, ◌++◌, length, map, if◌then◌else◌, bytes_eq, nat_lt, fold, Option, None, Some, Result, Ok, Err}
-use Rattle.std.specs.Borrow.{Bor}
 use Rattle.std.specs.List.{flat_map, filter, list_any}
 use Rattle.gb_core.specs.Place.{is_place, is_under, beneath}
 use Rattle.gb_folder.specs.Files.{Place, Bytes, Files, with_file, files_where, files_under, is_blocked}
@@ -49,7 +48,8 @@ blank files = map (λ file. (file.0, [])) files
 abbrev pub fault_if : Bool → Fault → List Fault
 fault_if hindered fault = if hindered then fault ∷ [] else []
 
--- what hinders a file beside all these: it stands at no place, at a folder of another file or beneath one, it is too large
+-- What hinders a file beside all these: it is at no place; it is at a folder of another, or beneath one; it is
+-- too large.
 abbrev pub file_faults : Files → Place × Bytes → List Fault
 file_faults all file =
     fault_if (not (is_place file.0)) (faults.BadPlace file.0)
@@ -58,7 +58,8 @@ file_faults all file =
 
 -- the outputs at which more files stand than may
 abbrev pub full_outputs : List Output → Files → List Output
-full_outputs outputs taken = filter (λ output. nat_lt max_files (length (files_under taken output.place))) outputs
+full_outputs outputs taken =
+    filter (λ output. nat_lt max_files (length (files_under taken output.place))) outputs
 
 abbrev pub count_faults : List Output → Files → List Fault
 count_faults outputs taken = map (λ output. faults.TooManyFiles output.name) (full_outputs outputs taken)
@@ -71,7 +72,8 @@ abbrev pub unless_hindered : List Fault → Files → Result Files Fault
 unless_hindered [] taken = Ok taken
 unless_hindered (fault ∷ faults) taken = Err fault
 
--- An action's files take their places beside those taken before, which stand as empty files; or the first fault.
+-- An action's files take their places beside those taken before, which stand as empty files; or the first
+-- fault.
 abbrev pub take_places : List Output → Files → List (Place × Bytes) → Result Files Fault
 take_places outputs taken files =
     let by_place = put_over [] files in

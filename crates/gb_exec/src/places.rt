@@ -37,7 +37,8 @@ pub fn take_places<'a>(
     requires placed { IsTrue (are_placed taken.old) }
     ensures files { IfOk result (λ files. shown files.items ≡ put_over [] (placed outputs.now writes.now)) }
     ensures placed { OnOk result (IsTrue (are_placed taken.new)) }
-    ensures ok { OnOk result (take_places outputs.now taken.old (placed outputs.now writes.now) ≡ Ok taken.new) }
+    ensures ok { OnOk result
+        (take_places outputs.now taken.old (placed outputs.now writes.now) ≡ Ok taken.new) }
     ensures err { IfErr result (λ fault. (fault ≡ Fault.OutOfMemory)
         ⊎ (take_places outputs.now taken.old (placed outputs.now writes.now) ≡ Err fault)) }
 {
@@ -85,8 +86,8 @@ fn put_file<'a>(
     output: &Output,
     file: &'a Written,
 ) -> Result<(), AllocError>
-    ensures { OnOk result
-        (files_in files.new ≡ with_file (files_in files.old) (beneath output.now.place file.now.path) file.now.bytes) }
+    ensures { OnOk result (files_in files.new
+        ≡ with_file (files_in files.old) (beneath output.now.place file.now.path) file.now.bytes) }
 {
     let text = text_beneath(alloc, &output.place, &file.path)?;
     files.insert(text, &file.bytes)?;

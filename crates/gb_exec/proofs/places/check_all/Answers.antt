@@ -1,4 +1,4 @@
-use Rattle.std.proofs.Common.{◌≡◌, ◌⊎◌, ◌∷◌, ℕ, List, Some, IfErr, map, sym, ap, ◌∙◌, inl, inr, string_bytes}
+use Rattle.std.proofs.Common.{◌≡◌, ◌⊎◌, ℕ, List, Some, IfErr, map, sym, ap, ◌∙◌, inl, inr, string_bytes}
 use Rattle.std.proofs.lemmas.Result.{err_from_is_err_and}
 use Rattle.std.specs.Borrow.{Bor}
 use Rattle.std.specs.Global.{Global}
@@ -23,6 +23,6 @@ returns-in_err-place-clause-err c =
       | inl memory ↦ inl memory
       | inr first ↦ inr (
           ap first_of (sym c.loop-text.invariant.left
-              ∙ ap (λ (es : List (String Global × Bor Bytes)). flat_map (file_faults all) (map (λ e. (string_bytes e.0, e.1.now)) es)) c.in-Some.ensures.steps)
+          ∙ ap (λ (es : List (String Global × Bor Bytes)). flat_map (file_faults all) (map (λ e. (string_bytes e.0, e.1.now)) es)) c.in-Some.ensures.steps)
           ∙ first_more _ _ _ (ap (λ (text : List ℕ). first_of (file_faults all (text, c.in-Some.bytes.now.now))) (sym c.as_str.ensures.value) ∙ first))
     ])

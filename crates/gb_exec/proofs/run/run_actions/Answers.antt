@@ -1,4 +1,4 @@
-use Rattle.std.proofs.Common.{arith, ◌≡◌, ◌≤◌, ◌⊎◌, ◌++◌, ◌∷◌, [], ℕ, List, Bool, true, None, Some, Ok, Err, IsTrue, IfErr, length, refl, sym, ap, subst, ◌∙◌, inl, inr, append_assoc}
+use Rattle.std.proofs.Common.{arith, ◌≡◌, ◌++◌, ◌∷◌, [], List, Ok, Err, IfErr, refl, sym, ap, subst, ◌∙◌, inl, inr, append_assoc}
 use Rattle.std.proofs.lemmas.Result.{err_from_is_err_and}
 use Rattle.std.specs.List.{AllByRecursion}
 use Rattle.std.specs.VecDeque.Iter.{deque_iter_rest}
@@ -7,10 +7,9 @@ use Rattle.gb_project.specs.declared.task.Action.{Action}
 use Rattle.gb_project.specs.declared.task.Output.{Output}
 use Rattle.gb_report.specs.declared.fault.Fault.{Fault}
 use Rattle.gb_exec.specs.Kinds.{kinds_of}
-use Rattle.gb_exec.specs.Making.{Made, ends, is_output_at, made_so_far, nothing_over, step}
+use Rattle.gb_exec.specs.Making.{ends, is_output_at, made_so_far, nothing_over, step}
 use Rattle.gb_folder.proofs.Changes.{SameTearing-chain}
 use Rattle.gb_store.specs.Changes.{ChangesOnly}
-use Rattle.gb_store.specs.Faults.{IsOfMachine}
 use Rattle.gb_exec.specs.Turn.{StopsAt}
 use Rattle.gb_exec.proofs.Endings.{ends_more, ends_with, none_left, with_none}
 use Rattle.gb_store.proofs.Machine.{at_err, changes_chain, machine_before}
