@@ -1,17 +1,19 @@
 -- Worked turns, by computation.
-use Rattle.std.proofs.Common.{◌≡◌, ℕ, List, [], ◌∷◌, Option, None, Some, Result, Ok, Err, refl, cond}
-use Rattle.std.specs.Prelude.{bytes_eq, codes}
-use Rattle.gb_action.specs.Meanings.{Making, Printing}
+use Rattle.std.proofs.Common.{◌≡◌, ℕ, true, length, List, [], ◌∷◌, None, Some, Result, Ok, Err, refl, cond}
+use Rattle.std.specs.Prelude.{bytes_eq, codes, nat_lt}
 use Rattle.gb_action.specs.declared.output.Form.TheVariants.{File}
 use Rattle.gb_core.specs.declared.value.Value.{Value}
 use Rattle.gb_core.specs.declared.value.Value.TheVariants.{Text}
+use Rattle.gb_action.specs.declared.reply.Written.{Written}
 use Rattle.gb_folder.specs.Files.{Files}
+use Rattle.gb_folder.specs.Limits.{max_file}
 use Rattle.gb_project.specs.declared.task.Action.{Action}
 use Rattle.gb_project.specs.declared.task.Output.{Output}
 use Rattle.gb_project.specs.declared.task.TaskDeclaration.{TaskDeclaration}
+use Rattle.gb_report.specs.declared.fault.Fault.{Fault}
 use Rattle.gb_report.specs.declared.fault.Fault.TheVariants as faults
 use Rattle.gb_exec.specs.Kinds.{Kinds}
-use Rattle.gb_exec.specs.Making.{Made, ends, made_so_far, nothing_over, others}
+use Rattle.gb_exec.specs.Making.{ends, made_so_far, nothing_over, others, placed, take_places}
 use Rattle.gb_exec.specs.Scratch.{from_scratch}
 
 abbrev first_text : List Value → List ℕ
@@ -71,3 +73,30 @@ twice = record gen { actions = action (codes "write") (codes "1") ∷ action (co
 
 later_counts : from_scratch kinds (twice ∷ []) [] ≡ Some ((codes "build/a.txt", codes "2") ∷ [])
 later_counts = refl
+
+-- ---- files by place, whichever is listed first
+
+abbrev out : Output
+out = record { name = codes "out"; form = File; place = codes "build/o" }
+
+abbrev at : List ℕ → List ℕ → Written
+at path bytes = record { output = codes "out"; path = path; bytes = bytes }
+
+abbrev taken_of : List Written → Result Files Fault
+taken_of written = take_places (out ∷ []) [] (placed (out ∷ []) written)
+
+-- of two files in each other's way the lesser place is told
+in_the_way : taken_of (at (codes "a/b") [] ∷ at (codes "a") [] ∷ []) ≡ Err (faults.Blocked (codes "build/o/a"))
+in_the_way = refl
+
+in_the_way_turned : taken_of (at (codes "a") [] ∷ at (codes "a/b") [] ∷ []) ≡ Err (faults.Blocked (codes "build/o/a"))
+in_the_way_turned = refl
+
+-- a file that is too large comes before those in each other's way at greater places
+large_before : (bytes : List ℕ) → nat_lt max_file (length bytes) ≡ true
+    → taken_of (at (codes "b/c") [] ∷ at (codes "b") [] ∷ at (codes "a") bytes ∷ []) ≡ Err (faults.TooLarge (codes "build/o/a"))
+large_before bytes is = rw is refl
+
+-- a file taken before stands in the way of a later action's
+taken_before : take_places (out ∷ []) ((codes "build/o/a", []) ∷ []) ((codes "build/o/a/b", codes "1") ∷ (codes "build/o/0", codes "2") ∷ []) ≡ Err (faults.Blocked (codes "build/o/a/b"))
+taken_before = refl

@@ -1,18 +1,17 @@
 -- Turns that end well leave what is made from scratch.
-use Rattle.std.proofs.Common.{◌≡◌, ℕ, Bool, true, false, cond, not, ◌||◌, List, [], ◌∷◌, Option, None, Some, refl, sym, ap, ◌∙◌, Ok}
+use Rattle.std.proofs.Common.{◌≡◌, ℕ, Bool, true, false, cond, not, ◌||◌, List, [], ◌∷◌, Some, refl, sym, ap, ◌∙◌}
 use Rattle.gb_folder.specs.Files.{Place, Files, Contents, files_where, is_empty}
 use Rattle.gb_report.specs.Outcome.{is_failed}
 use Rattle.gb_report.specs.declared.report.Outcome.{Outcome}
 use Rattle.gb_report.specs.declared.report.Outcome.TheVariants as outcomes
-use Rattle.gb_report.specs.declared.report.TaskReport.{TaskReport}
 use Rattle.gb_project.specs.Task.{is_output_of}
 use Rattle.gb_project.specs.declared.task.Action.{Action}
 use Rattle.gb_project.specs.declared.task.Output.{Output}
 use Rattle.gb_project.specs.declared.task.TaskDeclaration.{TaskDeclaration}
 use Rattle.gb_exec.specs.Kinds.{Kinds}
-use Rattle.gb_exec.specs.Making.{Made, ends, is_output_at, nothing_over, others}
-use Rattle.gb_exec.specs.Scratch.{SuccessIsFromScratch, HasActionsForOutputs, cleared, folder_of, from_scratch}
-use Rattle.gb_exec.specs.Turn.{Turn, Ended}
+use Rattle.gb_exec.specs.Making.{ends, is_output_at, nothing_over, others}
+use Rattle.gb_exec.specs.Scratch.{SuccessIsFromScratch, HasActionsForOutputs, cleared, folder_of}
+use Rattle.gb_exec.specs.Turn.{Ended}
 
 or_false : (b : Bool) → (b || false) ≡ b
 or_false true = refl

@@ -2,3 +2,4 @@ pub mod Kinds
 pub mod Making
 pub mod Turn
 pub mod Scratch
+pub mod Texts

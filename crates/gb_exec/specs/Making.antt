@@ -1,9 +1,7 @@
 -- What the actions of a task make, one after another.
-use Rattle.std.specs.Prelude.{ℕ, Bool, not, List, [], ◌∷◌, ◌++◌, length, map, if◌then◌else◌, bytes_eq, nat_lt, Option, None, Some, Result, Ok, Err}
-use Rattle.std.specs.Borrow.{Bor}
+use Rattle.std.specs.Prelude.{ℕ, Bool, not, List, [], ◌∷◌, ◌++◌, length, map, if◌then◌else◌, bytes_eq, nat_lt, fold, Option, None, Some, Result, Ok, Err}
 use Rattle.std.specs.List.{flat_map, filter, list_any}
 use Rattle.gb_core.specs.Place.{is_place, is_under, beneath}
-use Rattle.gb_core.specs.Lists.{first_of}
 use Rattle.gb_folder.specs.Files.{Place, Bytes, Files, with_file, files_where, files_under, is_blocked}
 use Rattle.gb_folder.specs.Limits.{max_file, max_files}
 use Rattle.gb_store.specs.Changes.{put_in}
@@ -39,23 +37,48 @@ placed_in (Some output) file = (beneath output.place file.path, file.bytes) ∷ 
 abbrev pub placed : List Output → List Written → List (Place × Bytes)
 placed outputs written = flat_map (λ file. placed_in (output_named outputs file.output) file) written
 
--- Files take their places beside those that the task's files take so far, which stand as empty files. Each is a
--- place, no other file is in its way, and it is not too large.
-abbrev pub take_places : Files → List (Place × Bytes) → Result Files Fault
-take_places taken [] = Ok taken
-take_places taken (file ∷ files) =
-    if not (is_place file.0) then Err (faults.BadPlace file.0)
-    else if is_blocked taken file.0 then Err (faults.Blocked file.0)
-    else if nat_lt max_file (length file.1) then Err (faults.TooLarge file.0)
-    else take_places (with_file taken file.0 []) files
+-- files put over others, one after another: of two at one place the later counts
+abbrev pub put_over : Files → List (Place × Bytes) → Files
+put_over held files = fold (λ m file. with_file m file.0 file.1) held files
+
+-- the files as empty ones: the places taken
+abbrev pub blank : Files → Files
+blank files = map (λ file. (file.0, [])) files
+
+abbrev pub fault_if : Bool → Fault → List Fault
+fault_if hindered fault = if hindered then fault ∷ [] else []
+
+-- What hinders a file beside all these: it is at no place; it is at a folder of another, or beneath one; it is
+-- too large.
+abbrev pub file_faults : Files → Place × Bytes → List Fault
+file_faults all file =
+    fault_if (not (is_place file.0)) (faults.BadPlace file.0)
+    ++ fault_if (is_blocked all file.0) (faults.Blocked file.0)
+    ++ fault_if (nat_lt max_file (length file.1)) (faults.TooLarge file.0)
 
 -- the outputs at which more files stand than may
 abbrev pub full_outputs : List Output → Files → List Output
-full_outputs outputs taken = filter (λ output. nat_lt max_files (length (files_under taken output.place))) outputs
+full_outputs outputs taken =
+    filter (λ output. nat_lt max_files (length (files_under taken output.place))) outputs
 
-abbrev pub unless_full : Files → List Output → Result Files Fault
-unless_full taken [] = Ok taken
-unless_full taken (output ∷ outputs) = Err (faults.TooManyFiles output.name)
+abbrev pub count_faults : List Output → Files → List Fault
+count_faults outputs taken = map (λ output. faults.TooManyFiles output.name) (full_outputs outputs taken)
+
+-- what hinders an action's files beside all these: each by place, then too many at an output
+abbrev pub step_faults : List Output → Files → Files → List Fault
+step_faults outputs all files = flat_map (file_faults all) files ++ count_faults outputs all
+
+abbrev pub unless_hindered : List Fault → Files → Result Files Fault
+unless_hindered [] taken = Ok taken
+unless_hindered (fault ∷ faults) taken = Err fault
+
+-- An action's files take their places beside those taken before, which stand as empty files; or the first
+-- fault.
+abbrev pub take_places : List Output → Files → List (Place × Bytes) → Result Files Fault
+take_places outputs taken files =
+    let by_place = put_over [] files in
+    let all = put_over taken (blank by_place) in
+    unless_hindered (step_faults outputs all by_place) all
 
 -- ---- All actions
 
@@ -77,14 +100,13 @@ abbrev pub written_by : Result (List Written) (List ℕ) → Result (List Writte
 written_by (Ok written) = Ok written
 written_by (Err text) = Err (faults.ActionFailed text)
 
--- one action more: its files take their places, then they are put into the folder
+-- one action more: its files take their places, then they are put into the folder, by place
 abbrev pub step : Kinds → List Output → Made → Action → Result Made Fault
 step kinds outputs made action = do
   written ← written_by (kinds.makes action.kind action.args [] [])
-  taken ← take_places made.taken (placed outputs written)
-  counted ← unless_full taken (full_outputs outputs taken)
-  folder ← put_in made.folder (placed outputs written)
-  Ok (record { taken = counted; folder = folder; lines = made.lines ++ kinds.prints action.kind action.args [] [] [] })
+  taken ← take_places outputs made.taken (placed outputs written)
+  folder ← put_in made.folder (put_over [] (placed outputs written))
+  Ok (record { taken = taken; folder = folder; lines = made.lines ++ kinds.prints action.kind action.args [] [] [] })
 
 abbrev pub or_end : Made → Result Made Fault → (Made → Made × Option Fault) → Made × Option Fault
 or_end made (Ok more) next = next more

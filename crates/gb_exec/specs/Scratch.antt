@@ -1,5 +1,5 @@
 -- What a build from scratch leaves.
-use Rattle.std.specs.Prelude.{ℕ, ◌≡◌, Bool, true, false, not, List, [], ◌∷◌, Option, None, Some, fold}
+use Rattle.std.specs.Prelude.{ℕ, ◌≡◌, true, false, not, List, [], ◌∷◌, Option, None, Some, fold}
 use Rattle.std.specs.List.{list_any}
 use Rattle.gb_folder.specs.Files.{Files, Contents, files_where, is_empty}
 use Rattle.gb_report.specs.Outcome.{is_failed}

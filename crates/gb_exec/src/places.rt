@@ -1,65 +1,70 @@
 //! The places that the files of a task take, checked before any is written.
 //!
-//! The places taken so far stand in a folder in memory, as empty files: whether another file is in the
-//! way is then one look-up for each folder of a place.
-ghost use Rattle.std.specs.Prelude.{◌≡◌, ◌⊎◌, ℕ, [], ◌∷◌, false, None, Some, Ok, IsTrue, IfOk, IfErr, OnOk, MatchOption, Err};
+//! The files of an action are looked at by place, beside all that the task has put so far: the order
+//! in which they are listed tells nothing but which of two at one place counts. The places taken stand
+//! in a map, as empty files: whether another file is in the way is then one look-up for each folder of
+//! a place.
+ghost use Rattle.std.specs.Prelude.{◌≡◌, ◌⊎◌, [], ◌∷◌, false, Some, Ok, IsTrue, IfOk, IfErr, OnOk, Err, string_bytes};
+ghost use Rattle.std.specs.List.{flat_map};
 ghost use Rattle.std.specs.Option.{option_copied};
+ghost use Rattle.gb_core.specs.Lists.{first_of};
 ghost use Rattle.gb_core.specs.Place.{is_place, beneath};
+ghost use Rattle.gb_folder.specs.Files.{are_placed, with_file};
 ghost use Rattle.gb_store.specs.Changes.{shown};
-ghost use Rattle.gb_exec.specs.Making.{full_outputs, output_named, placed, placed_in, take_places, unless_full};
+ghost use Rattle.gb_exec.specs.Making.{blank, count_faults, file_faults, output_named, placed, put_over, take_places};
+ghost use Rattle.gb_exec.specs.Texts.{files_in};
 
 use gb_action::reply::Written;
 use gb_core::bytes::Bytes;
 use gb_core::name::Name;
 use gb_core::place::{Place, PlaceFault, RelPath};
 use gb_core::text::Text;
-use gb_folder::folder::{Folder, FolderFault};
+use gb_folder::file_map::FileMap;
 use gb_folder::limits::{MAX_FILE, MAX_FILES};
-use gb_folder::memory::MemoryFolder;
 use gb_project::task::Output;
 use gb_report::fault::Fault;
-use gb_store::faults::fault_at;
-use std::alloc::Global;
+use std::alloc::{AllocError, Global};
+use std::collections::BTreeMap;
 
-/// Takes the places of the files that an action writes, beside those taken before.
+/// Takes the places of the files that an action writes, beside those taken before. The files come by
+/// place.
 pub fn take_places<'a>(
     alloc: Global,
-    taken: &mut MemoryFolder,
+    taken: &mut FileMap,
     outputs: &[Output],
     writes: &'a [Written],
 ) -> Result<Vec<(Place, &'a Bytes)>, Fault>
-    ensures files { IfOk result (λ files. shown files.items ≡ placed outputs.now writes.now) }
-    ensures ok { OnOk result (take_places taken.old.files (placed outputs.now writes.now) ≡ Ok taken.new.files) }
-    ensures err { IfErr result (λ fault. (fault ≡ Fault.OutOfMemory) ⊎ (take_places taken.old.files (placed outputs.now writes.now) ≡ Err fault)) }
+    requires placed { IsTrue (are_placed taken.old) }
+    ensures files { IfOk result (λ files. shown files.items ≡ put_over [] (placed outputs.now writes.now)) }
+    ensures placed { OnOk result (IsTrue (are_placed taken.new)) }
+    ensures ok { OnOk result
+        (take_places outputs.now taken.old (placed outputs.now writes.now) ≡ Ok taken.new) }
+    ensures err { IfErr result (λ fault. (fault ≡ Fault.OutOfMemory)
+        ⊎ (take_places outputs.now taken.old (placed outputs.now writes.now) ≡ Err fault)) }
 {
-    let mut files = Vec::new(alloc);
+    let files = by_place(alloc, outputs, writes)?;
+    hold_all(taken, &files)?;
+    let places = check_all(alloc, taken, &files)?;
+    check_counts(alloc, taken, outputs)?;
+    Ok(places)
+}
+
+/// The files that an action writes, by place: of two at one place the later counts. A reply names
+/// outputs of its task only.
+fn by_place<'a>(
+    alloc: Global,
+    outputs: &[Output],
+    writes: &'a [Written],
+) -> Result<BTreeMap<String, &'a Bytes>, AllocError>
+    ensures { IfOk result (λ files. files_in files ≡ put_over [] (placed outputs.now writes.now)) }
+{
+    let mut files = BTreeMap::new(alloc);
     for file in writes.iter() {
-        if let Some(place) = take_place(alloc, taken, outputs, file)? {
-            files.push((place, &file.bytes))?;
+        if let Some(output) = output_named(outputs, &file.output) {
+            put_file(alloc, &mut files, output, file)?;
         }
     }
     Ok(files)
-}
-
-/// Takes the place of one file. A reply names outputs of its task only, so there is one.
-fn take_place(
-    alloc: Global,
-    taken: &mut MemoryFolder,
-    outputs: &[Output],
-    file: &Written,
-) -> Result<Option<Place>, Fault>
-    ensures place { IfOk result (λ place. MatchOption place (placed_in (output_named outputs.now file.now.output) file.now ≡ [])
-        (λ p. placed_in (output_named outputs.now file.now.output) file.now ≡ (p, file.now.bytes) ∷ [])) }
-    ensures ok { OnOk result (take_places taken.old.files (placed_in (output_named outputs.now file.now.output) file.now) ≡ Ok taken.new.files) }
-    ensures err { IfErr result (λ fault. (fault ≡ Fault.OutOfMemory)
-        ⊎ (take_places taken.old.files (placed_in (output_named outputs.now file.now.output) file.now) ≡ Err fault)) }
-{
-    let Some(output) = output_named(outputs, &file.output) else {
-        return Ok(None);
-    };
-    let place = place_beneath(alloc, &output.place, &file.path)?;
-    hold(taken, &place, &file.bytes)?;
-    Ok(Some(place))
 }
 
 /// The output of the name.
@@ -74,48 +79,99 @@ fn output_named<'a>(outputs: &'a [Output], name: &Name) -> Option<&'a Output>
     None
 }
 
-/// The place of a path beneath an output's.
-fn place_beneath(alloc: Global, root: &Place, path: &RelPath) -> Result<Place, Fault>
-    ensures ok { IfOk result (λ place. place ≡ beneath root.now path.now) }
-    ensures good { OnOk result (IsTrue (is_place (beneath root.now path.now))) }
-    ensures err { IfErr result (λ fault. (fault ≡ Fault.OutOfMemory)
-        ⊎ ((is_place (beneath root.now path.now) ≡ false) × (fault ≡ Fault.BadPlace (beneath root.now path.now)))) }
+/// Puts a file beneath the place of its output.
+fn put_file<'a>(
+    alloc: Global,
+    files: &mut BTreeMap<String, &'a Bytes>,
+    output: &Output,
+    file: &'a Written,
+) -> Result<(), AllocError>
+    ensures { OnOk result (files_in files.new
+        ≡ with_file (files_in files.old) (beneath output.now.place file.now.path) file.now.bytes) }
 {
-    let folder = root.as_str();
-    match root.beneath(alloc, path) {
-        Ok(place) => Ok(place),
-        Err(PlaceFault::OutOfMemory) => Err(Fault::OutOfMemory),
-        Err(PlaceFault::BadPlace) => Err(Fault::BadPlace(Text::new(format!(in alloc;
-            "{folder}/{path}"
-        )?))),
-    }
+    let text = text_beneath(alloc, &output.place, &file.path)?;
+    files.insert(text, &file.bytes)?;
+    Ok(())
 }
 
-/// Takes one place, for a file of these bytes.
-fn hold(taken: &mut MemoryFolder, place: &Place, bytes: &Bytes) -> Result<(), Fault>
-    requires { IsTrue (is_place place.now) }
-    ensures ok { OnOk result (take_places taken.old.files ((place.now, bytes.now) ∷ []) ≡ Ok taken.new.files) }
-    ensures err { IfErr result (λ fault. (fault ≡ Fault.OutOfMemory) ⊎ (take_places taken.old.files ((place.now, bytes.now) ∷ []) ≡ Err fault)) }
+/// The text of a path beneath a root, whether or not it is a place.
+fn text_beneath(alloc: Global, root: &Place, path: &RelPath) -> Result<String, AllocError>
+    ensures { IfOk result (λ text. string_bytes text ≡ beneath root.now path.now) }
 {
-    if let Err(fault) = taken.write(place, &[], 0) {
-        return Err(fault_at(fault, place));
+    let mut text = String::from_str(alloc, root.as_str())?;
+    if !path.as_str().is_empty() {
+        text.push('/')?;
+        text.push_str(path.as_str())?;
     }
-    if bytes.as_slice().len() as u64 > MAX_FILE {
-        return Err(fault_at(FolderFault::TooLarge, place));
+    Ok(text)
+}
+
+/// Takes the places of all these files.
+fn hold_all(taken: &mut FileMap, files: &BTreeMap<String, &Bytes>) -> Result<(), AllocError>
+    ensures { OnOk result (taken.new ≡ put_over taken.old (blank (files_in files.now))) }
+{
+    for (text, _) in files.iter() {
+        taken.put(text.as_str(), &[])?;
     }
     Ok(())
 }
 
-/// Whether no output has more files than it may.
-pub fn check_counts(
+/// Checks each of these files beside all.
+fn check_all<'a>(
     alloc: Global,
-    taken: &mut MemoryFolder,
-    outputs: &[Output],
-) -> Result<(), Fault>
-    ensures same { taken.new.files ≡ taken.old.files }
-    ensures ok { OnOk result (full_outputs outputs.now taken.old.files ≡ []) }
+    all: &FileMap,
+    files: &BTreeMap<String, &'a Bytes>,
+) -> Result<Vec<(Place, &'a Bytes)>, Fault>
+    ensures files { IfOk result (λ places. shown places.items ≡ files_in files.now) }
+    ensures ok { OnOk result (flat_map (file_faults all.now) (files_in files.now) ≡ []) }
     ensures err { IfErr result (λ fault. (fault ≡ Fault.OutOfMemory)
-        ⊎ (unless_full taken.old.files (full_outputs outputs.now taken.old.files) ≡ Err fault)) }
+        ⊎ (first_of (flat_map (file_faults all.now) (files_in files.now)) ≡ Some fault)) }
+{
+    let mut places = Vec::new(alloc);
+    for (text, bytes) in files.iter() {
+        let place = check_file(alloc, all, text.as_str(), bytes)?;
+        places.push((place, *bytes))?;
+    }
+    Ok(places)
+}
+
+/// Checks one file beside all.
+fn check_file(alloc: Global, all: &FileMap, text: &str, bytes: &Bytes) -> Result<Place, Fault>
+    ensures place { IfOk result (λ place. place ≡ text.now) }
+    ensures ok { OnOk result (file_faults all.now (text.now, bytes.now) ≡ []) }
+    ensures err { IfErr result (λ fault. (fault ≡ Fault.OutOfMemory)
+        ⊎ (first_of (file_faults all.now (text.now, bytes.now)) ≡ Some fault)) }
+{
+    let place = place_of(alloc, text)?;
+    if all.is_blocked(&place)? {
+        return Err(Fault::Blocked(place));
+    }
+    if bytes.as_slice().len() as u64 > MAX_FILE {
+        return Err(Fault::TooLarge(place));
+    }
+    Ok(place)
+}
+
+/// The place that a text is.
+fn place_of(alloc: Global, text: &str) -> Result<Place, Fault>
+    ensures place { IfOk result (λ place. place ≡ text.now) }
+    ensures good { OnOk result (IsTrue (is_place text.now)) }
+    ensures err { IfErr result (λ fault. (fault ≡ Fault.OutOfMemory)
+        ⊎ ((is_place text.now ≡ false) × (fault ≡ Fault.BadPlace text.now))) }
+{
+    match Place::read(alloc, text) {
+        Ok(place) => Ok(place),
+        Err(PlaceFault::OutOfMemory) => Err(Fault::OutOfMemory),
+        Err(PlaceFault::BadPlace) => Err(Fault::BadPlace(Text::from_str(alloc, text)?)),
+    }
+}
+
+/// Whether no output has more files than it may.
+fn check_counts(alloc: Global, taken: &FileMap, outputs: &[Output]) -> Result<(), Fault>
+    requires { IsTrue (are_placed taken.now) }
+    ensures ok { OnOk result (count_faults outputs.now taken.now ≡ []) }
+    ensures err { IfErr result (λ fault. (fault ≡ Fault.OutOfMemory)
+        ⊎ (first_of (count_faults outputs.now taken.now) ≡ Some fault)) }
 {
     for output in outputs.iter() {
         check_count(alloc, taken, output)?;
@@ -123,15 +179,13 @@ pub fn check_counts(
     Ok(())
 }
 
-fn check_count(alloc: Global, taken: &mut MemoryFolder, output: &Output) -> Result<(), Fault>
-    ensures same { taken.new.files ≡ taken.old.files }
-    ensures ok { OnOk result (full_outputs (output.now ∷ []) taken.old.files ≡ []) }
+fn check_count(alloc: Global, taken: &FileMap, output: &Output) -> Result<(), Fault>
+    requires { IsTrue (are_placed taken.now) }
+    ensures ok { OnOk result (count_faults (output.now ∷ []) taken.now ≡ []) }
     ensures err { IfErr result (λ fault. (fault ≡ Fault.OutOfMemory)
-        ⊎ ((full_outputs (output.now ∷ []) taken.old.files ≡ output.now ∷ []) × (fault ≡ Fault.TooManyFiles output.now.name))) }
+        ⊎ (first_of (count_faults (output.now ∷ []) taken.now) ≡ Some fault)) }
 {
-    let places = taken
-        .list(alloc, &output.place)
-        .map_err(|fault| fault_at(fault, &output.place))?;
+    let places = taken.list_under(alloc, &output.place)?;
     if places.len() > MAX_FILES {
         return Err(Fault::TooManyFiles(output.name.copy()?));
     }

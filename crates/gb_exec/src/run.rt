@@ -1,6 +1,6 @@
 //! The run of a task: its output places emptied, then its actions, one after another.
 ghost use Rattle.std.specs.Prelude.{◌≡◌, ◌≤◌, ◌⊎◌, ◌++◌, ℕ, List, [], None, Some, Ok, Err, IsTrue, IfErr, OnOk, OnErr};
-ghost use Rattle.gb_folder.specs.Files.{SameTearing};
+ghost use Rattle.gb_folder.specs.Files.{SameTearing, are_placed};
 ghost use Rattle.gb_store.specs.Faults.{Blames, BlamesOnly};
 ghost use Rattle.gb_project.specs.Task.{IsReady, IsReadyAction, is_output_of};
 ghost use Rattle.gb_project.specs.declared.task.Action.{Action};
@@ -12,11 +12,11 @@ ghost use Rattle.gb_exec.specs.Turn.{Runs, StopsAt};
 
 use crate::asking::ask;
 use crate::listing::listed_outputs;
-use crate::places::{check_counts, take_places};
+use crate::places::take_places;
 use gb_action::actions::Actions;
 use gb_core::text::Texts;
+use gb_folder::file_map::FileMap;
 use gb_folder::folder::Folder;
-use gb_folder::memory::MemoryFolder;
 use gb_project::tables::Tables;
 use gb_project::task::{Action, Output, TaskDeclaration};
 use gb_report::fault::Fault;
@@ -68,7 +68,7 @@ fn run_actions<A: Actions, F: Folder>(
     ensures err { IsTrue F.tells → IfErr result (λ fault. StopsAt (kinds_of A.meanings tables.now.actions) task.now
         (F.failures folder.old) (nothing_over (F.contents folder.old).files) fault lines.new (F.failures folder.new)) }
 {
-    let mut taken = MemoryFolder::new(alloc);
+    let mut taken = FileMap::new(alloc);
     for action in task.actions.iter() {
         run_one::<A, F>(
             alloc,
@@ -87,29 +87,30 @@ fn run_actions<A: Actions, F: Folder>(
 fn run_one<A: Actions, F: Folder>(
     alloc: Global,
     folder: &mut F,
-    taken: &mut MemoryFolder,
+    taken: &mut FileMap,
     outputs: &[Output],
     tables: &Tables<A::Stored>,
     action: &Action,
     lines: &mut Texts,
 ) -> Result<(), Fault>
     requires ready { IsReadyAction A.meanings tables.now.actions outputs.now action.now }
+    requires placed { IsTrue (are_placed taken.old) }
     ensures count { F.failures folder.old ≤ F.failures folder.new }
     ensures blame { Blames result (F.failures folder.old) (F.failures folder.new) }
     ensures blamed { BlamesOnly (is_output_at outputs.now) result }
     ensures tearing { SameTearing (F.may_leave folder.old) (F.may_leave folder.new) }
     ensures changes { IsTrue F.tells → ChangesOnly (is_output_at outputs.now) (F.contents folder.old) (F.contents folder.new) }
+    ensures placed { OnOk result (IsTrue (are_placed taken.new)) }
     ensures lines { OnErr result (lines.new ≡ lines.old) }
     ensures ok { IsTrue F.tells → OnOk result
-        (step (kinds_of A.meanings tables.now.actions) outputs.now (made_so_far taken.old.files (F.contents folder.old).files lines.old) action.now
-        ≡ Ok (made_so_far taken.new.files (F.contents folder.new).files lines.new)) }
+        (step (kinds_of A.meanings tables.now.actions) outputs.now (made_so_far taken.old (F.contents folder.old).files lines.old) action.now
+        ≡ Ok (made_so_far taken.new (F.contents folder.new).files lines.new)) }
     ensures err { IsTrue F.tells → IfErr result (λ fault. IsOfMachine (F.failures folder.old) (F.failures folder.new) fault
-        ⊎ (step (kinds_of A.meanings tables.now.actions) outputs.now (made_so_far taken.old.files (F.contents folder.old).files lines.old) action.now ≡ Err fault)) }
+        ⊎ (step (kinds_of A.meanings tables.now.actions) outputs.now (made_so_far taken.old (F.contents folder.old).files lines.old) action.now ≡ Err fault)) }
 {
     let reply = ask::<A>(alloc, outputs, tables, action)?;
     let printed = reply.lines;
     let files = take_places(alloc, taken, outputs, reply.writes.as_slice())?;
-    check_counts(alloc, taken, outputs)?;
     write_all(folder, files.as_slice())?;
     lines.append(printed)?;
     Ok(())

@@ -5,11 +5,14 @@
 //! elsewhere, as on a disk, only what holds whatever a device does is promised.
 //! [`MemoryFolder`](memory::MemoryFolder) tells; `proofs/Changes.antt` has lemmas for callers.
 //!
+//! [`FileMap`](file_map::FileMap) holds files without being a folder: one may be in the way of another.
+//!
 //! Set aside: handles, streams, folders as things of their own, permissions and times. A folder
 //! exists where a file stands beneath it, and a large file is read in parts.
 #![tactic(auto)]
 
 pub mod faulty;
+pub mod file_map;
 pub mod folder;
 pub mod limits;
 pub mod memory;

@@ -1,6 +1,6 @@
-use Rattle.std.proofs.Common.{arith, ◌<◌, ◌++◌, [], false, append_assoc, get_or, length, ◌≡◌, ◌⊎◌, ℕ, List, Bool, true, cond, IsTrue, IfErr, Some, refl, sym, ap, subst, ◌∙◌, inl, inr, drop, ◌∷◌, ◌+◌}
+use Rattle.std.proofs.Common.{arith, ◌<◌, ◌++◌, [], false, append_assoc, get_or, length, ◌≡◌, ◌⊎◌, ℕ, List, true, cond, IfErr, Some, refl, sym, ap, ◌∙◌, inl, inr, drop, ◌∷◌, ◌+◌}
 use Rattle.std.proofs.lemmas.Result.{err_from_is_err_and}
-use Rattle.std.specs.List.{filter, flat_map, list_all}
+use Rattle.std.specs.List.{flat_map, list_all}
 use Rattle.std.proofs.lemmas.Bool.{and_from, and_parts}
 use Rattle.std.proofs.lemmas.List.Folds.{list_all-append}
 use Rattle.std.proofs.lemmas.List.Sums.{list_all-from_AllPass}

@@ -1,4 +1,4 @@
-use Rattle.std.proofs.Common.{◌≡◌, ◌≤◌, ◌++◌, ℕ, List, Bool, IsTrue, drop}
+use Rattle.std.proofs.Common.{◌≡◌, ◌≤◌, ◌++◌, IsTrue, drop}
 use Rattle.std.specs.List.{flat_map, list_all}
 use Rattle.gb_exec.specs.Making.{is_output_at}
 use Rattle.gb_core.specs.Lists.{first_of}

@@ -1,4 +1,4 @@
-use Rattle.std.proofs.Common.{◌≡◌, ◌≤◌, arith, ℕ, List, Bool, true, None, Result, Ok, Err, OnOk, IfErr, IsTrue, refl, sym, ap, subst, ◌∙◌, inl, inr, fold}
+use Rattle.std.proofs.Common.{◌≡◌, ◌≤◌, arith, ℕ, List, true, None, Result, Ok, Err, OnOk, IfErr, sym, ap, subst, ◌∙◌, inl, inr, fold}
 use Rattle.std.specs.List.{AllByRecursion, flat_map, list_all}
 use Rattle.std.proofs.lemmas.Result.{err_from_is_err_and}
 use Rattle.gb_folder.specs.Files.{Contents, places_under, without}
@@ -8,7 +8,6 @@ use Rattle.gb_project.specs.declared.task.TaskDeclaration.{TaskDeclaration}
 use Rattle.gb_report.specs.declared.fault.Fault.{Fault}
 use Rattle.gb_exec.specs.Kinds.{Kinds, kinds_of}
 use Rattle.gb_exec.specs.Making.{Made, ends, is_output_at, nothing_over, others}
-use Rattle.gb_store.specs.Changes.{ChangesOnly}
 use Rattle.gb_exec.specs.Turn.{Runs, StopsAt, emptied_start}
 use Rattle.gb_store.proofs.Emptied.{emptied}
 use Rattle.gb_store.proofs.Machine.{among_all, handed_on, changes_chain, changes_none, machine_before}
