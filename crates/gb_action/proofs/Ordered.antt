@@ -9,8 +9,8 @@ use Rattle.std.specs.Cmp.Lexicographic.{nat_list_cmp_total}
 use Rattle.std.specs.declared.cmp.Ordering.{Ordering}
 use Rattle.std.specs.declared.cmp.Ordering.TheVariants.{Less, Equal, Greater}
 use Rattle.std.specs.FinMap.Entries.{find, put, below_all, is_sorted, is_sorted-put, by_order}
-use Rattle.gb_action.specs.Files.{byte_order}
-use Rattle.gb_action.proofs.Found.{tied_same, same_tied, find-same, find-other}
+use Rattle.gb_core.specs.Lists.{byte_order}
+use Rattle.gb_core.proofs.Found.{tied_same, same_tied, find-same, find-other}
 
 and_first : (a b : Bool) → T (a && b) → T a
 and_first true b p = tt

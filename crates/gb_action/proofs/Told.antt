@@ -8,11 +8,12 @@ use Rattle.std.specs.Cmp.Lexicographic.{bytes_decides, nat_list_cmp_total}
 use Rattle.std.specs.declared.cmp.Ordering.{Ordering}
 use Rattle.std.specs.declared.cmp.Ordering.TheVariants.{Less, Equal, Greater}
 use Rattle.std.specs.FinMap.Entries.{find-put}
-use Rattle.gb_action.specs.Files.{byte_order, Tree, file_at}
+use Rattle.gb_core.specs.Lists.{byte_order}
+use Rattle.gb_action.specs.Files.{Tree, file_at}
 use Rattle.gb_action.specs.Changes.{change_at, in_order, changes_between, IsChange}
 use Rattle.gb_action.specs.declared.change.Change.{Change}
 use Rattle.gb_action.specs.declared.change.Change.TheVariants.{Added, Modified, Removed}
-use Rattle.gb_action.proofs.Found.{tied_same}
+use Rattle.gb_core.proofs.Found.{tied_same}
 
 -- ---- Lists
 

@@ -2,7 +2,8 @@
 use Rattle.std.specs.Prelude.{◌≡◌, ◌≢◌, ℕ, List, [], ◌∷◌, ◌++◌, if◌then◌else◌, bytes_eq, Option, Some, None, IsSome}
 use Rattle.std.specs.List.{flat_map}
 use Rattle.std.specs.FinMap.Entries.{put}
-use Rattle.gb_action.specs.Files.{byte_order, Tree, file_at}
+use Rattle.gb_core.specs.Lists.{byte_order}
+use Rattle.gb_action.specs.Files.{Tree, file_at}
 use Rattle.gb_action.specs.declared.change.Change.{Change}
 use Rattle.gb_action.specs.declared.change.Change.TheVariants.{Added, Modified, Removed}
 

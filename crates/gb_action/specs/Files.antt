@@ -1,12 +1,7 @@
 -- Files by path, and trees by the name of a property: lists of entries, in which the first of a key counts.
 use Rattle.std.specs.Prelude.{ℕ, List, [], Option, unwrap_or}
-use Rattle.std.specs.declared.cmp.Ordering.{Ordering}
-use Rattle.std.specs.Ordering.{nat_cmp}
-use Rattle.std.specs.Cmp.Lexicographic.{slice_cmp}
 use Rattle.std.specs.FinMap.Entries.{find}
-
-abbrev pub byte_order : List ℕ → List ℕ → Ordering
-byte_order = slice_cmp nat_cmp
+use Rattle.gb_core.specs.Lists.{byte_order}
 
 -- files by relative path, strictly in the order of the paths
 abbrev pub Tree : Type 0

@@ -1,10 +1,12 @@
 -- What the kinds of actions mean, whatever closures stand for them.
-use Rattle.std.specs.Prelude.{ℕ, List, Result}
+use Rattle.std.specs.Prelude.{ℕ, ◌≡◌, true, ◌&&◌, List, Ok, Result, bytes_eq, is_some}
+use Rattle.std.specs.List.{list_all}
 use Rattle.gb_core.specs.declared.value.Value.{Value}
 use Rattle.gb_action.specs.Files.{Trees}
 use Rattle.gb_action.specs.Changes.{Changes}
 use Rattle.gb_action.specs.declared.reply.Written.{Written}
 use Rattle.gb_action.specs.declared.shape.Shape.{Shape}
+use Rattle.gb_action.specs.Shapes.{target}
 
 -- values of inputs by name
 abbrev pub Values : Type 0
@@ -25,6 +27,12 @@ pub record Meanings (S : Type 0) : Type 0 where
   pub shape : ℕ → Shape
   pub makes : ℕ → Making
   pub prints : ℕ → Printing
+
+-- the kind of a number writes files of its own output alone, and none where its shape has no output
+abbrev pub WritesItsOutput : {S : Type 0} → Meanings S → ℕ → Type 0
+WritesItsOutput meanings kind =
+    (arguments : List Value) (values : Values) (trees : Trees) (written : List Written) → meanings.makes kind arguments values trees ≡ Ok written
+    → list_all (λ file. bytes_eq file.output target && is_some (meanings.shape kind).out) written ≡ true
 
 module _ {S : Type 0} (meanings : Meanings S) (stored : S) where
   abbrev pub shape_of : Shape

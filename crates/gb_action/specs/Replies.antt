@@ -2,7 +2,8 @@
 use Rattle.std.specs.Prelude.{◌≡◌, ◌≢◌, ℕ, true, false, List, [], map, None, Some, Result, Ok, Err, IsOk}
 use Rattle.std.specs.List.{list_all}
 use Rattle.std.specs.FinMap.Entries.{find, is_sorted}
-use Rattle.gb_action.specs.Files.{byte_order, Trees, tree_at}
+use Rattle.gb_core.specs.Lists.{byte_order}
+use Rattle.gb_action.specs.Files.{Trees, tree_at}
 use Rattle.gb_action.specs.Changes.{AreChanges}
 use Rattle.gb_action.specs.Outputs.{written_at, stands_at, left_at, is_named, names_only}
 use Rattle.gb_action.specs.Meanings.{Making, Printing}

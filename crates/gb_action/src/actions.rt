@@ -1,6 +1,7 @@
 //! The naming trait of actions.
 ghost use Rattle.std.specs.Prelude.{◌≡◌, ◌≤◌};
-ghost use Rattle.gb_action.specs.Meanings.{Meanings, shape_of, makes_of, prints_of};
+ghost use Rattle.std.specs.Prelude.{ℕ};
+ghost use Rattle.gb_action.specs.Meanings.{Meanings, WritesItsOutput, shape_of, makes_of, prints_of};
 ghost use Rattle.gb_action.specs.Replies.{Answers};
 ghost use Rattle.gb_action.specs.Shapes.{IsAsked};
 
@@ -15,6 +16,9 @@ pub trait Actions {
     type Stored: Drop;
 
     ghost meanings: { Meanings Self.Stored };
+
+    /// Each kind writes files of its own output alone.
+    ghost own_output: { (kind : ℕ) → WritesItsOutput meanings kind };
 
     fn shape_of(stored: &Self::Stored) -> &Shape
         ensures { result.now ≡ shape_of meanings stored.now };

@@ -2,7 +2,7 @@
 ghost use Rattle.std.specs.Prelude.{◌≡◌, [], ◌∷◌, ◌++◌, OnOk, OnErr};
 ghost use Rattle.std.specs.Option.{option_copied};
 ghost use Rattle.std.specs.FinMap.Entries.{find};
-ghost use Rattle.gb_action.specs.Files.{byte_order};
+ghost use Rattle.gb_core.specs.Lists.{byte_order};
 
 use crate::named::find_named;
 use gb_core::name::Name;

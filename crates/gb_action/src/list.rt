@@ -32,10 +32,9 @@ impl<T: Drop> ActionList<T> {
         }
     }
 
-    /// Puts in the action of the task's kind, before any other.
+    /// Puts in the action of the task's kind, behind those that were put first; those put last come later.
     pub fn set_main(&mut self, action: T) -> Result<(), AllocError>
-        requires { self.old ≡ [] }
-        ensures ok { OnOk result (self.new ≡ action ∷ []) }
+        ensures ok { OnOk result (self.new ≡ self.old ++ action ∷ []) }
         ensures err { OnErr result (self.new ≡ self.old) }
     {
         self.do_last(action)

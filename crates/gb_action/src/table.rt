@@ -1,11 +1,11 @@
 //! The actions of a build by name.
 ghost use Rattle.std.specs.Prelude.{◌≡◌, [], ◌∷◌, ◌++◌, ◌↔◌, None, Some, MatchResult, OnOk, OnErr, IsErrOf, IsSome};
 ghost use Rattle.std.specs.FinMap.Entries.{find};
-ghost use Rattle.gb_action.specs.Files.{byte_order};
+ghost use Rattle.gb_core.specs.Lists.{byte_order};
 
 use gb_core::name::Name;
-use indexmap::IndexMap;
-use std::alloc::{AllocError, AllocFailed, Global};
+use gb_table::table::{AddFault, NamedTable};
+use std::alloc::Global;
 use std::marker::Model;
 use thiserror::Error;
 
@@ -33,23 +33,17 @@ impl TableFault {
     }
 }
 
-impl From<AllocError> for TableFault {
-    ghost use Rattle.gb_action.specs.declared.table.TableFault.TheVariants.{OutOfMemory};
+impl From<AddFault> for TableFault {
+    ghost use Rattle.std.specs.Prelude.{◌≡◌};
+    ghost use Rattle.gb_action.specs.Faults.{told_of};
 
-    ghost from_gives = { λ _ fault. fault ≡ OutOfMemory };
+    ghost from_gives = { λ fault told. told ≡ told_of fault };
 
-    fn from(_error: AllocError) -> TableFault {
-        TableFault::OutOfMemory
-    }
-}
-
-impl<T: Drop> From<AllocFailed<T>> for TableFault {
-    ghost use Rattle.gb_action.specs.declared.table.TableFault.TheVariants.{OutOfMemory};
-
-    ghost from_gives = { λ _ fault. fault ≡ OutOfMemory };
-
-    fn from(_failed: AllocFailed<T>) -> TableFault {
-        TableFault::OutOfMemory
+    fn from(fault: AddFault) -> TableFault {
+        match fault {
+            AddFault::Taken => TableFault::DuplicateAction,
+            AddFault::OutOfMemory => TableFault::OutOfMemory,
+        }
     }
 }
 
@@ -70,16 +64,15 @@ impl UnknownAction {
 /// Stored actions by name, as they were added.
 #[derive(Drop)]
 pub struct ActionTable<S> {
-    alloc: Global,
-    entries: IndexMap<String, S>,
+    entries: NamedTable<S>,
 }
 
 impl<S> Model for ActionTable<S> {
-    ghost use Rattle.std.specs.Prelude.{List, ℕ, map, string_bytes};
+    ghost use Rattle.std.specs.Prelude.{List, ℕ};
 
     ghost Value = { List (List ℕ × S) };
 
-    ghost view = { λ t. map (λ e. (string_bytes e.0, e.1)) t.entries.entries };
+    ghost view = { λ t. t.entries };
 }
 
 impl<S: Drop> ActionTable<S> {
@@ -88,8 +81,7 @@ impl<S: Drop> ActionTable<S> {
         ensures { result ≡ [] }
     {
         ActionTable {
-            alloc,
-            entries: IndexMap::new(alloc),
+            entries: NamedTable::new(alloc),
         }
     }
 
@@ -100,11 +92,7 @@ impl<S: Drop> ActionTable<S> {
         ensures duplicate { IsErrOf result TableFault.DuplicateAction ↔ IsSome (find byte_order name.now self.old) }
         ensures err { OnErr result (self.new ≡ self.old) }
     {
-        if self.entries.contains_key(name.as_str()) {
-            return Err(TableFault::DuplicateAction);
-        }
-        let key = name.as_str().to_string(self.alloc)?;
-        self.entries.insert(key, stored)?;
+        self.entries.add(name, stored)?;
         Ok(())
     }
 
@@ -112,7 +100,7 @@ impl<S: Drop> ActionTable<S> {
     pub fn find(&self, name: &str) -> Result<&S, UnknownAction>
         ensures { MatchResult result (λ stored. find byte_order name.now self.now ≡ Some stored.now) (λ _. find byte_order name.now self.now ≡ None) }
     {
-        match self.entries.get(name) {
+        match self.entries.find(name) {
             Some(stored) => Ok(stored),
             None => Err(UnknownAction),
         }

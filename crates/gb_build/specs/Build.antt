@@ -12,7 +12,7 @@ use Rattle.gb_project.specs.declared.plain.Statement.{Statement}
 use Rattle.gb_action.specs.Meanings.{Meanings}
 use Rattle.gb_project.specs.Task.{Rows}
 use Rattle.gb_project.specs.Declaration.{declaration_faults, task_of}
-use Rattle.gb_project.specs.Faults.{first_of}
+use Rattle.gb_core.specs.Lists.{first_of}
 use Rattle.gb_project.specs.Words.{selected}
 use Rattle.gb_exec.specs.Kinds.{kinds_of}
 use Rattle.gb_exec.specs.Scratch.{from_scratch}

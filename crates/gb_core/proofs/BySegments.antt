@@ -1,38 +1,15 @@
 -- Places by their segments and by their bytes.
 use Rattle.std.proofs.Common.{◌≡◌, ℕ, Bool, true, false, ◌&&◌, ◌||◌, ◌⊎◌, inl, inr, cond, eqb, nat_eq, IsTrue, List, [], ◌∷◌, ◌++◌, refl, ap, sym, ◌∙◌, subst, append_assoc}
-use Rattle.std.specs.List.{onto_first, starts_with, join_with_byte}
+use Rattle.std.specs.List.{starts_with, join_with_byte}
 use Rattle.std.specs.Str.{bytes_eq}
 use Rattle.std.proofs.lemmas.Bool.{eqb-true, eq-eqb}
 use Rattle.std.proofs.lemmas.Slice.Eq.{bytes_eq-Decides}
 use Rattle.std.proofs.lemmas.List.Splits.{join_with_byte-slice_split}
+use Rattle.gb_core.proofs.Splits.{has_first, parts-joined}
 use Rattle.gb_core.specs.Place.{segments, is_beneath, is_under, overlaps, IsBeneath, Overlap}
 
--- a split is never empty
-abbrev HasFirst : List (List ℕ) → Type 0
-HasFirst parts = (first : List ℕ) × (rest : List (List ℕ)) × (parts ≡ first ∷ rest)
-
-onto_has_first : (c : ℕ) (parts : List (List ℕ)) → HasFirst (onto_first c parts)
-onto_has_first c [] = (c ∷ [], [], refl)
-onto_has_first c (part ∷ parts) = (c ∷ part, parts, refl)
-
-has_first : (text : List ℕ) → HasFirst (segments text)
-has_first [] = ([], [], refl)
-has_first (c ∷ text) = elim (eqb c 47) as (λ b. HasFirst (cond b ([] ∷ segments text) (onto_first c (segments text)))) [
-  | true ↦ ([], segments text, refl)
-  | false ↦ onto_has_first c (segments text)
-]
-
-onto_first-append : (c : ℕ) (parts more : List (List ℕ)) → HasFirst parts → onto_first c (parts ++ more) ≡ onto_first c parts ++ more
-onto_first-append c parts more (first, rest, same) = subst (λ p. onto_first c (p ++ more) ≡ onto_first c p ++ more) (sym same) refl
-
 pub segments-joined : (folder text : List ℕ) → segments (folder ++ 47 ∷ text) ≡ segments folder ++ segments text
-segments-joined [] text = refl
-segments-joined (c ∷ folder) text =
-    ap (λ parts. cond (eqb c 47) ([] ∷ parts) (onto_first c parts)) (segments-joined folder text)
-    ∙ elim (eqb c 47) as (λ b. cond b ([] ∷ (segments folder ++ segments text)) (onto_first c (segments folder ++ segments text)) ≡ cond b ([] ∷ segments folder) (onto_first c (segments folder)) ++ segments text) [
-      | true ↦ refl
-      | false ↦ onto_first-append c (segments folder) (segments text) (has_first folder)
-    ]
+segments-joined = parts-joined 47
 
 same_front : (c d : ℕ) (b : Bool) (text front : List ℕ) → nat_eq d c ≡ b → IsTrue (b && starts_with nat_eq text front) → ((rest : List ℕ) × (text ≡ front ++ rest)) → (rest : List ℕ) × (c ∷ text ≡ d ∷ front ++ rest)
 same_front c d true text front same h r = (r.0, ap (λ x. x ∷ text) (sym (eqb-true d c same)) ∙ ap (λ xs. d ∷ xs) r.1)
@@ -60,12 +37,12 @@ join-append first (second ∷ parts) next more =
 pub beneath-to_segments : (place folder : List ℕ) → IsTrue (is_beneath place folder) → IsBeneath place folder
 beneath-to_segments place folder h =
     let r = begins place (folder ++ 47 ∷ []) h in
-    let f = has_first r.0 in
+    let f = has_first 47 r.0 in
     (f.0, f.1, ap segments (r.1 ∙ append_assoc folder (47 ∷ []) r.0) ∙ segments-joined folder r.0 ∙ ap (λ parts. segments folder ++ parts) f.2)
 
 pub beneath-from_segments : (place folder : List ℕ) → IsBeneath place folder → IsTrue (is_beneath place folder)
 beneath-from_segments place folder (next, more, same) =
-    let f = has_first folder in
+    let f = has_first 47 folder in
     let whole : place ≡ (folder ++ 47 ∷ []) ++ join_with_byte 47 (next ∷ more) =
     sym (join_with_byte-slice_split 47 place) ∙ ap (join_with_byte 47) same
     ∙ ap (λ parts. join_with_byte 47 (parts ++ next ∷ more)) f.2 ∙ join-append f.0 f.1 next more

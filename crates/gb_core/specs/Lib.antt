@@ -3,3 +3,4 @@ pub mod Name
 pub mod Place
 pub mod Path
 pub mod Laws
+pub mod Lists

@@ -1,5 +1,5 @@
 -- Paths of projects and tasks: names behind colons.
-use Rattle.std.specs.Prelude.{ℕ, Bool, false, ◌&&◌, ◌||◌, ◌==◌, List, [], ◌∷◌, codes, bytes_eq}
+use Rattle.std.specs.Prelude.{ℕ, Bool, false, ◌&&◌, ◌||◌, ◌==◌, List, [], ◌∷◌, ◌++◌, codes, bytes_eq, if◌then◌else◌}
 use Rattle.std.specs.List.{slice_split, list_all, after_last, before_last}
 use Rattle.gb_core.specs.Name.{is_name}
 
@@ -24,3 +24,7 @@ root_if_empty (c ∷ front) = c ∷ front
 -- the project of a task: what stands before the last colon, or the root
 abbrev pub project_of : List ℕ → List ℕ
 project_of path = root_if_empty (before_last (λ b. b == 58) path)
+
+-- the path of the task of this name in a project
+abbrev pub task_in : List ℕ → List ℕ → List ℕ
+task_in project name = if bytes_eq project (codes ":") then 58 ∷ name else project ++ 58 ∷ name

@@ -138,7 +138,8 @@ impl TaskPath {
 
     /// The path of the task's project, as `:lib` of `:lib:gen`.
     pub fn project(&self) -> &str
-        ensures { result.now ≡ project_of self.now }
+        ensures text { result.now ≡ project_of self.now }
+        ensures project { IsTrue (is_project_path result.now) }
     {
         match self.text.as_str().rsplit_once(':') {
             Some((project, _)) => root_if_empty(project),
@@ -148,7 +149,8 @@ impl TaskPath {
 
     /// The task's name in its project, as `gen` of `:lib:gen`.
     pub fn name(&self) -> &str
-        ensures { result.now ≡ task_name self.now }
+        ensures text { result.now ≡ task_name self.now }
+        ensures name { IsTrue (is_name result.now) }
     {
         let text = self.text.as_str();
         match text.rsplit_once(':') {

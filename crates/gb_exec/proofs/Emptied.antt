@@ -10,7 +10,8 @@ use Rattle.std.specs.List.{list_any, list_all, flat_map}
 use Rattle.std.specs.Ordering.{nat_cmp, is_eq}
 use Rattle.std.specs.Prelude.{bytes_eq}
 use Rattle.gb_core.specs.Place.{is_under}
-use Rattle.gb_folder.specs.Files.{Place, Files, IsFolder, byte_order, file_at, files_where, is_blocked, places_under, without}
+use Rattle.gb_core.specs.Lists.{byte_order}
+use Rattle.gb_folder.specs.Files.{Place, Files, IsFolder, file_at, files_where, is_blocked, places_under, without}
 use Rattle.gb_folder.proofs.Changes.{file_at-files_where, file_at-without, same_files}
 use Rattle.gb_folder.proofs.Held.{equal_from}
 use Rattle.gb_folder.proofs.Sound.{sound_where, same_from}

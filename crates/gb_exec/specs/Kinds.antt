@@ -1,7 +1,7 @@
 -- What the kinds of actions mean, by their names.
 use Rattle.std.specs.Prelude.{ℕ, List, [], Option, None, Some, Err}
 use Rattle.std.specs.FinMap.Entries.{find}
-use Rattle.gb_action.specs.Files.{byte_order}
+use Rattle.gb_core.specs.Lists.{byte_order}
 use Rattle.gb_action.specs.Meanings.{Meanings, Making, Printing, makes_of, prints_of}
 use Rattle.gb_project.specs.Task.{Rows}
 

@@ -3,7 +3,8 @@ use Rattle.std.specs.Prelude.{ℕ, Bool, not, List, [], ◌∷◌, ◌++◌, len
 use Rattle.std.specs.Borrow.{Bor}
 use Rattle.std.specs.List.{flat_map, filter, list_any}
 use Rattle.gb_core.specs.Place.{is_place, is_under, beneath}
-use Rattle.gb_folder.specs.Files.{Place, Bytes, Files, first_of, with_file, files_where, files_under, is_blocked}
+use Rattle.gb_core.specs.Lists.{first_of}
+use Rattle.gb_folder.specs.Files.{Place, Bytes, Files, with_file, files_where, files_under, is_blocked}
 use Rattle.gb_action.specs.declared.reply.Written.{Written}
 use Rattle.gb_report.specs.declared.fault.Fault.{Fault}
 use Rattle.gb_report.specs.declared.fault.Fault.TheVariants as faults

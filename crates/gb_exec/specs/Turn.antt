@@ -1,7 +1,8 @@
 -- The turn of a task: what it answers, what it leaves, and what it prints.
 use Rattle.std.specs.Prelude.{ℕ, ◌≡◌, ◌≤◌, ◌⊎◌, Bool, true, false, not, List, [], ◌∷◌, ◌++◌, Option, None, Some, Result, Ok, Err}
 use Rattle.std.specs.List.{filter}
-use Rattle.gb_folder.specs.Files.{Place, Contents, DiffersOnlyAt, HasRisen, first_of, is_empty, is_odd_under}
+use Rattle.gb_core.specs.Lists.{first_of}
+use Rattle.gb_folder.specs.Files.{Place, Contents, DiffersOnlyAt, HasRisen, is_empty, is_odd_under}
 use Rattle.gb_report.specs.declared.fault.Fault.{Fault}
 use Rattle.gb_report.specs.declared.fault.Fault.TheVariants as faults
 use Rattle.gb_report.specs.declared.report.Outcome.{Outcome}

@@ -1,7 +1,8 @@
 //! Which files stand at the outputs of a task.
 ghost use Rattle.std.specs.Prelude.{◌≡◌, ◌≤◌, ◌⊎◌, ℕ, List, Some, None, Err, false, IsTrue, IfOk, IfErr, OnOk};
 ghost use Rattle.std.specs.List.{flat_map};
-ghost use Rattle.gb_folder.specs.Files.{HasRisen, first_of, is_odd_under, places_under};
+ghost use Rattle.gb_core.specs.Lists.{first_of};
+ghost use Rattle.gb_folder.specs.Files.{HasRisen, is_odd_under, places_under};
 ghost use Rattle.gb_exec.specs.Turn.{IsOfMachine, odd_outputs};
 
 use crate::faults::fault_at;

@@ -3,7 +3,8 @@ use Rattle.std.proofs.Common.{◌≡◌, ℕ, true, false, cond, T, List, Option
 use Rattle.std.specs.Prelude.{◌⊎◌, ◌≢◌, Result, Ok, Err, OnOk, IfErr, IsErrOf, bytes_eq}
 use Rattle.std.specs.Cmp.Lexicographic.{nat_list_cmp_total, bytes_decides}
 use Rattle.std.specs.FinMap.Entries.{is_sorted, is_sorted-put, is_sorted-where_key, same_entries}
-use Rattle.gb_folder.specs.Files.{Contents, Files, IsFolder, Tearing, byte_order, file_at, with_file, with_left, without}
+use Rattle.gb_core.specs.Lists.{byte_order}
+use Rattle.gb_folder.specs.Files.{Contents, Files, IsFolder, Tearing, file_at, with_file, with_left, without}
 use Rattle.gb_folder.specs.Faulty.{may_leave_by}
 use Rattle.gb_folder.specs.declared.faulty.FaultMode.{FaultMode}
 use Rattle.gb_folder.specs.declared.faulty.FaultMode.TheVariants.{FailOnce, Stop, StopTorn}

@@ -5,7 +5,8 @@ use Rattle.std.specs.List.{list_all, list_any}
 use Rattle.bstr.specs.Text.{lines_of}
 use Rattle.bstr.proofs.lemmas.LineLemmas.{lines-nil}
 use Rattle.gb_core.specs.Place.{is_rel_path}
-use Rattle.gb_action.specs.Files.{byte_order, Tree, file_at}
+use Rattle.gb_core.specs.Lists.{byte_order}
+use Rattle.gb_action.specs.Files.{Tree, file_at}
 use Rattle.gb_action.specs.declared.change.Change.{Change}
 use Rattle.gb_kinds.specs.Carried.{as_files, holds_in, is_carried, is_line_of, is_looked_at, is_of_change, lines_where, path_of, told_at, IsCarried, IsEntry}
 use Rattle.gb_kinds.specs.Words.{path_line}

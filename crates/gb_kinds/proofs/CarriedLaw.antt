@@ -10,7 +10,8 @@ use Rattle.std.specs.Option.{option_map}
 use Rattle.bstr.specs.Text.{lines_of}
 use Rattle.gb_core.specs.Place.{is_rel_path}
 use Rattle.gb_action.specs.Changes.{change_at, changes_between}
-use Rattle.gb_action.specs.Files.{byte_order, Tree, Trees, file_at, tree_at}
+use Rattle.gb_core.specs.Lists.{byte_order}
+use Rattle.gb_action.specs.Files.{Tree, Trees, file_at, tree_at}
 use Rattle.gb_action.specs.Meanings.{Making}
 use Rattle.gb_action.specs.Outputs.{written_at}
 use Rattle.gb_action.specs.Replies.{FollowsOn}
@@ -18,7 +19,7 @@ use Rattle.gb_action.specs.Shapes.{source, target}
 use Rattle.gb_action.specs.declared.request.Request.{Request}
 use Rattle.gb_action.specs.declared.change.Change.{Change}
 use Rattle.gb_action.specs.declared.change.Change.TheVariants.{Modified}
-use Rattle.gb_action.proofs.Found.{tied_same, find-same, find-other}
+use Rattle.gb_core.proofs.Found.{tied_same, find-same, find-other}
 use Rattle.gb_kinds.specs.Carried.{file_of_lines, holds_in, is_carried, is_looked_at, is_of_change, path_of, told_at, IsCarried}
 use Rattle.gb_kinds.specs.ByFile.{source_changes}
 use Rattle.gb_kinds.specs.Remade.{as_made, standing}

@@ -8,8 +8,9 @@ use Rattle.std.specs.List.{filter, flat_map, list_all, list_any}
 use Rattle.bstr.specs.Text.{line_len, lines_of}
 use Rattle.bstr.proofs.lemmas.LineLemmas.{lines-nil, lines-step}
 use Rattle.gb_core.specs.Place.{is_printable, is_rel_path}
-use Rattle.gb_action.specs.Files.{byte_order, Tree, file_at}
-use Rattle.gb_action.proofs.Found.{find-same, find-other}
+use Rattle.gb_core.specs.Lists.{byte_order}
+use Rattle.gb_action.specs.Files.{Tree, file_at}
+use Rattle.gb_core.proofs.Found.{find-same, find-other}
 use Rattle.gb_kinds.specs.Words.{path_line}
 use Rattle.gb_kinds.proofs.LinesWhere.{chosen_lines}
 use Rattle.gb_kinds.proofs.WordSets.{or_false}

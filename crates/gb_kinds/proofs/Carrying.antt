@@ -10,7 +10,8 @@ use Rattle.std.specs.List.Sorted.{IsStrictlySortedBy}
 use Rattle.std.specs.Option.{option_or}
 use Rattle.std.specs.Ordering.{eq_by_cmp}
 use Rattle.gb_core.specs.Place.{is_rel_path}
-use Rattle.gb_action.specs.Files.{byte_order, Tree, file_at}
+use Rattle.gb_core.specs.Lists.{byte_order}
+use Rattle.gb_action.specs.Files.{Tree, file_at}
 use Rattle.gb_action.specs.declared.change.Change.{Change}
 use Rattle.gb_kinds.specs.Carried.{as_files, file_of_lines, holds_in, lines_where, path_of}
 use Rattle.gb_kinds.specs.Words.{path_line, with_path}

@@ -6,7 +6,8 @@ use Rattle.std.specs.List.{flat_map}
 use Rattle.std.specs.Option.{option_or, option_map}
 use Rattle.std.specs.Cmp.Lexicographic.{bytes_decides}
 use Rattle.std.specs.FinMap.Entries.{is_sorted}
-use Rattle.gb_action.specs.Files.{byte_order, Tree, file_at}
+use Rattle.gb_core.specs.Lists.{byte_order}
+use Rattle.gb_action.specs.Files.{Tree, file_at}
 use Rattle.gb_action.specs.Changes.{change_at, changes_between}
 use Rattle.gb_action.specs.Outputs.{written_at, stands_at, is_removed}
 use Rattle.gb_action.specs.Shapes.{target}

@@ -12,8 +12,9 @@ use Rattle.std.specs.Ordering.{is_lt, nat_cmp, ordering_then}
 use Rattle.std.specs.declared.cmp.Ordering.{Ordering}
 use Rattle.std.specs.declared.cmp.Ordering.TheVariants.{Less, Equal, Greater}
 use Rattle.gb_core.specs.Place.{is_printable, is_rel_path}
-use Rattle.gb_action.specs.Files.{byte_order, Tree, file_at}
-use Rattle.gb_action.proofs.Found.{tied_same, find-same, find-other}
+use Rattle.gb_core.specs.Lists.{byte_order}
+use Rattle.gb_action.specs.Files.{Tree, file_at}
+use Rattle.gb_core.proofs.Found.{tied_same, find-same, find-other}
 use Rattle.gb_kinds.specs.Carried.{file_of_lines, holds_in, lines_where}
 use Rattle.gb_kinds.specs.Words.{holds_word, path_line}
 use Rattle.gb_kinds.proofs.Carrying.{has_line}

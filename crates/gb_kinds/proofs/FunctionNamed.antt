@@ -5,8 +5,9 @@ use Rattle.std.specs.Option.{IsSome}
 use Rattle.std.specs.List.{list_any}
 use Rattle.std.specs.Cmp.Lexicographic.{bytes_decides}
 use Rattle.std.specs.FinMap.Entries.{find}
-use Rattle.gb_provider.proofs.Found.{find-other}
-use Rattle.gb_provider.specs.Table.{byte_order, Table}
+use Rattle.gb_core.proofs.Found.{find-other}
+use Rattle.gb_core.specs.Lists.{byte_order}
+use Rattle.gb_provider.specs.Table.{Table}
 use Rattle.gb_provider.specs.declared.fault.TableFault.{TableFault}
 use Rattle.gb_provider.specs.declared.fault.TableFault.TheVariants.{OutOfMemory, DuplicateTransform}
 use Rattle.gb_kinds.specs.FunctionNames.{numbers}

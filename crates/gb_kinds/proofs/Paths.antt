@@ -7,7 +7,7 @@ use Rattle.gb_action.specs.Files.{Tree, file_at}
 use Rattle.gb_action.specs.Changes.{change_at, in_order, changes_between}
 use Rattle.gb_action.specs.declared.change.Change.{Change}
 use Rattle.gb_action.specs.declared.change.Change.TheVariants.{Modified}
-use Rattle.gb_action.proofs.Found.{find-same, find-other}
+use Rattle.gb_core.proofs.Found.{find-same, find-other}
 use Rattle.gb_action.proofs.Told.{in_order-find, either-find}
 
 -- a value of change lists that is joined from the values of their parts

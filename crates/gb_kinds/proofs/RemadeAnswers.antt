@@ -5,7 +5,8 @@ use Rattle.std.specs.List.{filter, list_any}
 use Rattle.std.specs.Option.{option_map, option_or}
 use Rattle.std.specs.Cmp.Lexicographic.{bytes_decides, nat_list_eq_equiv}
 use Rattle.std.specs.FinMap.Entries.{is_sorted}
-use Rattle.gb_action.specs.Files.{byte_order, Tree, Trees, file_at, tree_at}
+use Rattle.gb_core.specs.Lists.{byte_order}
+use Rattle.gb_action.specs.Files.{Tree, Trees, file_at, tree_at}
 use Rattle.gb_action.specs.Meanings.{Making}
 use Rattle.gb_action.specs.Outputs.{written_at, stands_at, left_at, is_named, is_removed, names_only}
 use Rattle.gb_action.specs.Replies.{Answers, CarriesOver, FollowsOn, made_for}

@@ -4,11 +4,12 @@ use Rattle.std.specs.List.{filter, list_any}
 use Rattle.std.specs.Option.{option_or, option_and_then}
 use Rattle.std.specs.Cmp.Lexicographic.{bytes_decides}
 use Rattle.std.specs.FinMap.Entries.{below_all, is_sorted}
-use Rattle.gb_action.specs.Files.{byte_order, Tree, file_at}
+use Rattle.gb_core.specs.Lists.{byte_order}
+use Rattle.gb_action.specs.Files.{Tree, file_at}
 use Rattle.gb_action.specs.Outputs.{written_at, files_of, stands_at, is_removed}
 use Rattle.gb_action.specs.Shapes.{target}
 use Rattle.gb_action.specs.declared.output.OutputFiles.{OutputFiles}
-use Rattle.gb_action.proofs.Found.{find-same, find-other}
+use Rattle.gb_core.proofs.Found.{find-same, find-other}
 use Rattle.gb_kinds.specs.ByFile.{file_of, holds, where_new}
 use Rattle.gb_kinds.specs.Remade.{outdated, renewed, standing}
 use Rattle.gb_kinds.proofs.FileLaw.{and_false, and_true, itself, some_none, some_same}

@@ -5,10 +5,10 @@ use Rattle.std.specs.Option.{IsSome}
 use Rattle.std.specs.List.{list_any}
 use Rattle.std.specs.Cmp.Lexicographic.{bytes_decides}
 use Rattle.std.specs.FinMap.Entries.{find}
-use Rattle.gb_action.specs.Files.{byte_order}
+use Rattle.gb_core.specs.Lists.{byte_order}
 use Rattle.gb_action.specs.declared.table.TableFault.{TableFault}
 use Rattle.gb_action.specs.declared.table.TableFault.TheVariants.{OutOfMemory, DuplicateAction}
-use Rattle.gb_action.proofs.Found.{find-other}
+use Rattle.gb_core.proofs.Found.{find-other}
 
 neither : (a b : Bool) → (a || b) ≡ false → (a ≡ false) × (b ≡ false)
 neither true b e = absurd (true≢false e)

@@ -15,8 +15,9 @@ use Rattle.std.specs.FinMap.Entries.{find, below_all, is_sorted, same_entries}
 use Rattle.std.specs.List.{AllByRecursion, flat_map, list_any}
 use Rattle.std.specs.Ordering.{eq_by_cmp, is_eq, is_lt}
 use Rattle.gb_action.specs.Changes.{in_order}
-use Rattle.gb_action.specs.Files.{byte_order, Tree, file_at}
-use Rattle.gb_action.proofs.Found.{tied_same, find-same, find-other}
+use Rattle.gb_core.specs.Lists.{byte_order}
+use Rattle.gb_action.specs.Files.{Tree, file_at}
+use Rattle.gb_core.proofs.Found.{tied_same, find-same, find-other}
 use Rattle.gb_action.proofs.Ordered.{ordered-put}
 use Rattle.gb_action.proofs.Told.{in_order-find}
 use Rattle.gb_kinds.specs.Words.{Index, holds_word, index_files, index_of, lines_for, path_line, with_path, words_of}

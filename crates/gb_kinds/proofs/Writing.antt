@@ -6,11 +6,12 @@ use Rattle.std.specs.Cmp.Lexicographic.{bytes_decides}
 use Rattle.std.specs.declared.cmp.Ordering.{Ordering}
 use Rattle.std.specs.declared.cmp.Ordering.TheVariants.{Less, Equal, Greater}
 use Rattle.std.specs.FinMap.Entries.{below_all, is_sorted}
-use Rattle.gb_action.specs.Files.{byte_order, Tree, file_at}
+use Rattle.gb_core.specs.Lists.{byte_order}
+use Rattle.gb_action.specs.Files.{Tree, file_at}
 use Rattle.gb_action.specs.Outputs.{written_at}
 use Rattle.gb_action.specs.Shapes.{target}
 use Rattle.gb_action.specs.declared.reply.Written.{Written}
-use Rattle.gb_action.proofs.Found.{find-same, find-other}
+use Rattle.gb_core.proofs.Found.{find-same, find-other}
 use Rattle.gb_kinds.specs.ByFile.{by_file}
 
 pub or_none : {X : Type 0} (o : Option X) → option_or o None ≡ o

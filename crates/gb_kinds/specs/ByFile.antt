@@ -2,7 +2,8 @@
 use Rattle.std.specs.Prelude.{◌≡◌, ℕ, Bool, true, false, List, [], ◌∷◌, ◌++◌, map, codes, bytes_eq, if◌then◌else◌, Option, Some, None, unwrap_or}
 use Rattle.std.specs.List.{flat_map}
 use Rattle.std.specs.FinMap.Entries.{find}
-use Rattle.gb_action.specs.Files.{byte_order, Tree, file_at, tree_at}
+use Rattle.gb_core.specs.Lists.{byte_order}
+use Rattle.gb_action.specs.Files.{Tree, file_at, tree_at}
 use Rattle.gb_action.specs.Changes.{Changes}
 use Rattle.gb_action.specs.Outputs.{stands_at}
 use Rattle.gb_action.specs.Shapes.{source, target}

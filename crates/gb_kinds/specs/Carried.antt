@@ -5,7 +5,8 @@ use Rattle.std.specs.List.{concat, filter, flat_map, list_all, list_any}
 use Rattle.std.specs.List.Sorted.{IsStrictlySortedBy}
 use Rattle.bstr.specs.Text.{lines_of}
 use Rattle.gb_core.specs.Place.{is_rel_path}
-use Rattle.gb_action.specs.Files.{byte_order, Tree, file_at, tree_at}
+use Rattle.gb_core.specs.Lists.{byte_order}
+use Rattle.gb_action.specs.Files.{Tree, file_at, tree_at}
 use Rattle.gb_action.specs.Shapes.{source}
 use Rattle.gb_action.specs.declared.change.Change.{Change}
 use Rattle.gb_action.specs.declared.change.Change.TheVariants.{Added, Modified, Removed}

@@ -7,3 +7,4 @@ pub mod Builtin
 pub mod Functions
 pub mod ReplyProps
 pub mod FunctionNames
+pub mod Own

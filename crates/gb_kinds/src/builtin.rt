@@ -54,6 +54,11 @@ impl Actions for Builtin {
 
     ghost meanings = { record { kind = λ stored. stored.kind; version = λ stored. stored.version; shape = builtin_shape; makes = builtin_makes; prints = builtin_prints } };
 
+    ghost use Rattle.gb_kinds.specs.Builtin.{kind_of};
+    ghost use Rattle.gb_kinds.specs.Own.{writes_own};
+
+    ghost own_output = { λ kind. writes_own (kind_of kind) };
+
     fn shape_of(stored: &StoredAction) -> &Shape {
         &stored.shape
     }

@@ -3,7 +3,8 @@ ghost use Rattle.std.specs.Prelude.{◌≡◌, ◌++◌, IfOk, OnOk, IsTrue};
 ghost use Rattle.std.specs.List.{flat_map};
 ghost use Rattle.std.specs.Option.{option_copied};
 ghost use Rattle.std.specs.FinMap.Entries.{is_sorted};
-ghost use Rattle.gb_action.specs.Files.{byte_order, tree_at};
+ghost use Rattle.gb_core.specs.Lists.{byte_order};
+ghost use Rattle.gb_action.specs.Files.{tree_at};
 ghost use Rattle.gb_action.specs.Shapes.{source as source_is};
 ghost use Rattle.gb_kinds.specs.ByFile.{file_of, by_file, edited, holds, rewritten, writes_for, removes_for, IsByFile};
 

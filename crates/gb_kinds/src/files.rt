@@ -1,7 +1,7 @@
 //! The kinds that read files, and the one that adds a file.
 ghost use Rattle.std.specs.Prelude.{◌≡◌, IfOk};
 ghost use Rattle.std.specs.BTreeSet.{contains};
-ghost use Rattle.gb_action.specs.Files.{byte_order};
+ghost use Rattle.gb_core.specs.Lists.{byte_order};
 ghost use Rattle.gb_action.specs.Replies.{Answers};
 ghost use Rattle.gb_action.specs.Shapes.{IsAsked};
 ghost use Rattle.gb_kinds.specs.Builtin.{builtin_shape, builtin_makes, builtin_prints};

@@ -2,7 +2,8 @@
 ghost use Rattle.std.specs.Prelude.{◌≡◌, bytes_eq, IfOk, OnOk, IsTrue};
 ghost use Rattle.std.specs.BTreeSet.{contains};
 ghost use Rattle.std.specs.FinMap.Entries.{is_sorted};
-ghost use Rattle.gb_action.specs.Files.{byte_order, file_at};
+ghost use Rattle.gb_core.specs.Lists.{byte_order};
+ghost use Rattle.gb_action.specs.Files.{file_at};
 ghost use Rattle.gb_kinds.specs.Words.{index_files, index_of, with_path};
 
 use crate::words::{Words, words_of};

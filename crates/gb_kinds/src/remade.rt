@@ -1,7 +1,8 @@
 //! The replies of kinds that know all the files that they make.
 ghost use Rattle.std.specs.Prelude.{◌≡◌, [], is_some, unwrap_or, IfOk, IsTrue};
 ghost use Rattle.std.specs.FinMap.Entries.{is_sorted};
-ghost use Rattle.gb_action.specs.Files.{byte_order, file_at};
+ghost use Rattle.gb_core.specs.Lists.{byte_order};
+ghost use Rattle.gb_action.specs.Files.{file_at};
 ghost use Rattle.gb_action.specs.Outputs.{files_of};
 ghost use Rattle.gb_kinds.specs.Remade.{as_made, outdated, renewed, IsRemade};
 ghost use Rattle.gb_kinds.specs.Words.{index_files};

@@ -2,7 +2,8 @@
 ghost use Rattle.std.specs.Prelude.{◌≡◌, ◌++◌, [], map, unwrap_or, IfOk, IsTrue};
 ghost use Rattle.std.specs.Option.{option_copied};
 ghost use Rattle.std.specs.FinMap.Entries.{find, is_sorted};
-ghost use Rattle.gb_action.specs.Files.{byte_order, file_at, tree_at};
+ghost use Rattle.gb_core.specs.Lists.{byte_order};
+ghost use Rattle.gb_action.specs.Files.{file_at, tree_at};
 ghost use Rattle.gb_kinds.specs.ByFile.{change_line};
 
 use gb_action::change::Change;

@@ -3,7 +3,7 @@ ghost use Rattle.std.specs.Prelude.{◌≡◌, ◌||◌, ◌&&◌, ◌∷◌, []
 ghost use Rattle.std.specs.BTreeSet.{contains};
 ghost use Rattle.std.specs.Char.{encode_utf8, is_ascii_lowercase};
 ghost use Rattle.std.specs.List.{list_all};
-ghost use Rattle.gb_action.specs.Files.{byte_order};
+ghost use Rattle.gb_core.specs.Lists.{byte_order};
 ghost use Rattle.gb_kinds.specs.Words.{holds_word, is_word, letter_or_space};
 
 use crate::names::rel_path;

@@ -6,7 +6,8 @@ use Rattle.gb_report.specs.declared.fault.Fault.{Fault}
 use Rattle.gb_report.specs.declared.fault.Fault.TheVariants.{OutOfMemory}
 use Rattle.gb_project.specs.declared.plain.Registration.{Registration}
 use Rattle.gb_project.specs.declared.plain.Statement.{Statement}
-use Rattle.gb_project.specs.Faults.{first_of, IsFirstFault}
+use Rattle.gb_core.specs.Lists.{first_of}
+use Rattle.gb_project.specs.Faults.{IsFirstFault}
 use Rattle.gb_project.specs.Words.{word_faults, words_faults, found_unless, selected}
 
 first-append : (faults more : List Fault) (fault : Fault) → first_of faults ≡ Some fault → first_of (faults ++ more) ≡ Some fault

@@ -3,7 +3,7 @@ use Rattle.std.proofs.Common.{◌≡◌, ℕ, Bool, true, false, true≢false, �
 use Rattle.std.proofs.lemmas.List.{reverse-append}
 use Rattle.std.specs.List.{flat_map, list_any, list_all, AllByRecursion}
 use Rattle.std.specs.FinMap.Entries.{find}
-use Rattle.gb_action.specs.Files.{byte_order}
+use Rattle.gb_core.specs.Lists.{byte_order}
 use Rattle.gb_action.specs.Meanings.{Meanings, shape_of}
 use Rattle.gb_action.specs.Shapes.{fit}
 use Rattle.gb_action.specs.declared.shape.Fit.{Fit}
@@ -14,7 +14,7 @@ use Rattle.gb_project.specs.declared.plain.Call.{Call}
 use Rattle.gb_project.specs.declared.plain.Clause.{Clause}
 use Rattle.gb_project.specs.declared.plain.Clause.TheVariants.{DoFirst, DoLast, OutputFile}
 use Rattle.gb_project.specs.declared.plain.Registration.{Registration}
-use Rattle.gb_project.specs.Faults.{first_of}
+use Rattle.gb_core.specs.Lists.{first_of}
 use Rattle.gb_project.specs.Task.{Rows, seen_outputs, IsReadyAction, IsReady}
 use Rattle.gb_project.specs.Declaration.{first_action, last_action, main_action, actions_of, is_built, outside_faults, call_faults, main_faults, clause_faults, statement_faults, fit_of, is_bad_shape, is_bad_argument, is_misshapen, lacks_actions, shape_faults, argument_faults, task_faults}
 use Rattle.gb_project.specs.declared.task.Action.{Action}

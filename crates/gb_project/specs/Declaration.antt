@@ -4,7 +4,7 @@ use Rattle.std.specs.List.{flat_map, list_any}
 use Rattle.std.specs.FinMap.Entries.{find}
 use Rattle.gb_core.specs.Place.{is_place, is_beneath}
 use Rattle.gb_core.specs.declared.value.Value.TheVariants.{Text}
-use Rattle.gb_action.specs.Files.{byte_order}
+use Rattle.gb_core.specs.Lists.{byte_order}
 use Rattle.gb_action.specs.Meanings.{Meanings, shape_of}
 use Rattle.gb_action.specs.Shapes.{fit}
 use Rattle.gb_action.specs.declared.output.Form.{Form}

@@ -1,11 +1,8 @@
 -- Which of several faults is told.
 use Rattle.std.specs.Prelude.{◌≡◌, ◌⊎◌, List, [], ◌∷◌, Option, Some, None, Result, MatchResult}
+use Rattle.gb_core.specs.Lists.{first_of}
 use Rattle.gb_report.specs.declared.fault.Fault.{Fault}
 use Rattle.gb_report.specs.declared.fault.Fault.TheVariants.{OutOfMemory}
-
-abbrev pub first_of : {X : Type 0} → List X → Option X
-first_of [] = None
-first_of (x ∷ xs) = Some x
 
 -- the fault is the first of these, or memory ran out
 abbrev pub IsFirstFault : List Fault → Fault → Type 0

@@ -7,7 +7,7 @@ use Rattle.gb_report.specs.declared.fault.Fault.TheVariants.{BadName, UnknownPro
 use Rattle.gb_project.specs.declared.plain.Registration.{Registration}
 use Rattle.gb_project.specs.declared.plain.Statement.{Statement}
 use Rattle.gb_project.specs.declared.plain.Statement.TheVariants.{Register}
-use Rattle.gb_project.specs.Faults.{first_of}
+use Rattle.gb_core.specs.Lists.{first_of}
 
 -- the word as a path: a word that does not begin with a colon is seen from the root project
 abbrev pub absolute : List ℕ → List ℕ

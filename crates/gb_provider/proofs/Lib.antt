@@ -1,4 +1,3 @@
-pub mod Found
 pub mod Tables
 pub mod RoundsLemmas
 pub mod CircleLemmas

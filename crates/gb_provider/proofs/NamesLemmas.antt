@@ -8,9 +8,9 @@ use Rattle.std.specs.Cmp.{tied_itself}
 use Rattle.std.specs.Cmp.Lexicographic.{nat_list_cmp_total}
 use Rattle.std.specs.declared.cmp.Ordering.{Ordering}
 use Rattle.std.specs.declared.cmp.Ordering.TheVariants.{Less, Equal, Greater}
-use Rattle.gb_provider.specs.Table.{byte_order}
+use Rattle.gb_core.specs.Lists.{byte_order}
 use Rattle.gb_provider.specs.Names.{IsFromLeast}
-use Rattle.gb_provider.proofs.Found.{tied_same}
+use Rattle.gb_core.proofs.Found.{tied_same}
 
 -- what does not come before is not after
 pub not_before : (a b : List ℕ) (r : Ordering) → byte_order a b ≡ r → r ≢ Less → byte_order b a ≢ Greater

@@ -8,7 +8,7 @@ use Rattle.std.specs.Cmp.Lexicographic.{nat_list_cmp_total}
 use Rattle.std.specs.declared.cmp.Ordering.TheVariants.{Less, Greater}
 use Rattle.std.proofs.lemmas.List.{append_assoc}
 use Rattle.gb_provider.specs.Produced.{with_tasks}
-use Rattle.gb_provider.specs.Table.{byte_order}
+use Rattle.gb_core.specs.Lists.{byte_order}
 
 -- a task above all others goes last
 put_last : (tasks : List (List ℕ)) (task : List ℕ) → AllByRecursion (λ other. byte_order other task ≡ Less) tasks → insert_key byte_order tasks task ≡ tasks ++ task ∷ []

@@ -4,8 +4,8 @@ use Rattle.std.specs.Result.{IsErrAnd, IsErrOf}
 use Rattle.std.specs.Cmp.Lexicographic.{bytes_decides}
 use Rattle.std.specs.FinMap.Entries.{find}
 use Rattle.std.specs.Map.{lookup}
-use Rattle.gb_provider.specs.Table.{byte_order}
-use Rattle.gb_provider.proofs.Found.{find-same, find-other}
+use Rattle.gb_core.specs.Lists.{byte_order}
+use Rattle.gb_core.proofs.Found.{find-same, find-other}
 use Rattle.gb_provider.specs.declared.fault.TableFault.{TableFault}
 use Rattle.gb_provider.specs.declared.fault.TableFault.TheVariants.{DuplicateTransform, OutOfMemory}
 

@@ -7,7 +7,7 @@ use Rattle.gb_provider.specs.declared.expression.Expression.{Expression}
 use Rattle.gb_provider.specs.declared.expression.Expression.TheVariants.{Constant, OfProperty, OfOutput, Listed, Mapped, FlatMapped, Zipped, OrElse}
 use Rattle.std.specs.Ordering.{ordering_then}
 use Rattle.gb_provider.specs.Rules.{output_place}
-use Rattle.gb_provider.specs.Table.{byte_order}
+use Rattle.gb_core.specs.Lists.{byte_order}
 
 -- outputs by their tasks, and by their names where the tasks are the same
 abbrev pub chosen_order : Chosen → Chosen → Ordering

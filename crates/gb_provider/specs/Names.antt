@@ -4,7 +4,7 @@ use Rattle.std.specs.List.{flat_map}
 use Rattle.std.specs.declared.cmp.Ordering.TheVariants.{Greater}
 use Rattle.gb_provider.specs.declared.expression.Expression.{Expression}
 use Rattle.gb_provider.specs.declared.expression.Expression.TheVariants.{Constant, OfProperty, OfOutput, Listed, Mapped, FlatMapped, Zipped, OrElse}
-use Rattle.gb_provider.specs.Table.{byte_order}
+use Rattle.gb_core.specs.Lists.{byte_order}
 
 -- a property's project or an output's task, `#`, and its name
 abbrev pub label : List ℕ → List ℕ → List ℕ

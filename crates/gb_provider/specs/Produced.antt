@@ -25,7 +25,7 @@ use Rattle.gb_provider.specs.Remembered.{AreWithin, IsRemembered}
 use Rattle.gb_provider.specs.Rounds.{Rule, Answers, Reads, answer}
 use Rattle.gb_provider.specs.Rules.{rules}
 use Rattle.gb_provider.specs.declared.reading.State.{State}
-use Rattle.gb_provider.specs.Table.{byte_order}
+use Rattle.gb_core.specs.Lists.{byte_order}
 
 -- tasks in the order of their paths by bytes, with these, each once
 abbrev pub with_tasks : List (List ℕ) → List (List ℕ) → List (List ℕ)

@@ -1,14 +1,9 @@
 -- Stored functions by name, in one space of names.
 use Rattle.std.specs.Prelude.{ℕ, List, Option, Some, None}
-use Rattle.std.specs.declared.cmp.Ordering.{Ordering}
-use Rattle.std.specs.Ordering.{nat_cmp}
-use Rattle.std.specs.Cmp.Lexicographic.{slice_cmp}
 use Rattle.std.specs.FinMap.Entries.{find}
+use Rattle.gb_core.specs.Lists.{byte_order}
 use Rattle.gb_provider.specs.declared.table.Transform.{Transform}
 use Rattle.gb_provider.specs.declared.table.Transform.TheVariants as stored
-
-abbrev pub byte_order : List ℕ → List ℕ → Ordering
-byte_order = slice_cmp nat_cmp
 
 -- stored functions by name
 abbrev pub Table : Type 0 → Type 0 → Type 0 → Type 0 → Type 0

@@ -4,7 +4,7 @@ ghost use Rattle.std.proofs.Common.{get_or};
 ghost use Rattle.std.specs.declared.cmp.Ordering.TheVariants.{Less, Greater};
 ghost use Rattle.std.specs.Bool.{OnTrue, OnFalse};
 ghost use Rattle.gb_provider.specs.Names.{label, names_of, names_on, IsFromLeast};
-ghost use Rattle.gb_provider.specs.Table.{byte_order};
+ghost use Rattle.gb_core.specs.Lists.{byte_order};
 
 use crate::expression::Expression;
 use gb_core::text::{Text, Texts};

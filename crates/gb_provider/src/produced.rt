@@ -2,7 +2,7 @@
 ghost use Rattle.std.specs.Prelude.{◌≡◌, ◌↔◌, [], ◌∷◌, IfOk, IsTrue, OnOk, OnErr};
 ghost use Rattle.std.specs.BTreeSet.{insert_key};
 ghost use Rattle.gb_provider.specs.Produced.{with_tasks};
-ghost use Rattle.gb_provider.specs.Table.{byte_order};
+ghost use Rattle.gb_core.specs.Lists.{byte_order};
 
 use crate::fault::ValueFault;
 use gb_core::path::TaskPath;

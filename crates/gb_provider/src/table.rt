@@ -2,7 +2,8 @@
 ghost use Rattle.std.specs.Prelude.{◌≡◌, [], ◌∷◌, ◌++◌, ◌↔◌, None, OnOk, OnErr, IsErrOf, IsSome};
 ghost use Rattle.std.specs.FinMap.Entries.{find};
 ghost use Rattle.std.specs.Option.{option_copied};
-ghost use Rattle.gb_provider.specs.Table.{byte_order, map_named, flat_map_named, zip_named, test_named};
+ghost use Rattle.gb_core.specs.Lists.{byte_order};
+ghost use Rattle.gb_provider.specs.Table.{map_named, flat_map_named, zip_named, test_named};
 
 use crate::fault::TableFault;
 use gb_core::name::Name;

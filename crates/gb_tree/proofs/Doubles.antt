@@ -12,9 +12,10 @@ use Rattle.std.specs.Prelude.{bytes_eq, slice_get}
 use Rattle.std.specs.declared.cmp.Ordering.{Ordering}
 use Rattle.std.specs.declared.cmp.Ordering.TheVariants.{Less, Equal, Greater}
 use Rattle.gb_core.specs.Place.{is_beneath, is_under}
-use Rattle.gb_folder.specs.Files.{Place, byte_order, first_of}
+use Rattle.gb_core.specs.Lists.{byte_order, first_of}
+use Rattle.gb_folder.specs.Files.{Place}
 use Rattle.gb_folder.proofs.Beneath.{between_is_beneath}
-use Rattle.gb_action.proofs.Found.{tied_same}
+use Rattle.gb_core.proofs.Found.{tied_same}
 use Rattle.gb_tree.specs.Property.{doubled, paths_of}
 use Rattle.gb_tree.specs.Rising.{IsFrom, IsRising}
 use Rattle.gb_tree.specs.Tree.{Entries}

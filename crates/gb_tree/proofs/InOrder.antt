@@ -15,8 +15,9 @@ use Rattle.std.specs.declared.cmp.Ordering.TheVariants.{Less, Equal, Greater}
 use Rattle.std.specs.FinMap.Entries.{put, by_order, below_all, is_sorted}
 use Rattle.gb_core.proofs.BySegments.{segments-joined}
 use Rattle.gb_core.specs.Place.{is_place, is_segment, is_under, segments}
-use Rattle.gb_folder.specs.Files.{Place, Files, byte_order, file_at, places_under}
-use Rattle.gb_action.proofs.Found.{same_tied}
+use Rattle.gb_core.specs.Lists.{byte_order}
+use Rattle.gb_folder.specs.Files.{Place, Files, file_at, places_under}
+use Rattle.gb_core.proofs.Found.{same_tied}
 use Rattle.gb_tree.specs.Tree.{Entries, bytes_at, contents_at, entries_from, path_from}
 use Rattle.gb_tree.proofs.Under.{IsUnder, under_parts}
 

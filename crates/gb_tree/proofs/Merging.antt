@@ -8,10 +8,11 @@ use Rattle.std.specs.declared.cmp.Ordering.{Ordering}
 use Rattle.std.specs.declared.cmp.Ordering.TheVariants.{Less, Equal, Greater}
 use Rattle.std.specs.FinMap.Entries.{put, below_all, is_sorted, by_order}
 use Rattle.gb_action.specs.Changes.{change_at, changes_between, in_order}
-use Rattle.gb_action.specs.Files.{Tree, byte_order, file_at}
+use Rattle.gb_core.specs.Lists.{byte_order}
+use Rattle.gb_action.specs.Files.{Tree, file_at}
 use Rattle.gb_action.specs.declared.change.Change.{Change}
 use Rattle.gb_action.specs.declared.change.Change.TheVariants.{Added, Removed}
-use Rattle.gb_action.proofs.Found.{find-same, find-other, same_tied, tied_same}
+use Rattle.gb_core.proofs.Found.{find-same, find-other, same_tied, tied_same}
 use Rattle.gb_tree.specs.Merge.{told, past}
 use Rattle.gb_tree.proofs.Loops.{step_here, with_none}
 

@@ -7,7 +7,8 @@ use Rattle.std.specs.Cmp.Lexicographic.{slice_cmp}
 use Rattle.std.specs.List.{list_all}
 use Rattle.std.specs.Ordering.{nat_cmp, is_eq}
 use Rattle.std.specs.Prelude.{IsSome, IsSomeAnd, nat_lt, unwrap_or}
-use Rattle.gb_folder.specs.Files.{Place, Files, IsFolder, HasRisen, file_at, first_of, is_blocked}
+use Rattle.gb_core.specs.Lists.{first_of}
+use Rattle.gb_folder.specs.Files.{Place, Files, IsFolder, HasRisen, file_at, is_blocked}
 use Rattle.gb_folder.proofs.Changes.{HasRisen-before}
 use Rattle.gb_folder.proofs.Held.{equal_from}
 use Rattle.gb_folder.proofs.Sound.{same_from}

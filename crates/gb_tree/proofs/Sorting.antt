@@ -12,8 +12,9 @@ use Rattle.std.specs.Ordering.{is_eq, is_lt, ordering_reverse, ordering_then}
 use Rattle.std.specs.Prelude.{⊤}
 use Rattle.std.specs.declared.cmp.Ordering.{Ordering}
 use Rattle.std.specs.declared.cmp.Ordering.TheVariants.{Less, Equal, Greater}
-use Rattle.gb_folder.specs.Files.{Place, byte_order}
-use Rattle.gb_action.proofs.Found.{tied_same}
+use Rattle.gb_core.specs.Lists.{byte_order}
+use Rattle.gb_folder.specs.Files.{Place}
+use Rattle.gb_core.proofs.Found.{tied_same}
 use Rattle.gb_tree.specs.Property.{entry_order, in_order, inserted}
 use Rattle.gb_tree.specs.Rising.{IsFrom, IsRising}
 use Rattle.gb_tree.specs.Tree.{Entries}

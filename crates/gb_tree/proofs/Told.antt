@@ -2,7 +2,8 @@
 use Rattle.std.proofs.Common.{◌≡◌, ◌⊎◌, ◌≤◌, ◌++◌, ℕ, List, [], ◌∷◌, map, Some, inl, inr, sym, ◌∙◌, subst}
 use Rattle.std.specs.List.{AllByRecursion}
 use Rattle.std.specs.Prelude.{IsSome}
-use Rattle.gb_folder.specs.Files.{Place, Files, Contents, file_at, first_of, places_under}
+use Rattle.gb_core.specs.Lists.{first_of}
+use Rattle.gb_folder.specs.Files.{Place, Files, Contents, file_at, places_under}
 use Rattle.gb_tree.specs.declared.fault.TreeFault.{TreeFault}
 use Rattle.gb_tree.specs.Tree.{Entries, IsOfMachine, entries_from, too_large}
 use Rattle.gb_tree.proofs.InOrder.{listed_stand}

@@ -4,7 +4,8 @@ use Rattle.std.specs.List.{after_last, filter, flat_map, list_any}
 use Rattle.std.specs.Ordering.{is_lt, ordering_then}
 use Rattle.std.specs.declared.cmp.Ordering.{Ordering}
 use Rattle.gb_core.specs.Place.{is_under}
-use Rattle.gb_folder.specs.Files.{Place, Files, Contents, byte_order, is_empty, is_own, places_under}
+use Rattle.gb_core.specs.Lists.{byte_order}
+use Rattle.gb_folder.specs.Files.{Place, Files, Contents, is_empty, is_own, places_under}
 use Rattle.gb_tree.specs.Pattern.{path_matches}
 use Rattle.gb_tree.specs.Tree.{Entries, contents_at, odd_roots, path_from, too_large, too_many}
 use Rattle.gb_tree.specs.declared.property.Naming.{Naming}

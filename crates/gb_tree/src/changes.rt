@@ -2,7 +2,8 @@
 ghost use Rattle.std.specs.Prelude.{◌≡◌, ◌++◌, map, IfOk, OnOk};
 ghost use Rattle.gb_action.specs.declared.change.Change.TheVariants.{Added, Removed};
 ghost use Rattle.gb_action.specs.Changes.{changes_between};
-ghost use Rattle.gb_action.specs.Files.{Tree, byte_order};
+ghost use Rattle.gb_core.specs.Lists.{byte_order};
+ghost use Rattle.gb_action.specs.Files.{Tree};
 ghost use Rattle.gb_tree.specs.Merge.{past, told};
 ghost use Rattle.gb_tree.specs.Prints.{AreApart, digests_of};
 

@@ -4,7 +4,8 @@ ghost use Rattle.std.specs.List.{AllPass};
 ghost use Rattle.std.specs.List.Sorted.{IsStrictlySortedBy};
 ghost use Rattle.std.specs.FinMap.Entries.{is_sorted};
 ghost use Rattle.gb_core.specs.Place.{is_under};
-ghost use Rattle.gb_folder.specs.Files.{HasRisen, byte_order, first_of, places_under};
+ghost use Rattle.gb_core.specs.Lists.{byte_order, first_of};
+ghost use Rattle.gb_folder.specs.Files.{HasRisen, places_under};
 ghost use Rattle.gb_tree.specs.Tree.{IsOfMachine, entries_from, files_from, listing_faults, output_faults};
 ghost use Rattle.gb_tree.specs.Prints.{digests_of};
 

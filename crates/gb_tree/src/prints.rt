@@ -1,7 +1,7 @@
 //! What is remembered of a tree.
 ghost use Rattle.std.specs.Prelude.{◌≡◌, IsTrue};
 ghost use Rattle.std.specs.FinMap.Entries.{is_sorted};
-ghost use Rattle.gb_action.specs.Files.{byte_order};
+ghost use Rattle.gb_core.specs.Lists.{byte_order};
 
 use gb_core::name::Name;
 use gb_core::place::RelPath;
@@ -18,7 +18,7 @@ pub struct Prints {
 impl Model for Prints {
     ghost use Rattle.std.specs.Prelude.{List, ℕ, IsTrue};
     ghost use Rattle.std.specs.FinMap.Entries.{is_sorted};
-    ghost use Rattle.gb_action.specs.Files.{byte_order};
+    ghost use Rattle.gb_core.specs.Lists.{byte_order};
 
     ghost Value = { List ℕ × List (List ℕ × List ℕ) };
 

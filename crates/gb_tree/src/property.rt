@@ -1,6 +1,7 @@
 //! The files of a file property.
 ghost use Rattle.std.specs.Prelude.{◌≡◌, ◌≤◌, ◌⊎◌, [], ℕ, List, Some, Err, IsTrue, IfOk, IfErr, OnOk};
-ghost use Rattle.gb_folder.specs.Files.{HasRisen, first_of};
+ghost use Rattle.gb_core.specs.Lists.{first_of};
+ghost use Rattle.gb_folder.specs.Files.{HasRisen};
 ghost use Rattle.gb_tree.specs.Tree.{IsOfMachine};
 ghost use Rattle.gb_tree.specs.Prints.{digests_of};
 ghost use Rattle.gb_tree.specs.Property.{tree_faults, tree_of};

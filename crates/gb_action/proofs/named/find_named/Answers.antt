@@ -1,5 +1,5 @@
 use Rattle.std.proofs.Common.{sym, ◌∙◌}
-use Rattle.gb_action.proofs.Found.{find-here, find-next}
+use Rattle.gb_core.proofs.Found.{find-here, find-next}
 use Rattle.gb_action.proofs.named.find_named.Goals as goal
 
 pub returns-then-eq : goal.returns-then-eq

@@ -1,6 +1,7 @@
 use Rattle.std.proofs.Common.{◌≡◌, ◌≤◌, ◌++◌, ℕ, List, Bool, IsTrue, drop}
 use Rattle.std.specs.List.{flat_map}
-use Rattle.gb_folder.specs.Files.{first_of, places_under}
+use Rattle.gb_core.specs.Lists.{first_of}
+use Rattle.gb_folder.specs.Files.{places_under}
 use Rattle.gb_exec.specs.Turn.{odd_outputs}
 use Rattle.gb_exec.proofs.listing.listed_outputs.Given as goal
 

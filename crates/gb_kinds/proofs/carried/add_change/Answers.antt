@@ -1,6 +1,6 @@
 use Rattle.std.proofs.Common.{◌||◌, ap, ◌∙◌, bytes_eq}
 use Rattle.std.specs.BTreeSet.{contains}
-use Rattle.gb_action.specs.Files.{byte_order}
+use Rattle.gb_core.specs.Lists.{byte_order}
 use Rattle.gb_kinds.proofs.Carrying.{or_more}
 use Rattle.gb_kinds.proofs.carried.add_change.Goals as goal
 

@@ -2,7 +2,7 @@ use Rattle.std.proofs.Common.{◌||◌, sym, ap, ◌∙◌, bytes_eq}
 use Rattle.std.specs.BTreeSet.{contains}
 use Rattle.std.specs.List.{list_any}
 use Rattle.bstr.specs.Text.{lines_of}
-use Rattle.gb_action.specs.Files.{byte_order}
+use Rattle.gb_core.specs.Lists.{byte_order}
 use Rattle.gb_kinds.proofs.Carrying.{or_more}
 use Rattle.gb_kinds.proofs.FileLaw.{and_true}
 use Rattle.gb_kinds.proofs.carried.add_where_told.Goals as goal

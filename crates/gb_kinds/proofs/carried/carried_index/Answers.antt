@@ -4,7 +4,8 @@ use Rattle.std.specs.FinMap.Entries.{find, is_sorted}
 use Rattle.std.specs.List.{list_all, list_any}
 use Rattle.bstr.specs.Text.{lines_of}
 use Rattle.gb_core.specs.Place.{is_rel_path}
-use Rattle.gb_action.specs.Files.{byte_order, Tree, file_at, tree_at}
+use Rattle.gb_core.specs.Lists.{byte_order}
+use Rattle.gb_action.specs.Files.{Tree, file_at, tree_at}
 use Rattle.gb_action.specs.Outputs.{files_of, stands_at}
 use Rattle.gb_action.specs.Shapes.{source, target}
 use Rattle.gb_action.specs.declared.change.Change.{Change}

@@ -1,7 +1,7 @@
 use Rattle.std.proofs.Common.{◌||◌, ◌∷◌, ap, sym, ◌∙◌, bytes_eq}
 use Rattle.std.specs.BTreeSet.{contains}
 use Rattle.std.specs.List.{list_any}
-use Rattle.gb_action.specs.Files.{byte_order}
+use Rattle.gb_core.specs.Lists.{byte_order}
 use Rattle.gb_kinds.proofs.Carrying.{line_taken, or_more}
 use Rattle.gb_kinds.proofs.carried.carried_lines.Goals as goal
 

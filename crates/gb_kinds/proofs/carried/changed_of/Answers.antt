@@ -1,7 +1,8 @@
 use Rattle.std.proofs.Common.{◌||◌, ap, subst, sym, ◌∙◌, bytes_eq, IsTrue}
 use Rattle.std.specs.BTreeSet.{contains}
 use Rattle.gb_core.specs.Place.{is_rel_path}
-use Rattle.gb_action.specs.Files.{byte_order, file_at, tree_at}
+use Rattle.gb_core.specs.Lists.{byte_order}
+use Rattle.gb_action.specs.Files.{file_at, tree_at}
 use Rattle.gb_action.specs.Shapes.{source}
 use Rattle.gb_action.specs.declared.change.Change.{Change}
 use Rattle.gb_kinds.specs.Carried.{holds_in, path_of}

@@ -3,7 +3,8 @@ use Rattle.std.specs.BTreeSet.{contains}
 use Rattle.std.specs.FinMap.Entries.{is_sorted}
 use Rattle.std.specs.List.{list_all, list_any}
 use Rattle.gb_core.specs.Place.{is_rel_path}
-use Rattle.gb_action.specs.Files.{byte_order, file_at, tree_at}
+use Rattle.gb_core.specs.Lists.{byte_order}
+use Rattle.gb_action.specs.Files.{file_at, tree_at}
 use Rattle.gb_action.specs.Shapes.{source}
 use Rattle.gb_kinds.specs.Carried.{as_files, holds_in, is_of_change, lines_where, path_of}
 use Rattle.gb_kinds.specs.Words.{index_files}

@@ -3,7 +3,8 @@ use Rattle.std.specs.BTreeSet.{contains}
 use Rattle.std.specs.List.{list_any}
 use Rattle.std.specs.List.Sorted.{IsStrictlySortedBy}
 use Rattle.std.specs.Ordering.{eq_by_cmp}
-use Rattle.gb_action.specs.Files.{byte_order, file_at}
+use Rattle.gb_core.specs.Lists.{byte_order}
+use Rattle.gb_action.specs.Files.{file_at}
 use Rattle.gb_action.specs.Outputs.{stands_at}
 use Rattle.gb_action.specs.Shapes.{target}
 use Rattle.gb_kinds.specs.Carried.{file_of_lines, is_line_of, IsEntry}

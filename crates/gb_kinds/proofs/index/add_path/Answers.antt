@@ -2,7 +2,8 @@ use Rattle.std.proofs.Common.{◌≡◌, ◌∷◌, List, ℕ, refl, sym, ap, su
 use Rattle.std.specs.List.{list_any}
 use Rattle.std.specs.List.Sorted.{IsStrictlySortedBy}
 use Rattle.std.specs.Ordering.{eq_by_cmp}
-use Rattle.gb_action.specs.Files.{byte_order, file_at}
+use Rattle.gb_core.specs.Lists.{byte_order}
+use Rattle.gb_action.specs.Files.{file_at}
 use Rattle.gb_kinds.specs.Words.{index_files, with_path}
 use Rattle.gb_kinds.proofs.WordFiles.{path_later, rest_of}
 use Rattle.gb_kinds.proofs.index.add_path.Goals as goal

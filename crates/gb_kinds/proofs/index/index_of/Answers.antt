@@ -1,6 +1,6 @@
 use Rattle.std.proofs.Common.{ap, ◌∙◌}
 use Rattle.std.specs.BTreeSet.{contains}
-use Rattle.gb_action.specs.Files.{byte_order}
+use Rattle.gb_core.specs.Lists.{byte_order}
 use Rattle.gb_kinds.specs.Words.{holds_word, index_files}
 use Rattle.gb_kinds.proofs.WordFiles.{entry_of, is_index, one_more}
 use Rattle.std.proofs.lemmas.List.{take_all}

@@ -1,6 +1,7 @@
 use Rattle.std.proofs.Common.{◌≡◌, ℕ, List, take, IsTrue}
 use Rattle.std.specs.FinMap.Entries.{is_sorted}
-use Rattle.gb_action.specs.Files.{byte_order, file_at}
+use Rattle.gb_core.specs.Lists.{byte_order}
+use Rattle.gb_action.specs.Files.{file_at}
 use Rattle.gb_kinds.specs.Words.{index_files}
 use Rattle.gb_kinds.proofs.WordFiles.{entry_of}
 use Rattle.gb_kinds.proofs.index.index_of.Given as goal

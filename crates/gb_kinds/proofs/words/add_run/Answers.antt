@@ -1,6 +1,6 @@
 use Rattle.std.proofs.Common.{◌≡◌, true, sym, ◌∙◌}
 use Rattle.std.specs.BTreeSet.{contains}
-use Rattle.gb_action.specs.Files.{byte_order}
+use Rattle.gb_core.specs.Lists.{byte_order}
 use Rattle.gb_kinds.specs.Words.{is_word}
 use Rattle.gb_kinds.proofs.WordSets.{with_word}
 use Rattle.gb_kinds.proofs.WordPaths.{is_path}

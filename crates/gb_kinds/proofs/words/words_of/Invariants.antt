@@ -1,7 +1,7 @@
 use Rattle.std.proofs.Common.{◌≡◌, ◌==◌, ℕ, List, length, map, take, bytes_eq}
 use Rattle.std.specs.BTreeSet.{contains}
 use Rattle.std.specs.List.{filter, list_any, slice_split}
-use Rattle.gb_action.specs.Files.{byte_order}
+use Rattle.gb_core.specs.Lists.{byte_order}
 use Rattle.gb_kinds.specs.Words.{is_word, letter_or_space}
 use Rattle.gb_kinds.proofs.words.words_of.Given as goal
 

@@ -1,7 +1,7 @@
 use Rattle.std.proofs.Common.{◌≡◌, ◌≢◌, ℕ, [], ◌+◌, ◌<◌, arith, get_or, subst, sym, ◌∙◌}
 use Rattle.std.proofs.lemmas.List.{get_or_default}
 use Rattle.std.specs.declared.cmp.Ordering.TheVariants.{Less, Greater}
-use Rattle.gb_provider.specs.Table.{byte_order}
+use Rattle.gb_core.specs.Lists.{byte_order}
 use Rattle.gb_provider.proofs.NamesLemmas.{least_now, least_still}
 use Rattle.gb_provider.proofs.names.least.Goals.{then-is_before, else-is_before}
 use Rattle.gb_provider.proofs.names.least.Goals as goal

@@ -1,6 +1,6 @@
 use Rattle.std.proofs.Common.{◌<◌, ◌≢◌, ℕ, [], length, get_or}
 use Rattle.std.specs.declared.cmp.Ordering.TheVariants.{Greater}
-use Rattle.gb_provider.specs.Table.{byte_order}
+use Rattle.gb_core.specs.Lists.{byte_order}
 use Rattle.gb_provider.proofs.names.least.Given as goal
 
 abbrev pub invariant-loop-i : goal.invariant-loop-i

@@ -1,6 +1,6 @@
 use Rattle.std.proofs.Common.{◌≡◌, ◌≤◌, ◌⊎◌, ◌++◌, ◌+◌, ◌-◌, inl, inr, ℕ, List, map, take, drop, length, ◌∙◌, ap, append_assoc}
 use Rattle.gb_action.specs.Changes.{changes_between}
-use Rattle.gb_action.specs.Files.{byte_order}
+use Rattle.gb_core.specs.Lists.{byte_order}
 use Rattle.gb_action.specs.declared.change.Change.TheVariants.{Added, Removed}
 use Rattle.gb_tree.specs.Merge.{past, told}
 use Rattle.gb_tree.specs.Prints.{digests_of}

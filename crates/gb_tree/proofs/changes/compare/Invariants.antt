@@ -1,7 +1,7 @@
 use Rattle.std.proofs.Common.{◌≡◌, ◌≤◌, ◌++◌, ◌+◌, ◌-◌, IsTrue, drop, length}
 use Rattle.std.specs.FinMap.Entries.{is_sorted}
 use Rattle.gb_action.specs.Changes.{changes_between}
-use Rattle.gb_action.specs.Files.{byte_order}
+use Rattle.gb_core.specs.Lists.{byte_order}
 use Rattle.gb_tree.proofs.changes.compare.Given as goal
 
 abbrev pub invariant-loop-at : goal.invariant-loop-at

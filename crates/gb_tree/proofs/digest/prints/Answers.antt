@@ -1,6 +1,6 @@
 use Rattle.std.proofs.Common.{◌≡◌, List, IsTrue, arith, sym, subst, ◌∙◌, ap, refl}
 use Rattle.std.specs.FinMap.Entries.{is_sorted}
-use Rattle.gb_action.specs.Files.{byte_order}
+use Rattle.gb_core.specs.Lists.{byte_order}
 use Rattle.gb_tree.specs.Prints.{digests_of}
 use Rattle.gb_tree.proofs.Digests.{sorted_digests}
 use Rattle.gb_tree.proofs.Loops.{all_done}

@@ -3,7 +3,8 @@ use Rattle.std.proofs.lemmas.List.{take_rest, drop_all}
 use Rattle.std.specs.List.{filter}
 use Rattle.std.specs.Option.{option_copied}
 use Rattle.gb_core.specs.Place.{is_under}
-use Rattle.gb_folder.specs.Files.{Place, first_of}
+use Rattle.gb_core.specs.Lists.{first_of}
+use Rattle.gb_folder.specs.Files.{Place}
 use Rattle.gb_tree.specs.declared.fault.TreeFault.TheVariants as faults
 use Rattle.gb_tree.specs.Property.{doubled, paths_of}
 use Rattle.gb_tree.specs.Rising.{IsFrom, IsRising}

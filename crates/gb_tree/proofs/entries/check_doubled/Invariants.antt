@@ -1,5 +1,5 @@
 use Rattle.std.proofs.Common.{◌≡◌, ◌≤◌, drop, length}
-use Rattle.gb_folder.specs.Files.{first_of}
+use Rattle.gb_core.specs.Lists.{first_of}
 use Rattle.gb_tree.specs.Property.{doubled, paths_of}
 use Rattle.gb_tree.proofs.entries.check_doubled.Given as goal
 

@@ -1,7 +1,7 @@
 use Rattle.std.proofs.Common.{rules}
 use Rattle.std.proofs.lemmas.List.Sorted.{IsPartitionPoint-from_clause}
 use Rattle.std.specs.Ordering.{is_lt}
-use Rattle.gb_folder.specs.Files.{byte_order}
+use Rattle.gb_core.specs.Lists.{byte_order}
 use Rattle.gb_tree.proofs.Doubles.{all_before, all_from, parted}
 use Rattle.gb_tree.proofs.entries.count_before.Goals as goal
 

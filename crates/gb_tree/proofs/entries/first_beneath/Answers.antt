@@ -3,7 +3,7 @@ use Rattle.std.proofs.lemmas.List.{take_rest}
 use Rattle.std.specs.List.{AllByRecursion}
 use Rattle.std.specs.Ordering.{is_lt}
 use Rattle.std.specs.Option.{option_copied}
-use Rattle.gb_folder.specs.Files.{byte_order}
+use Rattle.gb_core.specs.Lists.{byte_order}
 use Rattle.gb_tree.specs.Rising.{IsFrom}
 use Rattle.gb_tree.proofs.Doubles.{chosen_there, none_there}
 use Rattle.gb_tree.proofs.entries.first_beneath.Goals as goal

@@ -2,7 +2,8 @@ use Rattle.std.proofs.Common.{◌≡◌, ℕ, List, sym, ◌∙◌, ap, subst, I
 use Rattle.std.proofs.lemmas.Option.{none-some}
 use Rattle.std.specs.Prelude.{bytes_eq, unwrap_or}
 use Rattle.std.specs.Option.{option_copied}
-use Rattle.gb_folder.specs.Files.{Place, first_of}
+use Rattle.gb_core.specs.Lists.{first_of}
+use Rattle.gb_folder.specs.Files.{Place}
 use Rattle.gb_tree.proofs.Doubles.{not_again}
 use Rattle.gb_tree.proofs.entries.first_under.Goals as goal
 use Rattle.gb_tree.proofs.entries.first_under.Goals.{in_default-via-in-Some+else-eq, in_default-via-in_default}

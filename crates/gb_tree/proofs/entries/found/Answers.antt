@@ -1,7 +1,8 @@
 use Rattle.std.proofs.Common.{◌+◌, ◌∷◌, Some, IfErr, inl, inr, cond, drop, map, sym, ◌∙◌, ap}
 use Rattle.std.proofs.lemmas.Result.{err_from_is_err_and}
 use Rattle.std.specs.List.{filter}
-use Rattle.gb_folder.specs.Files.{Contents, first_of, is_odd_under}
+use Rattle.gb_core.specs.Lists.{first_of}
+use Rattle.gb_folder.specs.Files.{Contents, is_odd_under}
 use Rattle.gb_tree.specs.declared.fault.TreeFault.TheVariants as faults
 use Rattle.gb_tree.specs.Tree.{odd_roots}
 use Rattle.gb_tree.proofs.Loops.{step_here}

@@ -1,5 +1,5 @@
 use Rattle.std.proofs.Common.{◌≡◌, ◌≤◌, ◌++◌, IsTrue, drop}
-use Rattle.gb_folder.specs.Files.{first_of}
+use Rattle.gb_core.specs.Lists.{first_of}
 use Rattle.gb_tree.specs.Property.{found}
 use Rattle.gb_tree.specs.Tree.{odd_roots}
 use Rattle.gb_tree.proofs.entries.found.Given as goal

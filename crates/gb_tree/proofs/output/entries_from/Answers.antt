@@ -4,7 +4,8 @@ use Rattle.std.proofs.lemmas.List.Elements.{recursion_from_All}
 use Rattle.std.specs.FinMap.Entries.{is_sorted}
 use Rattle.std.specs.List.{AllByRecursion}
 use Rattle.gb_core.specs.Place.{is_place, is_under}
-use Rattle.gb_folder.specs.Files.{Place, byte_order}
+use Rattle.gb_core.specs.Lists.{byte_order}
+use Rattle.gb_folder.specs.Files.{Place}
 use Rattle.gb_tree.specs.Tree.{entries_from}
 use Rattle.gb_tree.proofs.InOrder.{entries_ordered}
 use Rattle.gb_tree.proofs.Loops.{all_done}

@@ -1,7 +1,7 @@
 use Rattle.std.proofs.Common.{arith, ◌+◌, ◌∷◌, ℕ, List, map, cond, drop, sym, ◌∙◌, ap}
 use Rattle.std.specs.List.{filter}
 use Rattle.std.specs.FinMap.Entries.{put}
-use Rattle.gb_folder.specs.Files.{byte_order, first_of}
+use Rattle.gb_core.specs.Lists.{byte_order, first_of}
 use Rattle.gb_tree.specs.declared.fault.TreeFault.TheVariants as faults
 use Rattle.gb_tree.specs.Tree.{bytes_at, is_large, too_large}
 use Rattle.gb_tree.proofs.Loops.{step_here}

@@ -1,5 +1,5 @@
 use Rattle.std.proofs.Common.{◌≡◌, ◌≤◌, IsTrue, drop, take}
-use Rattle.gb_folder.specs.Files.{first_of}
+use Rattle.gb_core.specs.Lists.{first_of}
 use Rattle.gb_tree.specs.Tree.{contents_at, too_large}
 use Rattle.gb_tree.proofs.reading.read_all.Given as goal
 

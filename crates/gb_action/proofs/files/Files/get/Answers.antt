@@ -1,6 +1,6 @@
 use Rattle.std.proofs.Common.{◌≡◌, IsTrue, sym, ap, subst, ◌∙◌}
 use Rattle.std.specs.FinMap.Entries.{find, is_sorted}
-use Rattle.gb_action.specs.Files.{byte_order}
+use Rattle.gb_core.specs.Lists.{byte_order}
 use Rattle.gb_action.proofs.Ordered.{find-at, searchable, missing}
 use Rattle.gb_action.proofs.files.Files.get.Goals as goal
 

@@ -1,7 +1,7 @@
 use Rattle.std.proofs.Common.{◌≡◌, ℕ, List, IsTrue, sym, ap, subst, ◌∙◌, set}
 use Rattle.std.specs.List.{insert}
 use Rattle.std.specs.FinMap.Entries.{put, is_sorted}
-use Rattle.gb_action.specs.Files.{byte_order}
+use Rattle.gb_core.specs.Lists.{byte_order}
 use Rattle.gb_action.proofs.Ordered.{put-at, put-insert, searchable, ordered-put}
 use Rattle.gb_action.proofs.files.Files.insert.Goals as goal
 

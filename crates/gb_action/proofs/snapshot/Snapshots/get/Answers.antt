@@ -1,7 +1,7 @@
 use Rattle.std.proofs.Common.{◌≡◌, false, true, Some, sym, ap, ◌∙◌, bytes_eq}
 use Rattle.std.specs.FinMap.Entries.{find}
-use Rattle.gb_action.specs.Files.{byte_order}
-use Rattle.gb_action.proofs.Found.{find-here, find-next}
+use Rattle.gb_core.specs.Lists.{byte_order}
+use Rattle.gb_core.proofs.Found.{find-here, find-next}
 use Rattle.gb_action.proofs.snapshot.Snapshots.get.Goals as goal
 
 pub returns-then-eq : goal.returns-then-eq

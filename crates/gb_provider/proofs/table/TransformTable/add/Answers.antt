@@ -3,7 +3,7 @@ use Rattle.std.specs.String.{string_eq}
 use Rattle.std.specs.FinMap.Entries.{find}
 use Rattle.std.specs.Map.{lookup}
 use Rattle.indexmap.proofs.CallerLemmas.{insert_entry-new}
-use Rattle.gb_provider.specs.Table.{byte_order}
+use Rattle.gb_core.specs.Lists.{byte_order}
 use Rattle.gb_provider.proofs.Tables.{is_none, no_memory, ok_is_no_fault, named, found-by, named-append}
 use Rattle.gb_provider.proofs.table.TransformTable.add.Given.{Over}
 use Rattle.gb_provider.proofs.table.TransformTable.add.Goals as goal

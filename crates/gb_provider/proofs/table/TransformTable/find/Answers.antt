@@ -1,6 +1,6 @@
 use Rattle.std.proofs.Common.{sym, ◌∙◌, ap, string_bytes}
 use Rattle.std.specs.FinMap.Entries.{find}
-use Rattle.gb_provider.specs.Table.{byte_order}
+use Rattle.gb_core.specs.Lists.{byte_order}
 use Rattle.gb_provider.proofs.Tables.{find-named}
 use Rattle.gb_provider.proofs.table.TransformTable.find.Goals as goal
 

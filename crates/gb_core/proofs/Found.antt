@@ -7,7 +7,7 @@ use Rattle.std.specs.Cmp.Lexicographic.{nat_list_cmp_total, bytes_decides}
 use Rattle.std.specs.declared.cmp.Ordering.TheVariants.{Less, Equal, Greater}
 use Rattle.std.specs.FinMap.{nat_cmp-IsAntisymmetric, slice_cmp-IsAntisymmetric}
 use Rattle.std.specs.FinMap.Entries.{find}
-use Rattle.gb_action.specs.Files.{byte_order}
+use Rattle.gb_core.specs.Lists.{byte_order}
 
 -- keys that tie are equal
 pub tied_same : (q k : List ℕ) → byte_order q k ≡ Equal → q ≡ k

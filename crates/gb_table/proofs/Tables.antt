@@ -4,24 +4,24 @@ use Rattle.std.specs.Result.{IsErrAnd, IsErrOf}
 use Rattle.std.specs.Cmp.Lexicographic.{bytes_decides}
 use Rattle.std.specs.FinMap.Entries.{find}
 use Rattle.std.specs.Map.{lookup}
-use Rattle.gb_action.specs.Files.{byte_order}
-use Rattle.gb_action.proofs.Found.{find-same, find-other}
-use Rattle.gb_action.specs.declared.table.TableFault.{TableFault}
-use Rattle.gb_action.specs.declared.table.TableFault.TheVariants.{DuplicateAction, OutOfMemory}
+use Rattle.gb_core.specs.Lists.{byte_order}
+use Rattle.gb_core.proofs.Found.{find-same, find-other}
+use Rattle.gb_table.specs.declared.table.AddFault.{AddFault}
+use Rattle.gb_table.specs.declared.table.AddFault.TheVariants.{Taken, OutOfMemory}
 
 -- what is not there
 pub is_none : {X : Type 0} (o : Option X) → is_some o ≡ false → o ≡ None
 is_none None e = refl
 is_none (Some x) e = absurd (true≢false e)
 
-apart : (fault : TableFault) → fault ≡ OutOfMemory → IsErrOf {T = Unit {0}} (Err fault) DuplicateAction → ⊥
+apart : (fault : AddFault) → fault ≡ OutOfMemory → IsErrOf {T = Unit {0}} (Err fault) Taken → ⊥
 apart fault h is = cc
 
-pub ok_is_no_fault : (x : Unit {0}) → IsErrOf {E = TableFault} (Ok x) DuplicateAction → ⊥
+pub ok_is_no_fault : (x : Unit {0}) → IsErrOf {E = AddFault} (Ok x) Taken → ⊥
 ok_is_no_fault x is = cc
 
 -- no memory is no duplicate, and a name that is not there is none
-pub no_memory : {P : Type 0} (r : Result (Unit {0}) TableFault) → IsErrAnd r (λ fault. fault ≡ OutOfMemory) → ¬ P → (IsErrOf r DuplicateAction → P) × (P → IsErrOf r DuplicateAction)
+pub no_memory : {P : Type 0} (r : Result (Unit {0}) AddFault) → IsErrAnd r (λ fault. fault ≡ OutOfMemory) → ¬ P → (IsErrOf r Taken → P) × (P → IsErrOf r Taken)
 no_memory (Ok x) h absent = absurd h
 no_memory (Err fault) h absent = (λ is. absurd (apart fault h is), λ p. absurd (absent p))
 

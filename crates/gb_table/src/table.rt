@@ -1,0 +1,90 @@
+//! Values by name.
+ghost use Rattle.std.specs.Prelude.{◌≡◌, [], ◌∷◌, ◌++◌, ◌↔◌, None, OnOk, OnErr, IsErrOf, IsSome};
+ghost use Rattle.std.specs.FinMap.Entries.{find};
+ghost use Rattle.std.specs.Option.{option_copied};
+ghost use Rattle.gb_core.specs.Lists.{byte_order};
+
+use gb_core::name::Name;
+use indexmap::IndexMap;
+use std::alloc::{AllocError, AllocFailed, Global};
+use std::marker::Model;
+use thiserror::Error;
+
+/// Why a value was not added.
+#[derive(Clone, Copy, Debug, PartialEq, Eq, Error)]
+pub enum AddFault {
+    /// Another value has the name.
+    #[error("the name is taken")]
+    Taken,
+    #[error("out of memory")]
+    OutOfMemory,
+}
+
+impl From<AllocError> for AddFault {
+    ghost use Rattle.gb_table.specs.declared.table.AddFault.TheVariants.{OutOfMemory};
+
+    ghost from_gives = { λ _ fault. fault ≡ OutOfMemory };
+
+    fn from(_error: AllocError) -> AddFault {
+        AddFault::OutOfMemory
+    }
+}
+
+impl<T: Drop> From<AllocFailed<T>> for AddFault {
+    ghost use Rattle.gb_table.specs.declared.table.AddFault.TheVariants.{OutOfMemory};
+
+    ghost from_gives = { λ _ fault. fault ≡ OutOfMemory };
+
+    fn from(_failed: AllocFailed<T>) -> AddFault {
+        AddFault::OutOfMemory
+    }
+}
+
+/// Values by name, in the order in which they were added.
+#[derive(Drop)]
+pub struct NamedTable<S> {
+    alloc: Global,
+    entries: IndexMap<String, S>,
+}
+
+impl<S> Model for NamedTable<S> {
+    ghost use Rattle.std.specs.Prelude.{List, ℕ, map, string_bytes};
+
+    ghost Value = { List (List ℕ × S) };
+
+    ghost view = { λ t. map (λ e. (string_bytes e.0, e.1)) t.entries.entries };
+}
+
+impl<S: Drop> NamedTable<S> {
+    /// No value yet.
+    pub fn new(alloc: Global) -> NamedTable<S>
+        ensures { result ≡ [] }
+    {
+        NamedTable {
+            alloc,
+            entries: IndexMap::new(alloc),
+        }
+    }
+
+    /// Adds a value under a name that no other has.
+    pub fn add(&mut self, name: &Name, stored: S) -> Result<(), AddFault>
+        ensures ok { OnOk result (self.new ≡ self.old ++ (name.now, stored) ∷ []) }
+        ensures absent { OnOk result (find byte_order name.now self.old ≡ None) }
+        ensures taken { IsErrOf result AddFault.Taken ↔ IsSome (find byte_order name.now self.old) }
+        ensures err { OnErr result (self.new ≡ self.old) }
+    {
+        if self.entries.contains_key(name.as_str()) {
+            return Err(AddFault::Taken);
+        }
+        let key = name.as_str().to_string(self.alloc)?;
+        self.entries.insert(key, stored)?;
+        Ok(())
+    }
+
+    /// The value of the name. Takes no memory.
+    pub fn find(&self, name: &str) -> Option<&S>
+        ensures { option_copied result ≡ find byte_order name.now self.now }
+    {
+        self.entries.get(name)
+    }
+}
