@@ -1,0 +1,2 @@
+mod Descends
+mod Segments

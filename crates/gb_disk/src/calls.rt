@@ -1,0 +1,169 @@
+//! The calls of a folder on a disk, without the count of its failures.
+ghost use Rattle.std.specs.Prelude.{◌≡◌, ◌≢◌, ◌≤◌, ◌<◌, ◌⊎◌, length, Err, IsErrOf, IfOk, IfErr, OnOk, string_bytes};
+ghost use Rattle.std.specs.List.Sorted.{IsStrictlySortedBy};
+ghost use Rattle.gb_core.specs.Lists.{byte_order};
+ghost use Rattle.gb_disk.specs.Disk.{AllUnder, IsOfListing, IsOfMachine, path_in};
+
+use crate::device::Device;
+use crate::names::{alone, in_order};
+use crate::standing::Standing;
+use crate::trail::Trail;
+use crate::walk::Found;
+use gb_core::place::Place;
+use gb_folder::folder::FolderFault;
+use std::alloc::Global;
+use std::fs::Files;
+
+impl<R: Files> Device<R> {
+    /// The places of the files at or beneath the root, in byte order.
+    pub fn list(
+        &self,
+        alloc: Global,
+        trail: &mut Trail,
+        root: &Place,
+    ) -> Result<Vec<Place>, FolderFault>
+        ensures under { IfOk result (λ places. AllUnder root.now places.items) }
+        ensures ordered { IfOk result (λ places. IsStrictlySortedBy byte_order places.items) }
+        ensures err { IfErr result IsOfListing }
+    {
+        trail.forget();
+        let places = match self.look(trail, root)? {
+            Standing::File(_) => alone(alloc, root)?,
+            Standing::Folder => self.walk(alloc, &mut trail.path, root)?.files,
+            Standing::Nothing | Standing::UnderFile => Vec::new(alloc),
+            Standing::Odd => return Err(FolderFault::BadFileName),
+        };
+        Ok(in_order(places))
+    }
+
+    /// The bytes of a file, of which there are at most `limit`.
+    pub fn read(
+        &self,
+        alloc: Global,
+        trail: &mut Trail,
+        place: &Place,
+        limit: u64,
+    ) -> Result<Vec<u8>, FolderFault>
+        ensures at { OnOk result (string_bytes trail.new.path ≡ path_in (string_bytes self.now.base) place.now) }
+        ensures within { IfOk result (λ bytes. length bytes.items ≤ limit) }
+        ensures not_named { result ≢ Err FolderFault.BadFileName }
+    {
+        let len = self.file_len(trail, place)?;
+        if len > limit {
+            return Err(FolderFault::TooLarge);
+        }
+        let most = limit.saturating_add(1);
+        let bytes = self.bytes_of(alloc, &mut trail.path, place, 0, len, most)?;
+        if bytes.len() as u64 > limit {
+            return Err(FolderFault::TooLarge);
+        }
+        Ok(bytes)
+    }
+
+    /// The bytes of a file from `at` on: `len` of them, or fewer where the file ends.
+    pub fn read_part(
+        &self,
+        alloc: Global,
+        trail: &mut Trail,
+        place: &Place,
+        at: u64,
+        len: u64,
+    ) -> Result<Vec<u8>, FolderFault>
+        ensures at { OnOk result (string_bytes trail.new.path ≡ path_in (string_bytes self.now.base) place.now) }
+        ensures within { IfOk result (λ part. length part.items ≤ len) }
+        ensures not_large { result ≢ Err FolderFault.TooLarge }
+        ensures not_named { result ≢ Err FolderFault.BadFileName }
+    {
+        let whole = self.file_len(trail, place)?;
+        if at >= whole {
+            return Ok(Vec::new(alloc));
+        }
+        let expected = (whole - at).min(len);
+        self.bytes_of(alloc, &mut trail.path, place, at, expected, len)
+    }
+
+    /// Puts a file in place of what stood there.
+    pub fn write(
+        &self,
+        trail: &mut Trail,
+        place: &Place,
+        bytes: &[u8],
+        limit: u64,
+    ) -> Result<(), FolderFault>
+        ensures at { OnOk result (string_bytes trail.new.path ≡ path_in (string_bytes self.now.base) place.now) }
+        ensures within { OnOk result (length bytes.now ≤ limit) }
+        ensures large { IsErrOf result FolderFault.TooLarge → limit < length bytes.now }
+        ensures not_missing { result ≢ Err FolderFault.Missing }
+        ensures not_named { result ≢ Err FolderFault.BadFileName }
+    {
+        if bytes.len() as u64 > limit {
+            return Err(FolderFault::TooLarge);
+        }
+        match self.go_to(&mut trail.path, place, true)? {
+            Standing::Nothing => {}
+            Standing::File(_) => self.unlink(&mut trail.path, place)?,
+            Standing::Folder => self.clear(trail, place)?,
+            Standing::Odd => return Err(FolderFault::Device),
+            Standing::UnderFile => return Err(FolderFault::Blocked),
+        }
+        self.put(&mut trail.path, place, bytes)
+    }
+
+    /// Takes a file away.
+    pub fn remove(&self, trail: &mut Trail, place: &Place) -> Result<(), FolderFault>
+        ensures at { OnOk result (string_bytes trail.new.path ≡ path_in (string_bytes self.now.base) place.now) }
+        ensures not_large { result ≢ Err FolderFault.TooLarge }
+        ensures not_named { result ≢ Err FolderFault.BadFileName }
+    {
+        self.file_len(trail, place)?;
+        self.unlink(&mut trail.path, place)
+    }
+
+    /// The length of the file at a place, or why none stands there.
+    fn file_len(&self, trail: &mut Trail, place: &Place) -> Result<u64, FolderFault>
+        ensures at { OnOk result (string_bytes trail.new.path ≡ path_in (string_bytes self.now.base) place.now) }
+        ensures err { IfErr result
+            (λ fault. IsOfMachine fault ⊎ (fault ≡ FolderFault.Missing) ⊎ (fault ≡ FolderFault.Blocked)) }
+    {
+        match self.look(trail, place)? {
+            Standing::File(len) => Ok(len),
+            Standing::Folder if self.has_file(trail, place)? => Err(FolderFault::Blocked),
+            Standing::Folder | Standing::Nothing => Err(FolderFault::Missing),
+            Standing::Odd => Err(FolderFault::Device),
+            Standing::UnderFile => Err(FolderFault::Blocked),
+        }
+    }
+
+    /// Whether a file stands beneath the folder at a place.
+    fn has_file(&self, trail: &mut Trail, place: &Place) -> Result<bool, FolderFault>
+        ensures { IfErr result IsOfMachine }
+    {
+        Ok(!self.walk_through(trail, place)?.files.is_empty())
+    }
+
+    /// Removes the folder at a place, which holds no file.
+    fn clear(&self, trail: &mut Trail, place: &Place) -> Result<(), FolderFault>
+        ensures { IfErr result (λ fault. IsOfMachine fault ⊎ (fault ≡ FolderFault.Blocked)) }
+    {
+        let found = self.walk_through(trail, place)?;
+        if !found.files.is_empty() {
+            return Err(FolderFault::Blocked);
+        }
+        trail.forget();
+        for folder in found.folders.iter().rev() {
+            self.remove_folder(&mut trail.path, folder)?;
+        }
+        Ok(())
+    }
+
+    /// Goes through a folder of which no name is told: a bad one is the device's failure.
+    fn walk_through(&self, trail: &mut Trail, place: &Place) -> Result<Found, FolderFault>
+        ensures { IfErr result IsOfMachine }
+    {
+        match self.walk(self.allocator(), &mut trail.path, place) {
+            Err(FolderFault::OutOfMemory) => Err(FolderFault::OutOfMemory),
+            Err(_) => Err(FolderFault::Device),
+            found => found,
+        }
+    }
+}

@@ -1,0 +1,28 @@
+//! A folder on a disk.
+//!
+//! | At the place | `list` | `read`, `read_part` | `write` | `remove` |
+//! |---|---|---|---|---|
+//! | a file | it | its bytes | it is unlinked and made anew | it is unlinked |
+//! | a folder with a file beneath | the files | 12 | 12 | 12 |
+//! | a tree of folders without a file | none | 11 | the folders give way | 11 |
+//! | nothing | none | 11 | folders above it are made | 11 |
+//! | a link, a pipe, a socket or a device, there or at a folder of it | 14 | 10 | 10 | 10 |
+//! | a file at a folder of it | none | 12 | 12 | 12 |
+//! | beneath it a name that is no part of a place | 14 | 10 | 10 | 10 |
+//! | no permission, a full disk, an error | 10 | 10 | 10 | 10 |
+//!
+//! Each segment of a place is looked at before anything is opened, so that no link is followed out of the folder and
+//! no pipe is waited for. A file that stood is unlinked first, so that another name of it keeps its bytes; a write
+//! that the device stops leaves some of the new bytes or no file.
+#![tactic(auto)]
+
+mod calls;
+mod device;
+pub mod disk;
+mod names;
+mod path;
+mod standing;
+#[cfg(test)]
+mod tests;
+mod trail;
+mod walk;

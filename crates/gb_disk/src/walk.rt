@@ -1,0 +1,138 @@
+//! What stands beneath a folder.
+ghost use Rattle.std.specs.Prelude.{◌≡◌, ℕ, List, IsTrue, IfOk, IfErr};
+ghost use Rattle.gb_core.specs.Place.{is_under};
+ghost use Rattle.gb_disk.specs.Disk.{AllUnder, IsOfListing};
+
+use crate::device::Device;
+use crate::names::{alone, places_in};
+use crate::standing::{Standing, fault_of};
+use gb_core::place::Place;
+use gb_folder::folder::FolderFault;
+use std::alloc::{AllocError, Global};
+use std::fs::Files;
+use std::io::{ErrorKind, Read};
+
+/// A walk that meets more entries is a failure of the device.
+const MOST_ENTRIES: u64 = 1 << 32;
+
+/// The bytes of names that are read at once.
+const NAMES: usize = 32_768;
+
+/// What a walk beneath a root has met.
+#[derive(Drop)]
+pub(crate) struct Found {
+    pub files: Vec<Place>,
+    /// The root and the folders beneath it, each behind the one that it stands in.
+    pub folders: Vec<Place>,
+    /// How many more entries may be met.
+    left: u64,
+}
+
+impl Found {
+    fn new(alloc: Global, root: &Place) -> Result<Found, AllocError>
+        ensures files { IfOk result (λ found. AllUnder root.now found.files.items) }
+        ensures folders { IfOk result (λ found. AllUnder root.now found.folders.items) }
+    {
+        Ok(Found {
+            files: Vec::new(alloc),
+            folders: alone(alloc, root)?,
+            left: MOST_ENTRIES,
+        })
+    }
+
+    /// Adds what stands at a place.
+    fn add(&mut self, place: Place, standing: Standing) -> Result<(), FolderFault>
+        ensures files { (root : List ℕ) → IsTrue (is_under place root)
+            → AllUnder root self.old.files.items → AllUnder root self.new.files.items }
+        ensures folders { (root : List ℕ) → IsTrue (is_under place root)
+            → AllUnder root self.old.folders.items → AllUnder root self.new.folders.items }
+        ensures err { IfErr result IsOfListing }
+    {
+        match self.left.checked_sub(1) {
+            Some(left) => self.left = left,
+            None => return Err(FolderFault::Device),
+        }
+        match standing {
+            Standing::File(_) => Ok(self.files.push(place)?),
+            Standing::Folder => Ok(self.folders.push(place)?),
+            Standing::Odd => Err(FolderFault::BadFileName),
+            // It went while its folder was listed.
+            Standing::Nothing | Standing::UnderFile => Err(FolderFault::Device),
+        }
+    }
+}
+
+impl<R: Files> Device<R> {
+    /// Goes through the folder at a root.
+    pub fn walk(&self, alloc: Global, path: &mut String, root: &Place) -> Result<Found, FolderFault>
+        ensures under { IfOk result (λ found. AllUnder root.now found.files.items) }
+        ensures err { IfErr result IsOfListing }
+    {
+        let mut names = vec![in alloc; 0u8; NAMES]?;
+        let mut found = Found::new(alloc, root)?;
+        for index in 0..=MOST_ENTRIES as usize {
+            let folder = match found.folders.as_slice().get(index) {
+                Some(folder) => folder.copy()?,
+                None => return Ok(found),
+            };
+            self.enter(alloc, path, root, &folder, names.as_mut_slice(), &mut found)?;
+        }
+        Err(FolderFault::Device)
+    }
+
+    /// Meets what stands in a folder.
+    fn enter(
+        &self,
+        alloc: Global,
+        path: &mut String,
+        root: &Place,
+        folder: &Place,
+        names: &mut [u8],
+        found: &mut Found,
+    ) -> Result<(), FolderFault>
+        requires folder { IsTrue (is_under folder.now root.now) }
+        requires files { AllUnder root.now found.old.files.items }
+        requires folders { AllUnder root.now found.old.folders.items }
+        ensures files { AllUnder root.now found.new.files.items }
+        ensures folders { AllUnder root.now found.new.folders.items }
+        ensures err { IfErr result IsOfListing }
+    {
+        let mut dir = self.open_folder(path, folder)?;
+        for _ in 0..u64::MAX {
+            match dir.read(names) {
+                Ok(0) => return Ok(()),
+                Ok(read) => self.meet(
+                    path,
+                    root,
+                    places_in(alloc, folder, &names[..read])?,
+                    found,
+                )?,
+                Err(error) if error.kind() == ErrorKind::Interrupted => {}
+                Err(error) => return Err(fault_of(&error)),
+            }
+        }
+        Err(FolderFault::Device)
+    }
+
+    /// Meets what stands at the places.
+    fn meet(
+        &self,
+        path: &mut String,
+        root: &Place,
+        places: Vec<Place>,
+        found: &mut Found,
+    ) -> Result<(), FolderFault>
+        requires places { AllUnder root.now places.items }
+        requires files { AllUnder root.now found.old.files.items }
+        requires folders { AllUnder root.now found.old.folders.items }
+        ensures files { AllUnder root.now found.new.files.items }
+        ensures folders { AllUnder root.now found.new.folders.items }
+        ensures err { IfErr result IsOfListing }
+    {
+        for place in places {
+            let standing = self.look_at(path, &place)?;
+            found.add(place, standing)?;
+        }
+        Ok(())
+    }
+}
