@@ -13,11 +13,8 @@ use gb_folder::folder::{Folder, FolderFault};
 use gb_project::plain::{Script, read_plain};
 use gb_report::fault::Fault;
 use gb_script::fault::ScriptFault;
-use gb_script::{read_script, script};
+use gb_script::{MAX_SCRIPT, read_script, script};
 use std::alloc::Global;
-
-/// The most bytes of a script: 1 MiB.
-const MAX_SCRIPT: u64 = 1_048_576;
 
 /// Reads the script of the folder. Where there is none it is empty; where it says more than builds know so
 /// far it is refused at its last line (20).
@@ -33,7 +30,7 @@ pub fn read_build_script<F: Folder>(alloc: Global, folder: &mut F) -> Result<Scr
         ⊎ ScriptSays (F.contents folder.old).files (Err fault)) }
 {
     let place = good_place(alloc, "build.gb")?;
-    match folder.read(alloc, &place, MAX_SCRIPT) {
+    match folder.read(alloc, &place, MAX_SCRIPT as u64) {
         Ok(bytes) => spelled(alloc, bytes.as_slice(), place),
         Err(FolderFault::Missing) => Ok(Script::new(Vec::new(alloc))),
         Err(FolderFault::TooLarge) => Err(Fault::TooLong(place)),

@@ -8,8 +8,8 @@
 //! never say two things (`laws`).
 //!
 //! Two phases: `lexing` cuts the text into tokens with their lines; `reading`, `values`, `clauses` and
-//! `statements` have a function for each part of the notation. Set aside: tokens that borrow from the text, since contracts would then speak
-//! of where they lie; reading characters without tokens, since a fault is told by its token; going on
+//! `statements` have a function for each part of the notation. Set aside: tokens that borrow from the text,
+//! since contracts would then speak of where they lie; reading characters without tokens, since a fault is told by its token; going on
 //! after a fault, since only the first one counts.
 #![tactic(auto)]
 
@@ -28,7 +28,7 @@ mod token;
 mod values;
 mod words;
 
-pub use source::{read_script, read_settings};
+pub use source::{MAX_SCRIPT, read_script, read_settings};
 
 #[cfg(test)]
 mod tests;

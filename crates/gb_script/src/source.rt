@@ -16,7 +16,7 @@ use crate::stop::{Fault, Stop};
 use std::alloc::Global;
 
 /// The most bytes that a text may have: 1 MiB.
-const MAX_BYTES: usize = 1_048_576;
+pub const MAX_SCRIPT: usize = 1_048_576;
 
 /// The text that the bytes are.
 fn text_of(bytes: &[u8]) -> Result<&str, ScriptFault>
@@ -25,7 +25,7 @@ fn text_of(bytes: &[u8]) -> Result<&str, ScriptFault>
     ensures utf8 { IfOk result (λ text. IsUtf8 bytes.now) }
     ensures fault { IfErr result (IsTextFault bytes.now) }
 {
-    if bytes.len() > MAX_BYTES {
+    if bytes.len() > MAX_SCRIPT {
         return Err(ScriptFault::TooLong);
     }
     std::str::from_utf8(bytes).map_err(|_| ScriptFault::NotUtf8)
