@@ -2,7 +2,7 @@
 ghost use Rattle.std.specs.Prelude.{◌≤◌, IsTrue};
 ghost use Rattle.gb_folder.specs.Files.{SameTearing, is_own};
 ghost use Rattle.gb_store.specs.Changes.{ChangesOnly, is_at};
-ghost use Rattle.gb_store.specs.Faults.{Blames};
+ghost use Rattle.gb_store.specs.Faults.{Blames, BlamesOnly};
 ghost use Rattle.gb_build.specs.Edits.{LostStep, PutStep, RemoveStep};
 
 use crate::script::good_place;
@@ -21,6 +21,7 @@ use std::alloc::Global;
 pub fn put<F: Folder>(folder: &mut F, place: &Place, bytes: &Bytes) -> Result<(), Fault>
     ensures count { F.failures folder.old ≤ F.failures folder.new }
     ensures blame { Blames result (F.failures folder.old) (F.failures folder.new) }
+    ensures blamed { BlamesOnly (is_at place.now) result }
     ensures tearing { SameTearing (F.may_leave folder.old) (F.may_leave folder.new) }
     ensures step { IsTrue F.tells → PutStep (F.may_leave folder.old) place.now bytes.now
         (F.failures folder.old) (F.contents folder.old)
@@ -43,6 +44,7 @@ pub fn put<F: Folder>(folder: &mut F, place: &Place, bytes: &Bytes) -> Result<()
 pub fn remove<F: Folder>(folder: &mut F, place: &Place) -> Result<(), Fault>
     ensures count { F.failures folder.old ≤ F.failures folder.new }
     ensures blame { Blames result (F.failures folder.old) (F.failures folder.new) }
+    ensures blamed { BlamesOnly (is_at place.now) result }
     ensures tearing { SameTearing (F.may_leave folder.old) (F.may_leave folder.new) }
     ensures step { IsTrue F.tells → RemoveStep (F.may_leave folder.old) place.now
         (F.failures folder.old) (F.contents folder.old)
@@ -64,6 +66,7 @@ pub fn remove<F: Folder>(folder: &mut F, place: &Place) -> Result<(), Fault>
 pub fn lose<F: Folder>(alloc: Global, folder: &mut F) -> Result<(), Fault>
     ensures count { F.failures folder.old ≤ F.failures folder.new }
     ensures blame { Blames result (F.failures folder.old) (F.failures folder.new) }
+    ensures blamed { BlamesOnly is_own result }
     ensures tearing { SameTearing (F.may_leave folder.old) (F.may_leave folder.new) }
     ensures step { IsTrue F.tells → LostStep (F.may_leave folder.old)
         (F.failures folder.old) (F.contents folder.old)

@@ -1,9 +1,13 @@
 use Rattle.std.proofs.Common.{◌≡◌, ℕ, List, true, Err, ap, sym, subst, ◌∙◌, inl}
 use Rattle.std.proofs.lemmas.Result.{err_from_is_err_and}
-use Rattle.std.specs.List.{AllByRecursion}
+use Rattle.std.specs.List.{AllByRecursion, list_all}
+use Rattle.std.specs.Prelude.{bytes_eq, ◌||◌}
+use Rattle.std.proofs.lemmas.List.Sums.{list_all-from_AllPass}
+use Rattle.gb_core.specs.Place.{is_beneath, is_under}
+use Rattle.gb_store.specs.Changes.{is_at}
 use Rattle.gb_folder.specs.Files.{is_own, places_under}
 use Rattle.gb_store.proofs.Emptied.{all_under}
-use Rattle.gb_store.proofs.Machine.{at_err, changes_chain, changes_none}
+use Rattle.gb_store.proofs.Machine.{among_all, handed_on, at_err, changes_chain, changes_none}
 use Rattle.gb_build.specs.Edits.{LostStep, own_place}
 use Rattle.gb_build.proofs.Editing.{lost_from, not_listed}
 use Rattle.gb_build.proofs.edits.lose.Goals as goal
@@ -33,3 +37,19 @@ returns-clause-elsewhere g c = λ tells.
     let listed : c.as_slice.result.now ≡ places_under old.files own_place = c.as_slice.ensures.value ∙ c.in_ok-places.ensures.listed tells ∙ ap (places_under old.files) c.in_ok-own.ensures in
     changes_chain is_own _ _ _ (changes_none is_own old (contents c.listed_at.new.folder) (c.listed_at.ensures.same tells))
     (c.remove_all.ensures.changes tells is_own (subst (λ (places : List (List ℕ)). AllByRecursion (λ place. is_own place ≡ true) places) (sym listed) (all_under old.files own_place)))
+
+-- the tool's own folder is its own
+own_is : (place own : List ℕ) → own ≡ own_place → is_at own place ≡ true → is_own place ≡ true
+own_is place own is at = ap (λ b. b || is_beneath place own_place) (ap (bytes_eq place) (sym is) ∙ at)
+
+pub returns-in_err-places-clause-blamed : goal.returns-in_err-places-clause-blamed
+returns-in_err-places-clause-blamed g c = λ place device.
+    let p = err_from_is_err_and c.from_residual-in_err-places.result c.from_residual-in_err-places.ensures.1 in
+    own_is place c.in_ok-own.own c.in_ok-own.ensures
+    (c.listed_at.ensures.blamed place (handed_on c.from_residual-in_err-places.result c.listed_at.result p.0 c.in_err-places.field-0.0 place p.1 p.2 c.in_err-places.was device))
+
+pub returns-clause-blamed : goal.returns-clause-blamed
+returns-clause-blamed g c = λ place device.
+    let under = list_all-from_AllPass (λ at. is_under at c.in_ok-own.own) c.in_ok-places.places.items c.in_ok-places.ensures.under in
+    let listed : list_all is_own c.as_slice.result.now ≡ true = ap (list_all is_own) c.as_slice.ensures.value ∙ subst (λ (own : List ℕ). list_all (λ at. is_under at own) c.in_ok-places.places.items ≡ true) c.in_ok-own.ensures under in
+    among_all is_own c.as_slice.result.now place listed (c.remove_all.ensures.blamed place device)
