@@ -1,9 +1,9 @@
 -- An expression that was not read is changed: what is known stays right.
-use Rattle.std.proofs.Common.{◌≡◌, ◌≢◌, ℕ, zero, suc, ◌≤◌, List, length, set, refl, sym, ap, subst, ◌∙◌, arith, length-set}
+use Rattle.std.proofs.Common.{◌≡◌, ◌≢◌, ℕ, zero, suc, List, length, set, refl, sym, ap, subst, ◌∙◌, arith, length-set}
 use Rattle.std.proofs.lemmas.List.{length-map}
 use Rattle.std.proofs.lemmas.Option.{slice_get-map}
-use Rattle.std.specs.Prelude.{Option, Some, None, Ok, ◌⊎◌, slice_get, option_map}
-use Rattle.std.proofs.Common.{[], inl, inr}
+use Rattle.std.specs.Prelude.{Option, Some, None, Ok, slice_get, option_map}
+use Rattle.std.proofs.Common.{inl, inr}
 use Rattle.gb_provider.specs.declared.fault.Chosen.{Chosen}
 use Rattle.gb_provider.specs.declared.change.Change.{Change}
 use Rattle.gb_provider.specs.declared.expression.Expression.{Expression}

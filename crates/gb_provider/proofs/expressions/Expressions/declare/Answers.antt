@@ -1,4 +1,4 @@
-use Rattle.std.proofs.Common.{◌≡◌, ◌<◌, ◌∙◌, Some, ap, length, set, subst, sym}
+use Rattle.std.proofs.Common.{◌<◌, ◌∙◌, Some, ap, length, set, subst, sym}
 use Rattle.gb_provider.specs.declared.expression.Expression.TheVariants.{OfOutput}
 use Rattle.gb_provider.specs.Rules.{output_place}
 use Rattle.gb_provider.proofs.IndexLemmas.{node_declared, places_declared}

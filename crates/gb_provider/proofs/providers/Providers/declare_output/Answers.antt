@@ -1,4 +1,4 @@
-use Rattle.std.proofs.Common.{◌≡◌, ◌<◌, Some, length, subst, sym}
+use Rattle.std.proofs.Common.{◌<◌, Some, length, subst, sym}
 use Rattle.gb_provider.specs.declared.expression.Expression.TheVariants.{OfOutput}
 use Rattle.gb_provider.specs.declared.fault.Chosen.{Chosen}
 use Rattle.gb_provider.specs.Answers.{Held}
