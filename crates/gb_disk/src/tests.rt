@@ -1,313 +1,331 @@
-//! A folder on a disk, beneath the folder that the tests run in.
+//! The same calls of folders on a disk, in memory and of those that fail.
 use crate::disk::DiskFolder;
 use crate::names::places_in;
 use gb_core::place::Place;
+use gb_folder::faulty::{FaultMode, FaultyFolder};
 use gb_folder::folder::{Folder, FolderFault};
+use gb_folder::memory::MemoryFolder;
 use std::alloc::Global;
 use std::fs;
 use std::os::unix::fs::symlink;
 use std::test::Fail;
 
-/// A new folder of this name.
-fn new_folder<'a>(rt: &'a HostRuntime, name: &str) -> Result<DiskFolder<&'a HostRuntime>, Fail> {
-    if fs::exists(rt, name)? {
-        fs::remove_dir_all(rt, name)?;
-    }
-    fs::create_dir(rt, name)?;
-    Ok(DiskFolder::new(rt, String::from_str(rt.alloc(), name)?))
-}
-
-/// The number of a fault, or 0.
-fn number(fault: Option<FolderFault>) -> u16 {
-    match fault {
-        Some(fault) => fault.number(),
-        None => 0,
-    }
-}
-
-/// The places listed under a root, with a space behind each, or the number of the fault.
-fn listed(
-    rt: &HostRuntime,
-    folder: &mut DiskFolder<&HostRuntime>,
-    root: &str,
-) -> Result<String, Fail> {
-    let alloc = rt.alloc();
-    let root = Place::read(alloc, root)?;
-    match folder.list(alloc, &root) {
-        Ok(places) => told(alloc, places.as_slice()),
-        Err(fault) => Ok(format!(in alloc; "{}", fault.number())?),
-    }
-}
-
-fn told(alloc: Global, places: &[Place]) -> Result<String, Fail> {
-    let mut text = String::new(alloc);
+/// The places, with a space behind each.
+fn told(alloc: Global, places: &[Place]) -> Result<Vec<u8>, FolderFault> {
+    let mut text = Vec::new(alloc);
     for place in places.iter() {
-        text.push_str(place.as_str())?;
-        text.push(' ')?;
+        text.extend_from_slice(place.as_str().as_bytes())?;
+        text.push(b' ')?;
     }
     Ok(text)
 }
 
-/// What a read of at most one byte answers.
-fn read(rt: &HostRuntime, folder: &mut DiskFolder<&HostRuntime>, place: &str) -> Result<u16, Fail> {
-    let place = Place::read(rt.alloc(), place)?;
-    Ok(number(folder.read(rt.alloc(), &place, 1).err()))
+/// What a folder answers to one call. Bytes are written from `hello`.
+fn answer<F: Folder>(
+    alloc: Global,
+    folder: &mut F,
+    call: &str,
+    place: &Place,
+) -> Result<Vec<u8>, FolderFault> {
+    match call {
+        "list" => told(alloc, folder.list(alloc, place)?.as_slice()),
+        "read" => folder.read(alloc, place, 5),
+        "read4" => folder.read(alloc, place, 4),
+        "part" => folder.read_part(alloc, place, 3, 9),
+        "far" => folder.read_part(alloc, place, u64::MAX, u64::MAX),
+        "write" => wrote(alloc, folder.write(place, b"hello", 5)),
+        "write4" => wrote(alloc, folder.write(place, b"hello", 4)),
+        _ => wrote(alloc, folder.remove(place)),
+    }
 }
 
-/// The bytes of a part of a file.
-fn part(
-    rt: &HostRuntime,
-    folder: &mut DiskFolder<&HostRuntime>,
+fn wrote(alloc: Global, outcome: Result<(), FolderFault>) -> Result<Vec<u8>, FolderFault> {
+    match outcome {
+        Ok(()) => Ok(b"ok".to_vec(alloc)?),
+        Err(fault) => Err(fault),
+    }
+}
+
+/// What a folder answers to calls, each a word and a place: bytes, or the number of a fault.
+fn answers<F: Folder>(alloc: Global, folder: &mut F, calls: &str) -> Result<String, Fail> {
+    let mut all = Vec::new(alloc);
+    for call in calls.split(';') {
+        let (call, place) = call.split_once(' ').unwrap_or((call, "a"));
+        let place = Place::read(alloc, place)?;
+        match answer(alloc, folder, call, &place) {
+            Ok(bytes) => all.extend_from_slice(bytes.as_slice())?,
+            Err(fault) => all.extend_from_slice(format!(in alloc;
+                "{}",
+                fault.number()
+            )?.as_bytes())?,
+        }
+        all.push(b';')?;
+    }
+    Ok(String::from_utf8(all)?)
+}
+
+/// What the folder at a path answers.
+fn at_path(rt: &HostRuntime, path: &str, calls: &str) -> Result<String, Fail> {
+    let mut folder = DiskFolder::new(rt, String::from_str(rt.alloc(), path)?);
+    answers(rt.alloc(), &mut folder, calls)
+}
+
+/// What the folder of this name answers, which is then taken away.
+fn on_disk(rt: &HostRuntime, name: &str, calls: &str) -> Result<String, Fail> {
+    let all = at_path(rt, name, calls)?;
+    fs::remove_dir_all(rt, name)?;
+    Ok(all)
+}
+
+/// What an empty folder in memory answers.
+fn in_memory(alloc: Global, calls: &str) -> Result<String, Fail> {
+    answers(alloc, &mut MemoryFolder::new(alloc), calls)
+}
+
+/// What a new folder of this name answers.
+fn on_new(rt: &HostRuntime, name: &str, calls: &str) -> Result<String, Fail> {
+    renew(rt, name)?;
+    on_disk(rt, name, calls)
+}
+
+/// What a folder in memory answers whose device fails at a call, and then what it left.
+fn on_failing(
+    alloc: Global,
     at: u64,
-    len: u64,
-) -> Result<Vec<u8>, Fail> {
-    let place = Place::read(rt.alloc(), "d/a")?;
-    Ok(folder.read_part(rt.alloc(), &place, at, len)?)
+    mode: FaultMode,
+    calls: &str,
+    calls_after: &str,
+) -> Result<String, Fail> {
+    let mut folder = FaultyFolder::new(MemoryFolder::new(alloc), at, mode);
+    let mut all = answers(alloc, &mut folder, calls)?;
+    all.push_str(answers(alloc, &mut folder.into_inner(), calls_after)?.as_str())?;
+    Ok(all)
 }
 
-/// What a write of one byte answers.
-fn write(
-    rt: &HostRuntime,
-    folder: &mut DiskFolder<&HostRuntime>,
-    place: &str,
-) -> Result<u16, Fail> {
-    let place = Place::read(rt.alloc(), place)?;
-    Ok(number(folder.write(&place, b"1", 1).err()))
-}
-
-fn remove(
-    rt: &HostRuntime,
-    folder: &mut DiskFolder<&HostRuntime>,
-    place: &str,
-) -> Result<u16, Fail> {
-    let place = Place::read(rt.alloc(), place)?;
-    Ok(number(folder.remove(&place).err()))
+/// Makes an empty folder of this name.
+fn renew(rt: &HostRuntime, name: &str) -> Result<(), Fail> {
+    if fs::exists(rt, name)? {
+        fs::remove_dir_all(rt, name)?;
+    }
+    Ok(fs::create_dir(rt, name)?)
 }
 
 #[test]
-fn reads_one_file(rt: HostRuntime) -> Result<(), Fail> {
-    let mut folder = new_folder(&rt, "reads_one_file")?;
-    assert_eq!(rt; write(&rt, &mut folder, "a")?, 0);
-    assert_eq!(rt; read(&rt, &mut folder, "a")?, 0);
-    assert_eq!(rt; read(&rt, &mut folder, "b")?, 11);
-    assert_eq!(rt; read(&rt, &mut folder, "a/b")?, 12);
-    fs::write(&rt, "reads_one_file/a", "12")?;
-    assert_eq!(rt; read(&rt, &mut folder, "a")?, 13);
-    fs::remove_dir_all(&rt, "reads_one_file")?;
+fn reads(rt: HostRuntime) -> Result<(), Fail> {
+    let calls = "read a;write a;read a;read4 a;read a/b;read b;part a;far a;part b;part a/b";
+    let want = "11;ok;hello;13;12;11;lo;;11;12;";
+    assert_eq!(rt; in_memory(rt.alloc(), calls)?.as_str(), want);
+    assert_eq!(rt; on_new(&rt, "reads", calls)?.as_str(), want);
     Ok(())
 }
 
 #[test]
-fn reads_parts(rt: HostRuntime) -> Result<(), Fail> {
-    let mut folder = new_folder(&rt, "reads_parts")?;
-    fs::create_dir(&rt, "reads_parts/d")?;
-    fs::write(&rt, "reads_parts/d/a", "hello")?;
-    assert_eq!(rt; part(&rt, &mut folder, 0, 2)?.as_slice(), b"he".as_slice());
-    assert_eq!(rt; part(&rt, &mut folder, 4, 2)?.as_slice(), b"o".as_slice());
-    assert_eq!(rt; part(&rt, &mut folder, 5, 2)?.as_slice(), b"".as_slice());
-    assert_eq!(rt;
-        part(&rt, &mut folder, 0, u64::MAX)?.as_slice(),
-        b"hello".as_slice()
-    );
-    assert_eq!(rt;
-        part(&rt, &mut folder, u64::MAX, u64::MAX)?.as_slice(),
-        b"".as_slice()
-    );
-    fs::remove_dir_all(&rt, "reads_parts")?;
+fn writes(rt: HostRuntime) -> Result<(), Fail> {
+    let calls =
+        "write a;write src/b;write a/b;write a/b/c;write src;write4 c;write srcx;write a;read c";
+    let want = "ok;ok;12;12;12;13;ok;ok;11;";
+    assert_eq!(rt; in_memory(rt.alloc(), calls)?.as_str(), want);
+    assert_eq!(rt; on_new(&rt, "writes", calls)?.as_str(), want);
     Ok(())
 }
 
 #[test]
-fn refuses_writes(rt: HostRuntime) -> Result<(), Fail> {
-    let mut folder = new_folder(&rt, "refuses_writes")?;
-    assert_eq!(rt; write(&rt, &mut folder, "a")?, 0);
-    assert_eq!(rt; write(&rt, &mut folder, "src/b")?, 0);
-    assert_eq!(rt; write(&rt, &mut folder, "a/b")?, 12);
-    assert_eq!(rt; write(&rt, &mut folder, "a/b/c")?, 12);
-    assert_eq!(rt; write(&rt, &mut folder, "src")?, 12);
-    assert_eq!(rt; write(&rt, &mut folder, "srcx")?, 0);
-    assert_eq!(rt; write(&rt, &mut folder, "a")?, 0);
-    fs::remove_dir_all(&rt, "refuses_writes")?;
-    Ok(())
-}
-
-#[test]
-fn removes_files(rt: HostRuntime) -> Result<(), Fail> {
-    let mut folder = new_folder(&rt, "removes_files")?;
-    assert_eq!(rt; write(&rt, &mut folder, "src/b")?, 0);
-    assert_eq!(rt; remove(&rt, &mut folder, "b")?, 11);
-    assert_eq!(rt; remove(&rt, &mut folder, "src")?, 12);
-    assert_eq!(rt; remove(&rt, &mut folder, "src/b")?, 0);
-    assert_eq!(rt; remove(&rt, &mut folder, "src/b")?, 11);
-    assert_eq!(rt; remove(&rt, &mut folder, "src")?, 11);
-    fs::remove_dir_all(&rt, "removes_files")?;
+fn removes(rt: HostRuntime) -> Result<(), Fail> {
+    let calls =
+        "write src/b;remove b;remove src;remove src/b/c;remove src/b;remove src/b;remove src;write src;list src";
+    let want = "ok;11;12;12;ok;11;11;ok;src ;";
+    assert_eq!(rt; in_memory(rt.alloc(), calls)?.as_str(), want);
+    assert_eq!(rt; on_new(&rt, "removes", calls)?.as_str(), want);
     Ok(())
 }
 
 #[test]
 fn lists_in_byte_order(rt: HostRuntime) -> Result<(), Fail> {
-    let mut folder = new_folder(&rt, "lists_in_byte_order")?;
-    assert_eq!(rt; write(&rt, &mut folder, "o/a/b")?, 0);
-    assert_eq!(rt; write(&rt, &mut folder, "ox")?, 0);
-    assert_eq!(rt; write(&rt, &mut folder, "o/a.c")?, 0);
-    assert_eq!(rt; write(&rt, &mut folder, "o/a-b")?, 0);
-    assert_eq!(rt;
-        listed(&rt, &mut folder, "o")?.as_str(),
-        "o/a-b o/a.c o/a/b "
-    );
-    assert_eq!(rt; listed(&rt, &mut folder, "o/a")?.as_str(), "o/a/b ");
-    assert_eq!(rt; listed(&rt, &mut folder, "ox")?.as_str(), "ox ");
-    assert_eq!(rt; listed(&rt, &mut folder, "q")?.as_str(), "");
-    assert_eq!(rt; listed(&rt, &mut folder, "ox/q")?.as_str(), "");
-    fs::remove_dir_all(&rt, "lists_in_byte_order")?;
+    let calls =
+        "write o/a/b;write ox;write o/a.c;write o/a-b;list o;list o/a;list ox;list q;list ox/q";
+    let want = "ok;ok;ok;ok;o/a-b o/a.c o/a/b ;o/a/b ;ox ;;;";
+    assert_eq!(rt; in_memory(rt.alloc(), calls)?.as_str(), want);
+    assert_eq!(rt; on_new(&rt, "lists_in_byte_order", calls)?.as_str(), want);
     Ok(())
 }
 
 #[test]
 fn folders_without_files_give_way(rt: HostRuntime) -> Result<(), Fail> {
-    let mut folder = new_folder(&rt, "give_way")?;
+    renew(&rt, "give_way")?;
     fs::create_dir_all(&rt, "give_way/e/f/g")?;
-    fs::create_dir_all(&rt, "give_way/e/h")?;
-    assert_eq!(rt; listed(&rt, &mut folder, "e")?.as_str(), "");
-    assert_eq!(rt; read(&rt, &mut folder, "e")?, 11);
-    assert_eq!(rt; remove(&rt, &mut folder, "e")?, 11);
-    assert_eq!(rt; write(&rt, &mut folder, "e")?, 0);
-    assert_eq!(rt; listed(&rt, &mut folder, "e")?.as_str(), "e ");
-    fs::remove_dir_all(&rt, "give_way")?;
+    fs::create_dir(&rt, "give_way/e/h")?;
+    let calls = "list e;read e;remove e;write e;list e;read e";
+    assert_eq!(rt;
+        on_disk(&rt, "give_way", calls)?.as_str(),
+        ";11;11;ok;e ;hello;"
+    );
     Ok(())
 }
 
 #[test]
 fn follows_no_link_at_the_place(rt: HostRuntime) -> Result<(), Fail> {
-    let mut folder = new_folder(&rt, "link_at")?;
-    assert_eq!(rt; write(&rt, &mut folder, "real/a")?, 0);
-    symlink(&rt, "real/a", "link_at/l")?;
-    assert_eq!(rt; listed(&rt, &mut folder, "l")?.as_str(), "14");
-    assert_eq!(rt; read(&rt, &mut folder, "l")?, 10);
-    assert_eq!(rt; write(&rt, &mut folder, "l")?, 10);
-    assert_eq!(rt; remove(&rt, &mut folder, "l")?, 10);
-    assert_eq!(rt; read(&rt, &mut folder, "real/a")?, 0);
-    fs::remove_dir_all(&rt, "link_at")?;
+    renew(&rt, "link_at")?;
+    fs::write(&rt, "link_at/a", "1")?;
+    symlink(&rt, "a", "link_at/l")?;
+    let calls = "list l;read l;part l;write l;remove l;read a";
+    assert_eq!(rt;
+        on_disk(&rt, "link_at", calls)?.as_str(),
+        "14;10;10;10;10;1;"
+    );
     Ok(())
 }
 
 #[test]
 fn follows_no_link_above_the_place(rt: HostRuntime) -> Result<(), Fail> {
-    let mut folder = new_folder(&rt, "link_above")?;
-    assert_eq!(rt; write(&rt, &mut folder, "real/d/a")?, 0);
+    renew(&rt, "link_above")?;
+    fs::create_dir_all(&rt, "link_above/real/d")?;
+    fs::write(&rt, "link_above/real/d/a", "1")?;
     symlink(&rt, "real", "link_above/l")?;
-    assert_eq!(rt; listed(&rt, &mut folder, "l/d")?.as_str(), "14");
-    assert_eq!(rt; read(&rt, &mut folder, "l/d/a")?, 10);
-    assert_eq!(rt; write(&rt, &mut folder, "l/b")?, 10);
-    assert_eq!(rt; remove(&rt, &mut folder, "l/d/a")?, 10);
-    assert_eq!(rt; listed(&rt, &mut folder, "real")?.as_str(), "real/d/a ");
-    fs::remove_dir_all(&rt, "link_above")?;
+    let calls = "list l/d;read l/d/a;part l/d/a;write l/b;remove l/d/a;list real";
+    assert_eq!(rt;
+        on_disk(&rt, "link_above", calls)?.as_str(),
+        "14;10;10;10;10;real/d/a ;"
+    );
     Ok(())
 }
 
 #[test]
 fn follows_no_link_beneath_the_root(rt: HostRuntime) -> Result<(), Fail> {
-    let mut folder = new_folder(&rt, "link_beneath")?;
-    assert_eq!(rt; write(&rt, &mut folder, "real/a")?, 0);
+    renew(&rt, "link_beneath")?;
     fs::create_dir(&rt, "link_beneath/d")?;
-    symlink(&rt, "../real", "link_beneath/d/l")?;
-    assert_eq!(rt; listed(&rt, &mut folder, "d")?.as_str(), "14");
-    assert_eq!(rt; read(&rt, &mut folder, "d")?, 10);
-    assert_eq!(rt; write(&rt, &mut folder, "d")?, 10);
-    assert_eq!(rt; write(&rt, &mut folder, "d/a")?, 0);
-    fs::remove_dir_all(&rt, "link_beneath")?;
-    Ok(())
-}
-
-#[test]
-fn a_link_is_seen_behind_a_known_folder(rt: HostRuntime) -> Result<(), Fail> {
-    let mut folder = new_folder(&rt, "link_known")?;
-    assert_eq!(rt; write(&rt, &mut folder, "d/a")?, 0);
-    assert_eq!(rt; read(&rt, &mut folder, "d/a")?, 0);
-    symlink(&rt, "a", "link_known/d/l")?;
-    assert_eq!(rt; read(&rt, &mut folder, "d/l")?, 10);
-    assert_eq!(rt; read(&rt, &mut folder, "d/l/a")?, 10);
-    assert_eq!(rt; read(&rt, &mut folder, "d/a/b")?, 12);
-    fs::remove_dir_all(&rt, "link_known")?;
+    symlink(&rt, "..", "link_beneath/d/l")?;
+    let calls = "list d;read d;write d;remove d;write d/a;read d/a;read d/l;read d/l/a";
+    assert_eq!(rt;
+        on_disk(&rt, "link_beneath", calls)?.as_str(),
+        "14;10;10;10;ok;hello;10;10;"
+    );
     Ok(())
 }
 
 #[test]
 fn opens_no_device(rt: HostRuntime) -> Result<(), Fail> {
-    let mut folder = DiskFolder::new(&rt, String::from_str(rt.alloc(), "/dev")?);
-    assert_eq!(rt; listed(&rt, &mut folder, "null")?.as_str(), "14");
-    assert_eq!(rt; read(&rt, &mut folder, "null")?, 10);
-    assert_eq!(rt; remove(&rt, &mut folder, "null/a")?, 10);
+    let calls = "list null;read null;part null;remove null/a";
+    assert_eq!(rt; at_path(&rt, "/dev", calls)?.as_str(), "14;10;10;10;");
     Ok(())
 }
 
 #[test]
 fn another_name_keeps_its_bytes(rt: HostRuntime) -> Result<(), Fail> {
-    let mut folder = new_folder(&rt, "other_name")?;
-    fs::write(&rt, "other_name/source", "source")?;
-    fs::create_dir(&rt, "other_name/build")?;
-    fs::hard_link(&rt, "other_name/source", "other_name/build/out")?;
-    assert_eq!(rt; write(&rt, &mut folder, "build/out")?, 0);
-    assert_eq!(rt; read(&rt, &mut folder, "build/out")?, 0);
-    assert_eq!(rt; read(&rt, &mut folder, "source")?, 13);
-    fs::remove_dir_all(&rt, "other_name")?;
+    renew(&rt, "other_name")?;
+    fs::write(&rt, "other_name/source", "1")?;
+    fs::hard_link(&rt, "other_name/source", "other_name/out")?;
+    let calls = "write out;read out;read source";
+    assert_eq!(rt; on_disk(&rt, "other_name", calls)?.as_str(), "ok;hello;1;");
     Ok(())
 }
 
 #[test]
 fn names_that_are_no_segments(rt: HostRuntime) -> Result<(), Fail> {
-    let mut folder = new_folder(&rt, "odd_names")?;
+    renew(&rt, "odd_names")?;
     fs::create_dir(&rt, "odd_names/d")?;
     fs::write(&rt, "odd_names/d/x\x7f", "1")?;
-    assert_eq!(rt; listed(&rt, &mut folder, "d")?.as_str(), "14");
-    assert_eq!(rt; read(&rt, &mut folder, "d")?, 10);
-    assert_eq!(rt; write(&rt, &mut folder, "d")?, 10);
-    assert_eq!(rt; write(&rt, &mut folder, "d/y")?, 0);
-    fs::remove_dir_all(&rt, "odd_names")?;
+    let calls = "list d;read d;write d;remove d;write d/y;read d/y";
+    assert_eq!(rt;
+        on_disk(&rt, "odd_names", calls)?.as_str(),
+        "14;10;10;10;ok;hello;"
+    );
     Ok(())
+}
+
+/// The number of the fault of these names, or none.
+fn name_fault(alloc: Global, names: &[u8]) -> Result<Option<u16>, Fail> {
+    let folder = Place::read(alloc, "d")?;
+    Ok(
+        places_in(alloc, &folder, names)
+            .err()
+            .map(|fault| fault.number()),
+    )
 }
 
 #[test]
 fn names_that_are_no_texts(rt: HostRuntime) -> Result<(), Fail> {
-    let alloc = rt.alloc();
-    let folder = Place::read(alloc, "d")?;
-    let places = places_in(alloc, &folder, b".\0..\0b\0a\0")?;
-    assert_eq!(rt; told(alloc, places.as_slice())?.as_str(), "d/b d/a ");
-    let refused = places_in(alloc, &folder, b"a\0b\xff\0").err();
-    assert_eq!(rt; number(refused), 14);
+    assert_eq!(rt; name_fault(rt.alloc(), b".\0..\0b\0")?, None);
+    assert_eq!(rt; name_fault(rt.alloc(), b"a\0b\xff\0")?, Some(14));
     Ok(())
 }
 
-/// Five segments and four slashes: a path of 969 bytes and a last segment of this length.
-fn long_place(rt: &HostRuntime, last: usize) -> Result<String, Fail> {
-    let alloc = rt.alloc();
+/// Five segments and four slashes: 968 bytes above the last segment, and this segment.
+fn long_place(alloc: Global, last: &str) -> Result<String, Fail> {
     let long = "a".repeat(alloc, 255)?;
     let middle = "b".repeat(alloc, 200)?;
-    let end = "c".repeat(alloc, last)?;
-    Ok(format!(in alloc; "{long}/{long}/{long}/{middle}/{end}")?)
+    Ok(format!(in alloc; "{long}/{long}/{long}/{middle}/{last}")?)
 }
 
 #[test]
 fn places_have_at_most_1_024_bytes(rt: HostRuntime) -> Result<(), Fail> {
-    let mut folder = new_folder(&rt, "long_places")?;
-    let longest = long_place(&rt, 55)?;
+    let last = "c".repeat(rt.alloc(), 55)?;
+    let longest = long_place(rt.alloc(), last.as_str())?;
+    let calls = format!(in rt.alloc(); "write {longest};read {longest}")?;
     assert_eq!(rt; longest.len(), 1024);
-    assert_eq!(rt; write(&rt, &mut folder, longest.as_str())?, 0);
-    assert_eq!(rt; read(&rt, &mut folder, longest.as_str())?, 0);
-    assert_eq!(rt; listed(&rt, &mut folder, longest.as_str())?.len(), 1025);
-    let above = format!(in rt.alloc(); "long_places/{}", long_place(&rt, 56)?)?;
-    fs::write(&rt, above.as_str(), "1")?;
-    let root = "a".repeat(rt.alloc(), 255)?;
-    assert_eq!(rt; listed(&rt, &mut folder, root.as_str())?.as_str(), "14");
-    fs::remove_dir_all(&rt, "long_places")?;
+    assert_eq!(rt;
+        on_new(&rt, "longest_place", calls.as_str())?.as_str(),
+        "ok;hello;"
+    );
+    Ok(())
+}
+
+#[test]
+fn a_path_of_1_025_bytes_is_no_place(rt: HostRuntime) -> Result<(), Fail> {
+    renew(&rt, "long_path")?;
+    let last = "c".repeat(rt.alloc(), 56)?;
+    let long = format!(in rt.alloc(); "long_path/{}", long_place(rt.alloc(), last.as_str())?)?;
+    fs::create_dir_all(&rt, long.as_str())?;
+    let calls = format!(in rt.alloc(); "list {}", "a".repeat(rt.alloc(), 255)?)?;
+    assert_eq!(rt; on_disk(&rt, "long_path", calls.as_str())?.as_str(), "14;");
     Ok(())
 }
 
 #[test]
 fn a_missing_folder_fails(rt: HostRuntime) -> Result<(), Fail> {
-    let mut folder = DiskFolder::new(&rt, String::from_str(rt.alloc(), "no_such_folder")?);
-    assert_eq!(rt; listed(&rt, &mut folder, "a")?.as_str(), "");
-    assert_eq!(rt; read(&rt, &mut folder, "a")?, 11);
-    assert_eq!(rt; write(&rt, &mut folder, "a")?, 10);
+    assert_eq!(rt;
+        at_path(&rt, "no_such_folder", "list a;read a;write a")?.as_str(),
+        ";11;10;"
+    );
+    Ok(())
+}
+
+#[test]
+fn a_device_fails_once(rt: HostRuntime) -> Result<(), Fail> {
+    let calls = "write a;list a;read a;part a;write a;remove a;remove a";
+    let all = on_failing(rt.alloc(), 6, FaultMode::FailOnce, calls, "read a")?;
+    assert_eq!(rt; all.as_str(), "ok;a ;hello;lo;ok;10;ok;11;");
+    Ok(())
+}
+
+#[test]
+fn a_device_stops(rt: HostRuntime) -> Result<(), Fail> {
+    let calls = "write a;list a;read a;part a;write b;remove a";
+    let all = on_failing(rt.alloc(), 2, FaultMode::Stop, calls, "read a;read b")?;
+    assert_eq!(rt; all.as_str(), "ok;10;10;10;10;10;hello;11;");
+    Ok(())
+}
+
+#[test]
+fn a_device_stops_within_a_write(rt: HostRuntime) -> Result<(), Fail> {
+    let torn = FaultMode::StopTorn(b"he".to_vec(rt.alloc())?);
+    let calls = "write a;write b;write c;read b";
+    let all = on_failing(rt.alloc(), 2, torn, calls, "read a;read b;read c")?;
+    assert_eq!(rt; all.as_str(), "ok;10;10;10;hello;he;11;");
+    Ok(())
+}
+
+#[test]
+fn a_torn_write_that_is_refused_leaves_nothing(rt: HostRuntime) -> Result<(), Fail> {
+    let torn = FaultMode::StopTorn(b"he".to_vec(rt.alloc())?);
+    let all = on_failing(rt.alloc(), 2, torn, "write a;write a/b", "read a;read a/b")?;
+    assert_eq!(rt; all.as_str(), "ok;10;hello;12;");
+    Ok(())
+}
+
+#[test]
+fn only_the_first_call_that_fails_is_torn(rt: HostRuntime) -> Result<(), Fail> {
+    let torn = FaultMode::StopTorn(b"he".to_vec(rt.alloc())?);
+    let all = on_failing(rt.alloc(), 2, torn, "write a;read a;write a", "read a")?;
+    assert_eq!(rt; all.as_str(), "ok;10;10;hello;");
     Ok(())
 }
