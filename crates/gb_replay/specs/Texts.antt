@@ -2,19 +2,10 @@
 use Rattle.std.specs.Prelude.{ℕ, Bool, ◌||◌, nat_eq, List, [], ◌∷◌, ◌++◌, Option, None, Some, if◌then◌else◌, codes, decimal, length}
 use Rattle.std.specs.List.{ends_with, flat_map}
 use Rattle.gb_folder.specs.Files.{Files, Place, Bytes, file_at, is_empty, places_under}
-use Rattle.gb_report.specs.Fault.{fault_text}
+use Rattle.gb_answer.specs.Answer.{not_built_text, refusal_text}
 use Rattle.gb_report.specs.Report.{line, report_text}
-use Rattle.gb_report.specs.declared.fault.Fault.{Fault}
 use Rattle.gb_build.specs.declared.events.Answer.{Answer}
 use Rattle.gb_build.specs.declared.events.Answer.TheVariants as answers
-
--- the line that tells a refusal
-abbrev pub refusal_text : Fault → List ℕ
-refusal_text fault = line (codes "REFUSED " ++ fault_text fault)
-
--- what is printed of a refused build
-abbrev pub not_built_text : Fault → List ℕ
-not_built_text fault = refusal_text fault ++ line (codes "BUILD FAILED")
 
 -- what is printed of an answer
 abbrev pub answer_text : Answer → List ℕ

@@ -8,10 +8,9 @@
 
 use crate::replay::replay;
 use crate::stop::Stop;
+use gb_answer::builtin_runs;
 use gb_kinds::builtin::Builtin;
-use gb_kinds::files::{add_file, concat, copy_files, keep_lines, replace_tokens, sums, word_index};
-use gb_kinds::table::{Runs, builtin_table};
-use gb_kinds::texts::{fail, print_line, write_text};
+use gb_kinds::table::builtin_table;
 use gb_project::tables::Tables;
 use std::io::{self, BufWriter};
 use std::process::ExitCode;
@@ -26,19 +25,7 @@ mod texts;
 
 fn main(rt: HostRuntime) -> Result<ExitCode, Stop> {
     let alloc = rt.alloc();
-    let runs = Runs {
-        print_line: Box::new(alloc, print_line)?,
-        write_text: Box::new(alloc, write_text)?,
-        fail: Box::new(alloc, fail)?,
-        copy_files: Box::new(alloc, copy_files)?,
-        replace_tokens: Box::new(alloc, replace_tokens)?,
-        keep_lines: Box::new(alloc, keep_lines)?,
-        sums: Box::new(alloc, sums)?,
-        word_index: Box::new(alloc, word_index)?,
-        concat: Box::new(alloc, concat)?,
-        add_file: Box::new(alloc, add_file)?,
-    };
-    let actions = builtin_table(alloc, runs)?;
+    let actions = builtin_table(alloc, builtin_runs!(alloc))?;
     let tables = Tables { actions };
     let mut writer = BufWriter::new(alloc, io::writer(&rt))?;
     let status = replay::<Builtin, _, _>(alloc, &mut rt.reader(), &mut writer, &tables);

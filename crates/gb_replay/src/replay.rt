@@ -1,12 +1,15 @@
 //! The lines of an input in their order.
-ghost use Rattle.std.specs.Prelude.{◌≡◌, ◌⊎◌, ◌+◌, ◌-◌, ◌^◌, IfErr, min};
+ghost use Rattle.std.specs.Prelude.{◌≡◌, ◌⊎◌, ◌+◌, ◌-◌, ◌^◌, IfErr, IfOk, min};
+ghost use Rattle.gb_answer.specs.Answer.{not_built_text, refusal_text};
+ghost use Rattle.gb_report.specs.declared.fault.Fault.TheVariants as faults;
 ghost use Rattle.gb_replay.specs.declared.stop.Stop.TheVariants as stops;
 
 use crate::line::{Line, LineFault, read_line};
 use crate::show::shown_files;
 use crate::stop::Stop;
-use crate::texts::{answer_text, not_built_text, refusal_text};
+use crate::texts::answer_text;
 use gb_action::actions::Actions;
+use gb_answer::answer::{not_built_text, refusal_text};
 use gb_build::events::{Event, run_events};
 use gb_build::invocation::Invocation;
 use gb_core::place::Place;
@@ -14,7 +17,7 @@ use gb_folder::folder::Folder;
 use gb_folder::memory::MemoryFolder;
 use gb_project::tables::Tables;
 use gb_report::fault::Fault;
-use std::alloc::Global;
+use std::alloc::{AllocError, Global};
 use std::io::{ErrorKind, Read, Write};
 
 /// The most bytes of an input: 64 MiB.
@@ -47,11 +50,18 @@ fn try_replay<A: Actions, R: Read, W: Write>(
     let input = read_input(alloc, reader)?;
     let taken = take_input::<A, W>(alloc, writer, tables, input.as_slice());
     if let Err(Stop::BadLine(number)) = taken {
-        let text = refusal_text(alloc, &Fault::BadLine(number))?;
+        let text = bad_line_text(alloc, number)?;
         writer.write_all(text.as_slice())?;
     }
     writer.flush()?;
     taken
+}
+
+/// What is printed of a bad line of this number.
+fn bad_line_text(alloc: Global, number: u64) -> Result<Vec<u8>, AllocError>
+    ensures { IfOk result (λ text. text.items ≡ refusal_text (faults.BadLine number)) }
+{
+    refusal_text(alloc, &Fault::BadLine(number))
 }
 
 /// Reads all bytes, or one more than an input may have.
@@ -151,8 +161,15 @@ fn build_text<A: Actions, F: Folder>(
 ) -> Result<Vec<u8>, Stop> {
     match Invocation::read(alloc, words) {
         Ok(invocation) => event_text::<A, F>(alloc, folder, tables, Event::Invoke(invocation)),
-        Err(fault) => Ok(not_built_text(alloc, &fault)?),
+        Err(fault) => Ok(fault_text(alloc, fault)?),
     }
+}
+
+/// What is printed of a build that this fault refuses.
+fn fault_text(alloc: Global, fault: Fault) -> Result<Vec<u8>, AllocError>
+    ensures { IfOk result (λ text. text.items ≡ not_built_text fault) }
+{
+    not_built_text(alloc, &fault)
 }
 
 fn event_text<A: Actions, F: Folder>(

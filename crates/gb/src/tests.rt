@@ -1,0 +1,318 @@
+//! Whole builds over folders on a disk, in memory and of those that fail.
+use crate::run::run;
+use gb_action::table::ActionTable;
+use gb_core::place::Place;
+use gb_disk::disk::DiskFolder;
+use gb_folder::faulty::{FaultMode, FaultyFolder};
+use gb_folder::folder::Folder;
+use gb_folder::memory::MemoryFolder;
+use gb_kinds::builtin::{Builtin, Run, StoredAction};
+use gb_kinds::table::add_text_kinds;
+use gb_kinds::texts::{fail, print_line, write_text};
+use gb_project::tables::Tables;
+use std::alloc::Global;
+use std::fs;
+use std::io::{self, ErrorKind, Write};
+use std::test::Fail;
+
+/// A task that writes a file.
+const GEN: &str =
+    "put build.gb register gen : writeText(\"abc\") { outputFile out = file(\"build/a.txt\") }";
+
+/// What is printed where it succeeds.
+const DONE: &str = "> Task :gen\nBUILD SUCCESSFUL\n1 actionable task: 1 executed\n";
+
+/// What is printed of lines: `put PLACE BYTES`, `read PLACE`, `run WORDS`, and `status WORDS` for its status.
+fn answers<F: Folder>(alloc: Global, folder: &mut F, lines: &str) -> Result<String, Fail> {
+    let mut actions = ActionTable::new(alloc);
+    let print_line: Run = Box::new(alloc, print_line)?;
+    let write_text: Run = Box::new(alloc, write_text)?;
+    let fail: Run = Box::new(alloc, fail)?;
+    add_text_kinds(alloc, &mut actions, print_line, write_text, fail)?;
+    let tables = Tables { actions };
+    let mut out = Vec::new(alloc);
+    for line in lines.split('\n') {
+        take(alloc, folder, &tables, line, &mut out)?;
+    }
+    Ok(String::from_utf8(out)?)
+}
+
+fn take<F: Folder>(
+    alloc: Global,
+    folder: &mut F,
+    tables: &Tables<StoredAction>,
+    line: &str,
+    out: &mut Vec<u8>,
+) -> Result<(), Fail> {
+    let (word, rest) = line.split_once(' ').unwrap_or((line, ""));
+    match word {
+        "put" => put(alloc, folder, rest),
+        "read" => read(alloc, folder, rest, out),
+        "run" => {
+            build(alloc, folder, tables, rest, out)?;
+            Ok(())
+        }
+        _ => status(alloc, folder, tables, rest, out),
+    }
+}
+
+fn put<F: Folder>(alloc: Global, folder: &mut F, rest: &str) -> Result<(), Fail> {
+    let (place, bytes) = rest.split_once(' ').unwrap_or((rest, ""));
+    let place = Place::read(alloc, place)?;
+    Ok(folder.write(&place, bytes.as_bytes(), 10_000)?)
+}
+
+fn read<F: Folder>(
+    alloc: Global,
+    folder: &mut F,
+    place: &str,
+    out: &mut Vec<u8>,
+) -> Result<(), Fail> {
+    let place = Place::read(alloc, place)?;
+    match folder.read(alloc, &place, 10_000) {
+        Ok(bytes) => out.extend_from_slice(bytes.as_slice())?,
+        Err(_) => out.extend_from_slice(b"none")?,
+    }
+    Ok(out.push(b'\n')?)
+}
+
+/// Builds, and answers the status.
+fn build<F: Folder>(
+    alloc: Global,
+    folder: &mut F,
+    tables: &Tables<StoredAction>,
+    words: &str,
+    out: &mut Vec<u8>,
+) -> Result<u8, Fail> {
+    let mut given = Vec::new(alloc);
+    for word in words.split_whitespace() {
+        given.push(String::from_str(alloc, word)?)?;
+    }
+    Ok(run::<Builtin, F, Vec<u8>>(alloc, folder, Ok(given), out, tables))
+}
+
+fn status<F: Folder>(
+    alloc: Global,
+    folder: &mut F,
+    tables: &Tables<StoredAction>,
+    words: &str,
+    out: &mut Vec<u8>,
+) -> Result<(), Fail> {
+    let mut unread = Vec::new(alloc);
+    let status = build(alloc, folder, tables, words, &mut unread)?;
+    Ok(out.extend_from_slice(format!(in alloc; "{status}")?.as_bytes())?)
+}
+
+/// What an empty folder in memory answers.
+fn in_memory(alloc: Global, lines: &str) -> Result<String, Fail> {
+    answers(alloc, &mut MemoryFolder::new(alloc), lines)
+}
+
+/// What a new folder of this name answers, which is then taken away.
+fn on_disk(rt: &HostRuntime, name: &str, lines: &str) -> Result<String, Fail> {
+    if fs::exists(rt, name)? {
+        fs::remove_dir_all(rt, name)?;
+    }
+    fs::create_dir(rt, name)?;
+    let mut folder = DiskFolder::new(rt, String::from_str(rt.alloc(), name)?);
+    let all = answers(rt.alloc(), &mut folder, lines)?;
+    fs::remove_dir_all(rt, name)?;
+    Ok(all)
+}
+
+#[test]
+fn actions_run_in_their_order(rt: HostRuntime) -> Result<(), Fail> {
+    let lines =
+        "put build.gb register hi { doFirst printLine(\"1\") doFirst printLine(\"2\") doLast printLine(\"3\") doLast printLine(\"4\") }\nrun hi\nrun hi";
+    let want =
+        "> Task :hi\n2\n1\n3\n4\nBUILD SUCCESSFUL\n1 actionable task: 1 executed\n> Task :hi\n2\n1\n3\n4\nBUILD SUCCESSFUL\n1 actionable task: 1 executed\n";
+    assert_eq!(rt; in_memory(rt.alloc(), lines)?.as_str(), want);
+    assert_eq!(rt; on_disk(&rt, "in_order", lines)?.as_str(), want);
+    Ok(())
+}
+
+#[test]
+fn a_blocked_output_fails_the_task(rt: HostRuntime) -> Result<(), Fail> {
+    let lines = format!(in rt.alloc(); "put build x\n{GEN}\nrun gen\nread build")?;
+    let want =
+        "> Task :gen FAILED\nFAILED :gen: 12 blocked build/a.txt\nBUILD FAILED\n1 actionable task: 1 executed\nx\n";
+    assert_eq!(rt; in_memory(rt.alloc(), lines.as_str())?.as_str(), want);
+    assert_eq!(rt; on_disk(&rt, "blocked", lines.as_str())?.as_str(), want);
+    Ok(())
+}
+
+#[test]
+fn empty_scripts_and_tasks_without_actions(rt: HostRuntime) -> Result<(), Fail> {
+    let lines = "put build.gb\nrun\nput build.gb register x { }\nrun x\nrun y";
+    let want =
+        "REFUSED 64 no tasks\nBUILD FAILED\n> Task :x UP-TO-DATE\nBUILD SUCCESSFUL\nREFUSED 52 task not found y\nBUILD FAILED\n";
+    assert_eq!(rt; in_memory(rt.alloc(), lines)?.as_str(), want);
+    assert_eq!(rt; on_disk(&rt, "empty", lines)?.as_str(), want);
+    Ok(())
+}
+
+#[test]
+fn a_failing_action_fails_the_task(rt: HostRuntime) -> Result<(), Fail> {
+    let lines = "put build.gb register t { doLast printLine(\"a\") doLast fail(\"no\") }\nrun t";
+    let want =
+        "> Task :t FAILED\na\nFAILED :t: 42 no\nBUILD FAILED\n1 actionable task: 1 executed\n";
+    assert_eq!(rt; in_memory(rt.alloc(), lines)?.as_str(), want);
+    assert_eq!(rt; on_disk(&rt, "failing", lines)?.as_str(), want);
+    Ok(())
+}
+
+#[test]
+fn one_output_file(rt: HostRuntime) -> Result<(), Fail> {
+    let lines = format!(in rt.alloc();
+        "{GEN}\nrun gen\nread build/a.txt\nput build/a.txt Z\nrun gen\nread build/a.txt"
+    )?;
+    let want = format!(in rt.alloc(); "{DONE}abc\n{DONE}abc\n")?;
+    assert_eq!(rt;
+        in_memory(rt.alloc(), lines.as_str())?.as_str(),
+        want.as_str()
+    );
+    assert_eq!(rt;
+        on_disk(&rt, "one_output", lines.as_str())?.as_str(),
+        want.as_str()
+    );
+    Ok(())
+}
+
+#[test]
+fn bad_syntax_is_refused(rt: HostRuntime) -> Result<(), Fail> {
+    let lines = "put build.gb register {\nrun x";
+    let want = "REFUSED 20 syntax build.gb:1\nBUILD FAILED\n";
+    assert_eq!(rt; in_memory(rt.alloc(), lines)?.as_str(), want);
+    assert_eq!(rt; on_disk(&rt, "syntax", lines)?.as_str(), want);
+    Ok(())
+}
+
+/// What the task that writes a file answers to one more line.
+fn asked(alloc: Global, line: &str) -> Result<String, Fail> {
+    let lines = format!(in alloc; "{GEN}\n{line}")?;
+    in_memory(alloc, lines.as_str())
+}
+
+#[test]
+fn words_that_ask_for_a_build(rt: HostRuntime) -> Result<(), Fail> {
+    let alloc = rt.alloc();
+    assert_eq!(rt;
+        asked(alloc, "run gen --rerun-tasks --rerun-tasks")?.as_str(),
+        DONE
+    );
+    assert_eq!(rt;
+        asked(alloc, "run -Pa=b --project-prop c gen")?.as_str(),
+        DONE
+    );
+    assert_eq!(rt; asked(alloc, "run -- gen")?.as_str(), DONE);
+    assert_eq!(rt; asked(alloc, "status gen")?.as_str(), "0");
+    assert_eq!(rt;
+        asked(alloc, "run -P1=x gen")?.as_str(),
+        "REFUSED 1 bad name 1\nBUILD FAILED\n"
+    );
+    assert_eq!(rt; asked(alloc, "status -P1=x gen")?.as_str(), "1");
+    assert_eq!(rt; asked(alloc, "status odd")?.as_str(), "1");
+    assert_eq!(rt; asked(alloc, "status")?.as_str(), "1");
+    Ok(())
+}
+
+#[test]
+fn words_that_ask_for_no_build(rt: HostRuntime) -> Result<(), Fail> {
+    let alloc = rt.alloc();
+    assert_eq!(rt;
+        asked(alloc, "run gen --continue")?.as_str(),
+        "REFUSED 96 usage\nBUILD FAILED\n"
+    );
+    assert_eq!(rt; asked(alloc, "status gen --continue")?.as_str(), "2");
+    assert_eq!(rt; asked(alloc, "status -m gen")?.as_str(), "2");
+    assert_eq!(rt; asked(alloc, "status gen -x gen")?.as_str(), "2");
+    assert_eq!(rt; asked(alloc, "status --nope")?.as_str(), "2");
+    assert_eq!(rt; asked(alloc, "status --help")?.as_str(), "2");
+    assert_eq!(rt; asked(alloc, "status -V")?.as_str(), "2");
+    assert_eq!(rt; asked(alloc, "status -x")?.as_str(), "2");
+    Ok(())
+}
+
+/// How a device fails: 0 once, 1 it stops, and else it stops within a write.
+fn mode(alloc: Global, kind: u8) -> Result<FaultMode, Fail> {
+    match kind {
+        0 => Ok(FaultMode::FailOnce),
+        1 => Ok(FaultMode::Stop),
+        _ => Ok(FaultMode::StopTorn(b"torn".to_vec(alloc)?)),
+    }
+}
+
+/// What a build answers whose device fails at a call, and then the files outside the build folder.
+fn on_failing(alloc: Global, at: u64, kind: u8) -> Result<String, Fail> {
+    let mut inner = MemoryFolder::new(alloc);
+    answers(alloc, &mut inner, GEN)?;
+    let mut folder = FaultyFolder::new(inner, at, mode(alloc, kind)?);
+    let mut all = answers(alloc, &mut folder, "run gen")?;
+    all.push_str(answers(alloc, &mut folder.into_inner(), "read build.gb\nread src/a")?.as_str())?;
+    Ok(all)
+}
+
+/// How many calls fail in turn, before the build is good. None where an answer tells of no failure, or a file
+/// outside the build folder differs.
+fn failing_calls(alloc: Global, kind: u8) -> Result<Option<u64>, Fail> {
+    let files = in_memory(
+        alloc,
+        format!(in alloc; "{GEN}\nread build.gb\nread src/a")?.as_str(),
+    )?;
+    for before in 0..100u64 {
+        let all = on_failing(alloc, before + 1, kind)?;
+        let told = all.strip_suffix(files.as_str()).unwrap_or("");
+        if told == DONE {
+            return Ok(Some(before));
+        }
+        if !told.contains("10 device build") {
+            return Ok(None);
+        }
+    }
+    Ok(None)
+}
+
+#[test]
+fn each_call_fails_once(rt: HostRuntime) -> Result<(), Fail> {
+    assert_eq!(rt; failing_calls(rt.alloc(), 0)?, Some(3));
+    Ok(())
+}
+
+#[test]
+fn the_device_stops_at_each_call(rt: HostRuntime) -> Result<(), Fail> {
+    assert_eq!(rt; failing_calls(rt.alloc(), 1)?, Some(3));
+    Ok(())
+}
+
+#[test]
+fn the_device_stops_within_each_call(rt: HostRuntime) -> Result<(), Fail> {
+    assert_eq!(rt; failing_calls(rt.alloc(), 2)?, Some(3));
+    Ok(())
+}
+
+/// Takes nothing.
+#[derive(Drop)]
+struct FailingWriter;
+
+impl Write for FailingWriter {
+    fn write(&mut self, _buf: &[u8]) -> io::Result<usize> {
+        Err(io::Error::from(ErrorKind::Other))
+    }
+
+    fn flush(&mut self) -> io::Result<()> {
+        Ok(())
+    }
+}
+
+#[test]
+fn a_failing_writer_is_status_1(rt: HostRuntime) -> Result<(), Fail> {
+    let alloc = rt.alloc();
+    let tables = Tables {
+        actions: ActionTable::new(alloc),
+    };
+    let mut folder = MemoryFolder::new(alloc);
+    let words = Ok(Vec::new(alloc));
+    let status = run::<Builtin, _, _>(alloc, &mut folder, words, &mut FailingWriter, &tables);
+    assert_eq!(rt; status, 1);
+    Ok(())
+}

@@ -1,0 +1,25 @@
+-- What is printed of a build, and its status.
+use Rattle.std.specs.Prelude.{ℕ, List, ◌++◌, Result, Ok, Err, if◌then◌else◌, codes, nat_eq}
+use Rattle.gb_report.specs.Fault.{fault_text, fault_number}
+use Rattle.gb_report.specs.Outcome.{is_successful}
+use Rattle.gb_report.specs.Report.{line, report_text}
+use Rattle.gb_report.specs.declared.fault.Fault.{Fault}
+use Rattle.gb_report.specs.declared.report.Report.{Report}
+
+-- the line that tells a refusal
+abbrev pub refusal_text : Fault → List ℕ
+refusal_text fault = line (codes "REFUSED " ++ fault_text fault)
+
+-- what is printed of a refused build
+abbrev pub not_built_text : Fault → List ℕ
+not_built_text fault = refusal_text fault ++ line (codes "BUILD FAILED")
+
+-- what is printed of a build
+abbrev pub answer_text : Result Report Fault → List ℕ
+answer_text (Ok report) = report_text report
+answer_text (Err fault) = not_built_text fault
+
+-- the status: 0 after success, 2 for words that ask for no build that is known (96), and else 1
+abbrev pub status_of : Result Report Fault → ℕ
+status_of (Ok report) = if is_successful report then 0 else 1
+status_of (Err fault) = if nat_eq (fault_number fault) 96 then 2 else 1
