@@ -38,7 +38,7 @@ pub fn run<A: Actions, F: Folder, W: Write>(
     // What is printed is the text of an answer, and the status is its own; or the status is 1.
     ensures told { IsTrue F.tells → (result ≡ 1) ⊎ ((answer : Result Report Fault)
         × Answers A.meanings tables.now.actions (F.failures folder.old) (F.contents folder.old) answer
-            (F.failures folder.new) (F.contents folder.new)
+        (F.failures folder.new) (F.contents folder.new)
         × Appends (W.contents writer.old) (W.contents writer.new) (answer_text answer)
         × (result ≡ status_of answer)) }
 {
@@ -60,7 +60,7 @@ fn told<A: Actions, F: Folder, W: Write>(
     ensures elsewhere { IsTrue F.tells → ChangesOnly is_of_build (F.contents folder.old) (F.contents folder.new) }
     ensures told { IsTrue F.tells → IfSome result (λ status. (answer : Result Report Fault)
         × Answers A.meanings tables.now.actions (F.failures folder.old) (F.contents folder.old) answer
-            (F.failures folder.new) (F.contents folder.new)
+        (F.failures folder.new) (F.contents folder.new)
         × Appends (W.contents writer.old) (W.contents writer.new) (answer_text answer)
         × (status ≡ status_of answer)) }
 {

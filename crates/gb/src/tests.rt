@@ -163,11 +163,18 @@ fn a_failing_action_fails_the_task(rt: HostRuntime) -> Result<(), Fail> {
 
 #[test]
 fn one_output_file(rt: HostRuntime) -> Result<(), Fail> {
-    let lines =
-        format!(in rt.alloc(); "{GEN}\nrun gen\nread build/a.txt\nput build/a.txt Z\nrun gen\nread build/a.txt")?;
+    let lines = format!(in rt.alloc();
+        "{GEN}\nrun gen\nread build/a.txt\nput build/a.txt Z\nrun gen\nread build/a.txt"
+    )?;
     let want = format!(in rt.alloc(); "{DONE}abc\n{DONE}abc\n")?;
-    assert_eq!(rt; in_memory(rt.alloc(), lines.as_str())?.as_str(), want.as_str());
-    assert_eq!(rt; on_disk(&rt, "one_output", lines.as_str())?.as_str(), want.as_str());
+    assert_eq!(rt;
+        in_memory(rt.alloc(), lines.as_str())?.as_str(),
+        want.as_str()
+    );
+    assert_eq!(rt;
+        on_disk(&rt, "one_output", lines.as_str())?.as_str(),
+        want.as_str()
+    );
     Ok(())
 }
 
@@ -189,11 +196,20 @@ fn asked(alloc: Global, line: &str) -> Result<String, Fail> {
 #[test]
 fn words_that_ask_for_a_build(rt: HostRuntime) -> Result<(), Fail> {
     let alloc = rt.alloc();
-    assert_eq!(rt; asked(alloc, "run gen --rerun-tasks --rerun-tasks")?.as_str(), DONE);
-    assert_eq!(rt; asked(alloc, "run -Pa=b --project-prop c gen")?.as_str(), DONE);
+    assert_eq!(rt;
+        asked(alloc, "run gen --rerun-tasks --rerun-tasks")?.as_str(),
+        DONE
+    );
+    assert_eq!(rt;
+        asked(alloc, "run -Pa=b --project-prop c gen")?.as_str(),
+        DONE
+    );
     assert_eq!(rt; asked(alloc, "run -- gen")?.as_str(), DONE);
     assert_eq!(rt; asked(alloc, "status gen")?.as_str(), "0");
-    assert_eq!(rt; asked(alloc, "run -P1=x gen")?.as_str(), "REFUSED 1 bad name 1\nBUILD FAILED\n");
+    assert_eq!(rt;
+        asked(alloc, "run -P1=x gen")?.as_str(),
+        "REFUSED 1 bad name 1\nBUILD FAILED\n"
+    );
     assert_eq!(rt; asked(alloc, "status -P1=x gen")?.as_str(), "1");
     assert_eq!(rt; asked(alloc, "status odd")?.as_str(), "1");
     assert_eq!(rt; asked(alloc, "status")?.as_str(), "1");
@@ -203,7 +219,10 @@ fn words_that_ask_for_a_build(rt: HostRuntime) -> Result<(), Fail> {
 #[test]
 fn words_that_ask_for_no_build(rt: HostRuntime) -> Result<(), Fail> {
     let alloc = rt.alloc();
-    assert_eq!(rt; asked(alloc, "run gen --continue")?.as_str(), "REFUSED 96 usage\nBUILD FAILED\n");
+    assert_eq!(rt;
+        asked(alloc, "run gen --continue")?.as_str(),
+        "REFUSED 96 usage\nBUILD FAILED\n"
+    );
     assert_eq!(rt; asked(alloc, "status gen --continue")?.as_str(), "2");
     assert_eq!(rt; asked(alloc, "status -m gen")?.as_str(), "2");
     assert_eq!(rt; asked(alloc, "status gen -x gen")?.as_str(), "2");
@@ -236,7 +255,10 @@ fn on_failing(alloc: Global, at: u64, kind: u8) -> Result<String, Fail> {
 /// How many calls fail in turn, before the build is good. None where an answer tells of no failure, or a file
 /// outside the build folder differs.
 fn failing_calls(alloc: Global, kind: u8) -> Result<Option<u64>, Fail> {
-    let files = in_memory(alloc, format!(in alloc; "{GEN}\nread build.gb\nread src/a")?.as_str())?;
+    let files = in_memory(
+        alloc,
+        format!(in alloc; "{GEN}\nread build.gb\nread src/a")?.as_str(),
+    )?;
     for before in 0..100u64 {
         let all = on_failing(alloc, before + 1, kind)?;
         let told = all.strip_suffix(files.as_str()).unwrap_or("");

@@ -6,7 +6,10 @@ use std::test::Fail;
 fn a_refused_build_says_so(rt: HostRuntime) -> Result<(), Fail> {
     let answer = Err(Fault::NoTasks);
     let text = answer_text(rt.alloc(), &answer)?;
-    assert_eq!(rt; text.as_slice(), b"REFUSED 64 no tasks\nBUILD FAILED\n".as_slice());
+    assert_eq!(rt;
+        text.as_slice(),
+        b"REFUSED 64 no tasks\nBUILD FAILED\n".as_slice()
+    );
     assert_eq!(rt; status_of(&answer), 1);
     Ok(())
 }
