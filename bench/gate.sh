@@ -13,8 +13,8 @@ ticks=$(getconf CLK_TCK)
 sample() { # a line for each process of the prover: its number and start, crate, part, ticks
   local pid words stat
   for pid in $(pgrep -f '^/[^ ]*/rattle (build|check) '); do
-    words=$(tr '\0' ' ' <"/proc/$pid/cmdline" 2>/dev/null) || continue
-    stat=$(sed 's/^.*) //' "/proc/$pid/stat" 2>/dev/null) || continue
+    { words=$(tr '\0' ' ' <"/proc/$pid/cmdline"); stat=$(sed 's/^.*) //' "/proc/$pid/stat"); } 2>/dev/null
+    [ -n "$words" ] && [ -n "$stat" ] || continue
     echo "$pid $words| $stat"
   done | awk '{
     split($0, half, "[|] "); count = split(half[2], s, " "); if (count < 20) next
