@@ -5,7 +5,7 @@ ghost use Rattle.gb_core.specs.Lists.{byte_order};
 
 use gb_core::name::Name;
 use gb_table::table::{AddFault, NamedTable};
-use std::alloc::Global;
+use std::alloc::{AllocError, Global};
 use std::marker::Model;
 use thiserror::Error;
 
@@ -30,6 +30,16 @@ impl TableFault {
             TableFault::DuplicateAction => 41,
             TableFault::OutOfMemory => 3,
         }
+    }
+}
+
+impl From<AllocError> for TableFault {
+    ghost use Rattle.gb_action.specs.declared.table.TableFault.TheVariants.{OutOfMemory};
+
+    ghost from_gives = { λ _ fault. fault ≡ OutOfMemory };
+
+    fn from(_error: AllocError) -> TableFault {
+        TableFault::OutOfMemory
     }
 }
 
