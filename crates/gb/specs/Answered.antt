@@ -15,4 +15,5 @@ module _ {S : Type 0} (meanings : Meanings S) (rows : Rows S) where
   -- the words are refused, or they ask for a build of some tasks, and this is its answer
   abbrev pub Answers : ℕ → Contents → Result Report Fault → ℕ → Contents → Type 0
   Answers before old answer after new =
-      IsRefused old answer new ⊎ ((requested : List (List ℕ)) × Invokes meanings rows before old requested answer after new)
+      IsRefused old answer new
+      ⊎ ((requested : List (List ℕ)) × Invokes meanings rows before old requested answer after new)

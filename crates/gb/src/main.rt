@@ -1,8 +1,9 @@
 //! Builds the current folder: `gb [WORD..]`.
 //!
-//! `run` is the program over any folder: it reads the words, builds what they ask for and prints the answer. Proved is
-//! that it prints the text of an answer, with the status of that answer, and changes no file outside `build`. Left to
-//! tests is how the words are parted into options and tasks, and what a real folder holds.
+//! `run` is the program over any folder: it reads the words, builds what they ask for and prints the
+//! answer. Proved is that it prints the text of an answer, with the status of that answer, and changes
+//! no file outside `build`. Left to tests is how the words are parted into options and tasks, and what
+//! a real folder holds.
 #![tactic(auto)]
 
 use crate::run::{UNPRINTED, run};

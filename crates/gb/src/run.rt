@@ -23,8 +23,8 @@ use std::io::Write;
 /// The status where the answer cannot be printed.
 pub const UNPRINTED: u8 = 1;
 
-/// Builds what the words ask for, prints what became of it, and answers the status: 0 where the build was
-/// successful, 2 where the words ask for no build that is known, and else 1.
+/// Builds what the words ask for, prints what became of it, and answers the status: 0 where the build
+/// was successful, 2 where the words ask for no build that is known, and else 1.
 pub fn run<A: Actions, F: Folder, W: Write>(
     alloc: Global,
     folder: &mut F,
@@ -34,7 +34,8 @@ pub fn run<A: Actions, F: Folder, W: Write>(
 ) -> u8
     ensures count { F.failures folder.old ≤ F.failures folder.new }
     // Whatever fails, no file outside the build folder differs.
-    ensures elsewhere { IsTrue F.tells → ChangesOnly is_of_build (F.contents folder.old) (F.contents folder.new) }
+    ensures elsewhere { IsTrue F.tells
+        → ChangesOnly is_of_build (F.contents folder.old) (F.contents folder.new) }
     // What is printed is the text of an answer, and the status is its own; or the status is 1.
     ensures told { IsTrue F.tells → (result ≡ 1) ⊎ ((answer : Result Report Fault)
         × Answers A.meanings tables.now.actions (F.failures folder.old) (F.contents folder.old) answer
@@ -57,7 +58,8 @@ fn told<A: Actions, F: Folder, W: Write>(
     tables: &Tables<A::Stored>,
 ) -> Option<u8>
     ensures count { F.failures folder.old ≤ F.failures folder.new }
-    ensures elsewhere { IsTrue F.tells → ChangesOnly is_of_build (F.contents folder.old) (F.contents folder.new) }
+    ensures elsewhere { IsTrue F.tells
+        → ChangesOnly is_of_build (F.contents folder.old) (F.contents folder.new) }
     ensures told { IsTrue F.tells → IfSome result (λ status. (answer : Result Report Fault)
         × Answers A.meanings tables.now.actions (F.failures folder.old) (F.contents folder.old) answer
         (F.failures folder.new) (F.contents folder.new)
@@ -74,7 +76,8 @@ fn told<A: Actions, F: Folder, W: Write>(
 
 /// Prints the answer, and tells whether all of it was taken.
 fn print<W: Write>(alloc: Global, writer: &mut W, answer: &Result<Report, Fault>) -> bool
-    ensures { IsTrue result → Appends (W.contents writer.old) (W.contents writer.new) (answer_text answer.now) }
+    ensures { IsTrue result
+        → Appends (W.contents writer.old) (W.contents writer.new) (answer_text answer.now) }
 {
     let Ok(text) = answer_text(alloc, answer) else {
         return false;
@@ -90,9 +93,11 @@ fn answered<A: Actions, F: Folder>(
     tables: &Tables<A::Stored>,
 ) -> Result<Report, Fault>
     ensures count { F.failures folder.old ≤ F.failures folder.new }
-    ensures elsewhere { IsTrue F.tells → ChangesOnly is_of_build (F.contents folder.old) (F.contents folder.new) }
+    ensures elsewhere { IsTrue F.tells
+        → ChangesOnly is_of_build (F.contents folder.old) (F.contents folder.new) }
     ensures answers { IsTrue F.tells → Answers A.meanings tables.now.actions
-        (F.failures folder.old) (F.contents folder.old) result (F.failures folder.new) (F.contents folder.new) }
+        (F.failures folder.old) (F.contents folder.old) result
+        (F.failures folder.new) (F.contents folder.new) }
 {
     match asked_by(alloc, words) {
         Ok(invocation) => invoke::<A, F>(alloc, folder, tables, &invocation),

@@ -1,6 +1,6 @@
 //! The kinds that the programs offer.
 
-/// The functions of all kinds, each in a box. It is a macro, since a box that is handed out is made by who takes it.
+/// The functions of all kinds, each in a box. It is a macro, since who takes the boxes has to make them.
 #[macro_export]
 macro_rules! builtin_runs {
     ($alloc:expr) => {{

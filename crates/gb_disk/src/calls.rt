@@ -44,7 +44,8 @@ impl<R: Files> Device<R> {
         place: &Place,
         limit: u64,
     ) -> Result<Vec<u8>, FolderFault>
-        ensures at { OnOk result (string_bytes trail.new.path ≡ path_in (string_bytes self.now.base) place.now) }
+        ensures at { OnOk result
+            (string_bytes trail.new.path ≡ path_in (string_bytes self.now.base) place.now) }
         ensures within { IfOk result (λ bytes. length bytes.items ≤ limit) }
         ensures not_named { result ≢ Err FolderFault.BadFileName }
     {
@@ -69,7 +70,8 @@ impl<R: Files> Device<R> {
         at: u64,
         len: u64,
     ) -> Result<Vec<u8>, FolderFault>
-        ensures at { OnOk result (string_bytes trail.new.path ≡ path_in (string_bytes self.now.base) place.now) }
+        ensures at { OnOk result
+            (string_bytes trail.new.path ≡ path_in (string_bytes self.now.base) place.now) }
         ensures within { IfOk result (λ part. length part.items ≤ len) }
         ensures not_large { result ≢ Err FolderFault.TooLarge }
         ensures not_named { result ≢ Err FolderFault.BadFileName }
@@ -90,7 +92,8 @@ impl<R: Files> Device<R> {
         bytes: &[u8],
         limit: u64,
     ) -> Result<(), FolderFault>
-        ensures at { OnOk result (string_bytes trail.new.path ≡ path_in (string_bytes self.now.base) place.now) }
+        ensures at { OnOk result
+            (string_bytes trail.new.path ≡ path_in (string_bytes self.now.base) place.now) }
         ensures within { OnOk result (length bytes.now ≤ limit) }
         ensures large { IsErrOf result FolderFault.TooLarge → limit < length bytes.now }
         ensures not_missing { result ≢ Err FolderFault.Missing }
@@ -111,7 +114,8 @@ impl<R: Files> Device<R> {
 
     /// Takes a file away.
     pub fn remove(&self, trail: &mut Trail, place: &Place) -> Result<(), FolderFault>
-        ensures at { OnOk result (string_bytes trail.new.path ≡ path_in (string_bytes self.now.base) place.now) }
+        ensures at { OnOk result
+            (string_bytes trail.new.path ≡ path_in (string_bytes self.now.base) place.now) }
         ensures not_large { result ≢ Err FolderFault.TooLarge }
         ensures not_named { result ≢ Err FolderFault.BadFileName }
     {
@@ -121,7 +125,8 @@ impl<R: Files> Device<R> {
 
     /// The length of the file at a place, or why none stands there.
     fn file_len(&self, trail: &mut Trail, place: &Place) -> Result<u64, FolderFault>
-        ensures at { OnOk result (string_bytes trail.new.path ≡ path_in (string_bytes self.now.base) place.now) }
+        ensures at { OnOk result
+            (string_bytes trail.new.path ≡ path_in (string_bytes self.now.base) place.now) }
         ensures err { IfErr result
             (λ fault. IsOfMachine fault ⊎ (fault ≡ FolderFault.Missing) ⊎ (fault ≡ FolderFault.Blocked)) }
     {

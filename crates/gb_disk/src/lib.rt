@@ -11,9 +11,9 @@
 //! | beneath it a name that is no part of a place | 14 | 10 | 10 | 10 |
 //! | no permission, a full disk, an error | 10 | 10 | 10 | 10 |
 //!
-//! Each segment of a place is looked at before anything is opened, so that no link is followed out of the folder and
-//! no pipe is waited for. A file that stood is unlinked first, so that another name of it keeps its bytes; a write
-//! that the device stops leaves some of the new bytes or no file.
+//! Each segment of a place is looked at before anything is opened, so that no link is followed out of
+//! the folder and no pipe is waited for. A file that stood is unlinked first, so that another name of
+//! it keeps its bytes; a write that the device stops leaves some of the new bytes or no file.
 #![tactic(auto)]
 
 mod calls;

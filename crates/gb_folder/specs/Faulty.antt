@@ -37,16 +37,17 @@ is_torn (StopTorn bytes) = true
 abbrev pub tears : FaultPlan → Bool
 tears plan = is_torn plan.mode && plan.calls == plan.at
 
--- What a call does: it is counted; one that fails as planned answers the device's fault and leaves the inner folder
--- as it was, but for a write that is torn; any other is the inner folder's.
-pub record CallOf (old : FaultPlan) (fault : Option FolderFault) (new : FaultPlan) (Kept Asked : Type 0) : Type 0 where
+-- What a call does: it is counted; one that fails as planned answers the device's fault and leaves the inner
+-- folder as it was, but for a write that is torn; any other is the inner folder's.
+pub record CallOf (old : FaultPlan) (fault : Option FolderFault) (new : FaultPlan) (Kept Asked : Type 0)
+    : Type 0 where
   pub counted : new ≡ after_call old
   pub fails : IsTrue (fails_next old) → fault ≡ Some Device
   pub kept : IsTrue (fails_next old) → tears new ≡ false → Kept
   pub asked : fails_next old ≡ false → Asked
 
--- what a stopped call may leave at the place: what stood there or what the inner folder leaves, or of a torn write
--- the given bytes or what the inner folder leaves of them
+-- what a stopped call may leave at the place: what stood there or what the inner folder leaves, or of a torn
+-- write the given bytes or what the inner folder leaves of them
 abbrev pub may_leave_by : FaultMode → Tearing → Tearing
 may_leave_by (StopTorn bytes) inner place stood (Some next) left =
     (left ≡ stood) ⊎ (left ≡ Some bytes.items) ⊎ inner place stood (Some next) left

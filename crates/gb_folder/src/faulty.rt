@@ -117,7 +117,8 @@ impl<F: Folder + Drop> Folder for FaultyFolder<F> {
 
     ghost may_leave = { λ f. may_leave_by f.plan.mode (F.may_leave f.inner) };
 
-    ghost called = { λ old fault new. CallOf old.plan fault new.plan (new.inner ≡ old.inner) (F.called old.inner fault new.inner) };
+    ghost called = { λ old fault new. CallOf old.plan fault new.plan
+        (new.inner ≡ old.inner) (F.called old.inner fault new.inner) };
 
     ghost sound = { λ f. F.sound f.inner };
 

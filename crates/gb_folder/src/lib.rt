@@ -4,6 +4,7 @@
 //! every type of folder: where folders of the type tell what they hold, each answer is exact, and
 //! elsewhere, as on a disk, only what holds whatever a device does is promised.
 //! [`MemoryFolder`](memory::MemoryFolder) tells; `proofs/Changes.antt` has lemmas for callers.
+//! [`FaultyFolder`](faulty::FaultyFolder) fails at a chosen call of the folder that it holds.
 //!
 //! [`FileMap`](file_map::FileMap) holds files without being a folder: one may be in the way of another.
 //!
