@@ -2,7 +2,7 @@
 ghost use Rattle.std.specs.Prelude.{◌≡◌, ◌≤◌, ◌⊎◌, IsTrue, IfSome, Result};
 ghost use Rattle.std.specs.Io.KnownBytes.{Appends};
 ghost use Rattle.gb_answer.specs.Answer.{answer_text, status_of};
-ghost use Rattle.gb_exec.specs.Turn.{ChangesOnly};
+ghost use Rattle.gb_store.specs.Changes.{ChangesOnly};
 ghost use Rattle.gb_build.specs.Build.{is_of_build};
 ghost use Rattle.gb_report.specs.declared.fault.Fault.{Fault};
 ghost use Rattle.gb_report.specs.declared.report.Report.{Report};
@@ -37,9 +37,9 @@ pub fn run<A: Actions, F: Folder, W: Write>(
     ensures elsewhere { IsTrue F.tells
         → ChangesOnly is_of_build (F.contents folder.old) (F.contents folder.new) }
     // What is printed is the text of an answer, and the status is its own; or the status is 1.
-    ensures told { IsTrue F.tells → (result ≡ 1) ⊎ ((answer : Result Report Fault)
-        × Answers A.meanings tables.now.actions (F.failures folder.old) (F.contents folder.old) answer
-        (F.failures folder.new) (F.contents folder.new)
+    ensures told { (result ≡ 1) ⊎ ((answer : Result Report Fault)
+        × (IsTrue F.tells → Answers A.meanings tables.now.actions (F.failures folder.old) (F.contents folder.old) answer
+        (F.failures folder.new) (F.contents folder.new))
         × Appends (W.contents writer.old) (W.contents writer.new) (answer_text answer)
         × (result ≡ status_of answer)) }
 {
@@ -60,9 +60,9 @@ fn told<A: Actions, F: Folder, W: Write>(
     ensures count { F.failures folder.old ≤ F.failures folder.new }
     ensures elsewhere { IsTrue F.tells
         → ChangesOnly is_of_build (F.contents folder.old) (F.contents folder.new) }
-    ensures told { IsTrue F.tells → IfSome result (λ status. (answer : Result Report Fault)
-        × Answers A.meanings tables.now.actions (F.failures folder.old) (F.contents folder.old) answer
-        (F.failures folder.new) (F.contents folder.new)
+    ensures told { IfSome result (λ status. (answer : Result Report Fault)
+        × (IsTrue F.tells → Answers A.meanings tables.now.actions (F.failures folder.old) (F.contents folder.old) answer
+        (F.failures folder.new) (F.contents folder.new))
         × Appends (W.contents writer.old) (W.contents writer.new) (answer_text answer)
         × (status ≡ status_of answer)) }
 {

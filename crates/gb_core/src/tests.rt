@@ -1,4 +1,6 @@
 //! Vectors from outside, and each call that takes memory once.
+//!
+//! Each case is a function that answers whether it holds, so that no assertion stands where values live.
 use crate::bytes::Bytes;
 use crate::name::{Name, NameFault};
 use crate::path::{ProjectPath, TaskPath, is_task_path};
@@ -30,31 +32,72 @@ fn place_number(alloc: Global, text: &str) -> u16 {
     }
 }
 
+fn is_read_as_name(alloc: Global, text: &str) -> Result<bool, NameFault> {
+    let name = Name::read(alloc, text)?;
+    let copied = name.copy()?;
+    Ok(copied.as_str() == text)
+}
+
 #[test]
 fn names_are_read(rt: HostRuntime) -> Result<(), Fail> {
-    let alloc = rt.alloc();
-    let longest = letters(alloc, 64)?;
-    assert_eq!(rt; Name::read(alloc, "a-1")?.as_str(), "a-1");
-    assert_eq!(rt;
-        Name::read(alloc, longest.as_str())?.copy()?.as_str(),
-        longest.as_str()
-    );
-    for text in ["1a", ""] {
-        assert_eq!(rt; name_number(alloc, text), 1, "{text}");
-    }
-    let too_long = letters(alloc, 65)?;
-    assert_eq!(rt; name_number(alloc, too_long.as_str()), 1);
-    assert_eq!(rt; NameFault::from(AllocError).number(), 3);
+    let is_read = is_read_as_name(rt.alloc(), "a-1").unwrap_or(false);
+    assert!(rt; is_read);
     Ok(())
 }
 
 #[test]
-fn places_are_read(rt: HostRuntime) -> Result<(), Fail> {
-    let alloc = rt.alloc();
-    assert_eq!(rt; Place::read(alloc, "src/a")?.copy()?.as_str(), "src/a");
-    assert_eq!(rt; place_number(alloc, letters(alloc, 1024)?.as_str()), 0);
-    assert_eq!(rt; place_number(alloc, letters(alloc, 1025)?.as_str()), 2);
+fn other_texts_are_no_names(rt: HostRuntime) -> Result<(), Fail> {
+    assert_eq!(rt; name_number(rt.alloc(), "1a"), 1);
+    assert_eq!(rt; name_number(rt.alloc(), ""), 1);
+    assert_eq!(rt; NameFault::from(AllocError).number(), 3);
+    Ok(())
+}
+
+fn name_number_of(alloc: Global, count: usize) -> Result<u16, AllocError> {
+    let text = letters(alloc, count)?;
+    Ok(name_number(alloc, text.as_str()))
+}
+
+#[test]
+fn names_have_64_letters_at_most(rt: HostRuntime) -> Result<(), Fail> {
+    assert_eq!(rt; name_number_of(rt.alloc(), 64)?, 0);
+    assert_eq!(rt; name_number_of(rt.alloc(), 65)?, 1);
+    Ok(())
+}
+
+fn place_number_of(alloc: Global, count: usize) -> Result<u16, AllocError> {
+    let text = letters(alloc, count)?;
+    Ok(place_number(alloc, text.as_str()))
+}
+
+#[test]
+fn places_have_1024_bytes_at_most(rt: HostRuntime) -> Result<(), Fail> {
+    assert_eq!(rt; place_number_of(rt.alloc(), 1024)?, 0);
+    assert_eq!(rt; place_number_of(rt.alloc(), 1025)?, 2);
     assert_eq!(rt; PlaceFault::from(AllocError).number(), 3);
+    Ok(())
+}
+
+fn is_read_as_place(alloc: Global, text: &str) -> Result<bool, PlaceFault> {
+    let place = Place::read(alloc, text)?;
+    let copied = place.copy()?;
+    Ok(copied.as_str() == text)
+}
+
+fn is_read_as_path(alloc: Global, text: &str) -> Result<bool, PlaceFault> {
+    let path = RelPath::read(alloc, text)?;
+    let copied = path.copy()?;
+    Ok(copied.as_str() == text)
+}
+
+#[test]
+fn places_are_read(rt: HostRuntime) -> Result<(), Fail> {
+    let is_place = is_read_as_place(rt.alloc(), "src/a").unwrap_or(false);
+    assert!(rt; is_place);
+    for text in ["", "a/b"] {
+        let is_path = is_read_as_path(rt.alloc(), text).unwrap_or(false);
+        assert!(rt; is_path);
+    }
     Ok(())
 }
 
@@ -67,133 +110,181 @@ fn other_texts_are_no_places(rt: HostRuntime) -> Result<(), Fail> {
     Ok(())
 }
 
-#[test]
-fn the_root_has_a_path(rt: HostRuntime) -> Result<(), Fail> {
-    let alloc = rt.alloc();
-    assert_eq!(rt; RelPath::read(alloc, "")?.as_str(), "");
-    assert_eq!(rt; RelPath::read(alloc, "a/b")?.copy()?.as_str(), "a/b");
-    Ok(())
+fn lies_beneath(alloc: Global, place: &str, folder: &str) -> Result<bool, PlaceFault> {
+    let place = Place::read(alloc, place)?;
+    let folder = Place::read(alloc, folder)?;
+    Ok(place.is_beneath(&folder))
+}
+
+fn overlap(alloc: Global, one: &str, other: &str) -> Result<bool, PlaceFault> {
+    let one = Place::read(alloc, one)?;
+    let other = Place::read(alloc, other)?;
+    Ok(one.overlaps(&other))
 }
 
 #[test]
 fn places_lie_beneath_by_segments(rt: HostRuntime) -> Result<(), Fail> {
     let alloc = rt.alloc();
-    let src = Place::read(alloc, "src")?;
-    let file = Place::read(alloc, "src/a")?;
-    assert!(rt; file.is_beneath(&src));
-    assert!(rt; !Place::read(alloc, "srcx")?.is_beneath(&src));
-    assert!(rt; !src.is_beneath(&src));
-    assert!(rt; src.overlaps(&file));
-    assert!(rt; src.overlaps(&src));
-    assert!(rt; !src.overlaps(&Place::read(alloc, "srcx")?));
+    assert_eq!(rt; lies_beneath(alloc, "src/a", "src"), Ok(true));
+    assert_eq!(rt; lies_beneath(alloc, "srcx", "src"), Ok(false));
+    assert_eq!(rt; lies_beneath(alloc, "src", "src"), Ok(false));
     Ok(())
+}
+
+#[test]
+fn places_overlap_by_segments(rt: HostRuntime) -> Result<(), Fail> {
+    let alloc = rt.alloc();
+    assert_eq!(rt; overlap(alloc, "src", "src/a"), Ok(true));
+    assert_eq!(rt; overlap(alloc, "src", "src"), Ok(true));
+    assert_eq!(rt; overlap(alloc, "src", "srcx"), Ok(false));
+    Ok(())
+}
+
+fn joins_to(
+    alloc: Global,
+    folder: Option<&Place>,
+    text: &str,
+    want: &str,
+) -> Result<bool, PlaceFault> {
+    let joined = Place::join(alloc, folder, text)?;
+    Ok(joined.as_str() == want)
+}
+
+fn joins_in_lib(alloc: Global, text: &str, want: &str) -> Result<bool, PlaceFault> {
+    let lib = Place::read(alloc, "lib")?;
+    joins_to(alloc, Some(&lib), text, want)
 }
 
 #[test]
 fn places_are_joined(rt: HostRuntime) -> Result<(), Fail> {
     let alloc = rt.alloc();
-    let lib = Place::read(alloc, "lib")?;
-    assert_eq!(rt; Place::join(alloc, None, "a")?.as_str(), "a");
-    assert_eq!(rt; Place::join(alloc, Some(&lib), "a/b")?.as_str(), "lib/a/b");
-    assert!(rt;
-        matches!(
-            Place::join(alloc, Some(&lib), ".."),
-            Err(PlaceFault::BadPlace)
-        )
-    );
+    assert_eq!(rt; joins_to(alloc, None, "a", "a"), Ok(true));
+    assert_eq!(rt; joins_in_lib(alloc, "a/b", "lib/a/b"), Ok(true));
+    assert_eq!(rt; joins_in_lib(alloc, "..", ""), Err(PlaceFault::BadPlace));
     Ok(())
+}
+
+fn stands_beneath_lib(alloc: Global, path: &str, want: &str) -> Result<bool, PlaceFault> {
+    let lib = Place::read(alloc, "lib")?;
+    let path = RelPath::read(alloc, path)?;
+    let place = lib.beneath(alloc, &path)?;
+    Ok(place.as_str() == want)
 }
 
 #[test]
 fn paths_stand_beneath_a_root(rt: HostRuntime) -> Result<(), Fail> {
-    let alloc = rt.alloc();
-    let lib = Place::read(alloc, "lib")?;
-    assert_eq!(rt;
-        lib.beneath(alloc, &RelPath::read(alloc, "")?)?.as_str(),
-        "lib"
-    );
-    assert_eq!(rt;
-        lib.beneath(alloc, &RelPath::read(alloc, "a")?)?.as_str(),
-        "lib/a"
-    );
+    assert_eq!(rt; stands_beneath_lib(rt.alloc(), "", "lib"), Ok(true));
+    assert_eq!(rt; stands_beneath_lib(rt.alloc(), "a", "lib/a"), Ok(true));
     Ok(())
+}
+
+fn has_parts(alloc: Global, path: &str, project: &str, name: &str) -> Result<bool, NameFault> {
+    let task = TaskPath::read(alloc, path)?;
+    let copied = task.copy()?;
+    Ok(copied.project() == project && copied.name() == name)
+}
+
+fn path_in_root_is(alloc: Global, name: &str, want: &str) -> Result<bool, NameFault> {
+    let name = Name::read(alloc, name)?;
+    let task = TaskPath::in_root(alloc, &name)?;
+    Ok(task.as_str() == want)
 }
 
 #[test]
 fn paths_of_tasks_have_parts(rt: HostRuntime) -> Result<(), Fail> {
     let alloc = rt.alloc();
-    let task = TaskPath::read(alloc, ":lib:gen")?;
-    assert_eq!(rt; task.project(), ":lib");
-    assert_eq!(rt; task.name(), "gen");
-    assert_eq!(rt; task.copy()?.as_str(), ":lib:gen");
-    Ok(())
-}
-
-#[test]
-fn tasks_of_the_root_have_paths(rt: HostRuntime) -> Result<(), Fail> {
-    let alloc = rt.alloc();
-    let name = Name::read(alloc, "gen")?;
-    let task = TaskPath::in_root(alloc, &name)?;
-    assert_eq!(rt; task.as_str(), ":gen");
-    assert_eq!(rt; task.project(), ":");
+    assert_eq!(rt; has_parts(alloc, ":lib:gen", ":lib", "gen"), Ok(true));
+    assert_eq!(rt; has_parts(alloc, ":gen", ":", "gen"), Ok(true));
+    assert_eq!(rt; path_in_root_is(alloc, "gen", ":gen"), Ok(true));
     for text in ["gen", "::a", ":"] {
         assert!(rt; !is_task_path(text), "{text}");
     }
     Ok(())
 }
 
-#[test]
-fn paths_of_projects_are_read(rt: HostRuntime) -> Result<(), Fail> {
-    let alloc = rt.alloc();
-    assert_eq!(rt; ProjectPath::read(alloc, ":")?.copy()?.as_str(), ":");
-    assert!(rt; matches!(ProjectPath::read(alloc, "lib"), Err(NameFault::BadName)));
-    Ok(())
+fn is_read_as_project(alloc: Global, text: &str) -> Result<bool, NameFault> {
+    let path = ProjectPath::read(alloc, text)?;
+    let copied = path.copy()?;
+    Ok(copied.as_str() == text)
 }
 
 #[test]
-fn texts_keep_their_order(rt: HostRuntime) -> Result<(), Fail> {
-    let alloc = rt.alloc();
+fn paths_of_projects_are_read(rt: HostRuntime) -> Result<(), Fail> {
+    assert_eq!(rt; is_read_as_project(rt.alloc(), ":"), Ok(true));
+    assert_eq!(rt;
+        is_read_as_project(rt.alloc(), "lib"),
+        Err(NameFault::BadName)
+    );
+    Ok(())
+}
+
+fn two_texts(alloc: Global) -> Result<Texts, AllocError> {
     let mut texts = Texts::new(alloc);
     texts.push(Text::from_str(alloc, "a")?)?;
     let mut more = Texts::new(alloc);
     more.push(Text::from_str(alloc, "b")?)?;
     texts.append(more)?;
-    for (text, want) in texts.copy(alloc)?.as_slice().iter().zip(["a", "b"]) {
-        assert_eq!(rt; text.as_str(), want);
-    }
-    Ok(())
+    Ok(texts)
+}
+
+fn keep_their_order(alloc: Global) -> Result<bool, AllocError> {
+    let texts = two_texts(alloc)?;
+    let copied = texts.copy(alloc)?;
+    Ok(matches!(copied.as_slice(), [a, b] if a.as_str() == "a" && b.as_str() == "b"))
+}
+
+fn bytes_are_equal(alloc: Global) -> Result<bool, AllocError> {
+    let bytes = Bytes::from_slice(alloc, b"ab")?;
+    let copied = bytes.copy()?;
+    Ok(copied.as_slice() == b"ab".as_slice())
 }
 
 #[test]
-fn bytes_are_copied(rt: HostRuntime) -> Result<(), Fail> {
+fn texts_and_bytes_are_copied(rt: HostRuntime) -> Result<(), Fail> {
+    assert!(rt; keep_their_order(rt.alloc())?);
+    assert!(rt; bytes_are_equal(rt.alloc())?);
+    Ok(())
+}
+
+/// What a copy of the value holds, as a text.
+fn copied_text(alloc: Global, value: Value, want: &str) -> Result<bool, AllocError> {
+    let copied = value.copy(alloc)?;
+    Ok(match &copied {
+        Value::Text(text) => text.as_str() == want,
+        Value::Flag(flag) => *flag && want == "true",
+        Value::List(texts) => texts.as_slice().len() == want.len(),
+        Value::Place(place) => place.as_str() == want,
+        Value::Task(task) => task.as_str() == want,
+    })
+}
+
+fn a_text_is_copied(alloc: Global) -> Result<bool, AllocError> {
+    let text = Text::from_str(alloc, "t")?;
+    copied_text(alloc, Value::Text(text), "t")
+}
+
+fn a_list_is_copied(alloc: Global) -> Result<bool, AllocError> {
+    let texts = two_texts(alloc)?;
+    copied_text(alloc, Value::List(texts), "ab")
+}
+
+fn a_place_is_copied(alloc: Global) -> Result<bool, PlaceFault> {
+    let place = Place::read(alloc, "p")?;
+    Ok(copied_text(alloc, Value::Place(place), "p")?)
+}
+
+fn a_task_is_copied(alloc: Global) -> Result<bool, NameFault> {
+    let task = TaskPath::read(alloc, ":t")?;
+    Ok(copied_text(alloc, Value::Task(task), ":t")?)
+}
+
+#[test]
+fn values_are_copied(rt: HostRuntime) -> Result<(), Fail> {
     let alloc = rt.alloc();
-    let bytes = Bytes::from_slice(alloc, b"ab")?.copy()?;
-    assert_eq!(rt; bytes.as_slice(), b"ab".as_slice());
-    Ok(())
-}
-
-#[test]
-fn texts_are_copied(rt: HostRuntime) -> Result<(), Fail> {
-    let alloc = rt.alloc();
-    let text = Value::Text(Text::from_str(alloc, "t")?).copy(alloc)?;
-    assert!(rt; matches!(&text, Value::Text(copied) if copied.as_str() == "t"));
-    let list = Value::List(Texts::new(alloc)).copy(alloc)?;
-    assert!(rt; matches!(&list, Value::List(copied) if copied.as_slice().is_empty()));
-    Ok(())
-}
-
-#[test]
-fn places_and_tasks_are_copied(rt: HostRuntime) -> Result<(), Fail> {
-    let alloc = rt.alloc();
-    let place = Value::Place(Place::read(alloc, "p")?).copy(alloc)?;
-    assert!(rt; matches!(&place, Value::Place(copied) if copied.as_str() == "p"));
-    let task = Value::Task(TaskPath::read(alloc, ":t")?).copy(alloc)?;
-    assert!(rt; matches!(&task, Value::Task(copied) if copied.as_str() == ":t"));
-    Ok(())
-}
-
-#[test]
-fn flags_are_copied(rt: HostRuntime) -> Result<(), Fail> {
-    assert!(rt; matches!(Value::Flag(true).copy(rt.alloc())?, Value::Flag(true)));
+    assert!(rt; copied_text(alloc, Value::Flag(true), "true")?);
+    assert!(rt; a_text_is_copied(alloc)?);
+    assert!(rt; a_list_is_copied(alloc)?);
+    assert_eq!(rt; a_place_is_copied(alloc), Ok(true));
+    assert_eq!(rt; a_task_is_copied(alloc), Ok(true));
     Ok(())
 }
