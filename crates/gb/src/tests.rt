@@ -207,10 +207,10 @@ fn words_that_ask_for_a_build(rt: HostRuntime) -> Result<(), Fail> {
     assert_eq!(rt; asked(alloc, "run -- gen")?.as_str(), DONE);
     assert_eq!(rt; asked(alloc, "status gen")?.as_str(), "0");
     assert_eq!(rt;
-        asked(alloc, "run -P1=x gen")?.as_str(),
+        asked(alloc, "run -P9=x gen")?.as_str(),
         "REFUSED 1 bad name 1\nBUILD FAILED\n"
     );
-    assert_eq!(rt; asked(alloc, "status -P1=x gen")?.as_str(), "1");
+    assert_eq!(rt; asked(alloc, "status -P9=x gen")?.as_str(), "1");
     assert_eq!(rt; asked(alloc, "status odd")?.as_str(), "1");
     assert_eq!(rt; asked(alloc, "status")?.as_str(), "1");
     Ok(())
