@@ -1,9 +1,9 @@
-//! Times the crates below it: does one job in memory, which its first argument names, and checks
+//! Times the crates below it: does one job, which its first argument names, in memory or over a disk, and checks
 //! what comes of it.
 //!
 //! The status is 0 where the check holds, 1 where it does not, and 2 where no job has the name. The
 //! second argument is the size of the job, and the third how often a kind is asked, or the last
-//! property read again.
+//! property read again; for the job `disk` it is a folder, in whose `src` so many files stand.
 #![tactic(auto)]
 
 use crate::job::run;
@@ -30,8 +30,12 @@ fn main(rt: HostRuntime) -> Result<ExitCode, Stop> {
         return Ok(ExitCode::from(2));
     };
     let count = number(words.next());
-    let times = number(words.next());
-    Ok(ExitCode::from(status(run(alloc, job.as_str(), count, times))))
+    let last = words.next();
+    let outcome = match job.as_str() {
+        "disk" => trees::on_disk(&rt, count, last),
+        _ => run(alloc, job.as_str(), count, number(last)),
+    };
+    Ok(ExitCode::from(status(outcome)))
 }
 
 fn number(word: Option<String>) -> Option<usize> {

@@ -2,6 +2,7 @@
 use crate::stop::Stop;
 use gb_core::name::Name;
 use gb_core::place::Place;
+use gb_disk::disk::DiskFolder;
 use gb_folder::folder::Folder;
 use gb_folder::memory::MemoryFolder;
 use gb_tree::prints::Prints;
@@ -32,6 +33,16 @@ pub fn sums(alloc: Global, count: usize) -> Result<bool, Stop> {
         bytes.push(b'x')?;
     }
     are_prints(alloc, count, bytes.as_slice(), &OF_MANY)
+}
+
+/// The prints of the files beneath `src` of a folder on the disk, of which there are so many.
+pub fn on_disk(rt: &HostRuntime, count: Option<usize>, base: Option<String>) -> Result<bool, Stop> {
+    let (Some(count), Some(base)) = (count, base) else {
+        return Err(Stop::UnknownJob);
+    };
+    let mut folder = DiskFolder::new(rt, base);
+    let prints = all_prints(rt.alloc(), &mut folder)?;
+    Ok(prints.as_slice().len() == count)
 }
 
 /// Whether so many files that hold these bytes have this digest.
