@@ -3,3 +3,4 @@ pub mod Plain
 pub mod Faults
 pub mod Words
 pub mod Declaration
+pub mod Unwritten

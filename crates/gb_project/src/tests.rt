@@ -36,6 +36,10 @@ impl Actions for Writers {
 
     ghost meanings = { record { kind = λ stored. 0; version = λ stored. 1; shape = λ kind. record { args = Line ∷ []; src = false; out = Some File; incremental = false }; makes = λ kind args values trees. Ok []; prints = λ kind args values trees changes. [] } };
 
+    ghost use Rattle.gb_project.specs.Unwritten.{unwritten};
+
+    ghost own_output = { λ kind arguments values trees written made. unwritten written made };
+
     fn shape_of(stored: &Writer) -> &Shape {
         &stored.shape
     }
