@@ -22,11 +22,13 @@ pub enum Fault {
     /// A file stands at a folder of the place, or beneath it.
     Blocked(Place),
     TooLarge(Place),
-    /// The root that was listed.
+    /// The root that was listed: beneath it stands what no place can name, or what is neither a file
+    /// nor a folder.
     BadFileName(Place),
     /// The script, and the line.
     Syntax(Place, u64),
     TooLong(Place),
+    /// The script, and the line of a bracket inside of 64 others or of a step behind 64 others.
     TooDeep(Place, u64),
     NotUtf8(Place),
     UnknownAction(Name),

@@ -14,7 +14,7 @@ pub enum ScriptFault {
     /// More than 1 MiB.
     #[error("too long")]
     TooLong,
-    /// The line of a bracket inside of 64 others.
+    /// The line of a bracket inside of 64 others, or of a step behind 64 others.
     #[error("too deep in line {0}")]
     TooDeep(u64),
     #[error("not UTF-8")]
