@@ -208,7 +208,7 @@ fn words_that_ask_for_a_build(rt: HostRuntime) -> Result<(), Fail> {
     assert_eq!(rt; asked(alloc, "status gen")?.as_str(), "0");
     assert_eq!(rt;
         asked(alloc, "run -P9=x gen")?.as_str(),
-        "REFUSED 1 bad name 1\nBUILD FAILED\n"
+        "REFUSED 1 bad name 9\nBUILD FAILED\n"
     );
     assert_eq!(rt; asked(alloc, "status -P9=x gen")?.as_str(), "1");
     assert_eq!(rt; asked(alloc, "status odd")?.as_str(), "1");
