@@ -3,7 +3,7 @@ use Rattle.std.specs.Prelude.{ℕ, ◌≡◌, ◌⊎◌, List, Result, Err}
 use Rattle.gb_action.specs.Meanings.{Meanings}
 use Rattle.gb_build.specs.Build.{Invokes}
 use Rattle.gb_folder.specs.Files.{Contents}
-use Rattle.gb_project.specs.Task.{Rows}
+use Rattle.gb_plain.specs.Task.{Rows}
 use Rattle.gb_report.specs.declared.fault.Fault.{Fault}
 use Rattle.gb_report.specs.declared.report.Report.{Report}
 

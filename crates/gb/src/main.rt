@@ -11,7 +11,7 @@ use gb_answer::builtin_runs;
 use gb_disk::disk::DiskFolder;
 use gb_kinds::builtin::Builtin;
 use gb_kinds::table::builtin_table;
-use gb_project::tables::Tables;
+use gb_plain::tables::Tables;
 use gb_report::fault::Fault;
 use std::alloc::Global;
 use std::env;
@@ -24,10 +24,12 @@ mod tests;
 mod words;
 
 fn main(rt: HostRuntime) -> ExitCode {
-    let status = match built(&rt) {
-        Ok(status) => status,
+    let answer = built(&rt);
+    let status = match &answer {
+        Ok(status) => *status,
         Err(_) => UNPRINTED,
     };
+    drop(answer);
     ExitCode::from(status)
 }
 

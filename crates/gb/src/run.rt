@@ -14,7 +14,7 @@ use gb_answer::answer::{answer_text, status_of};
 use gb_build::invocation::Invocation;
 use gb_build::invoke::invoke;
 use gb_folder::folder::Folder;
-use gb_project::tables::Tables;
+use gb_plain::tables::Tables;
 use gb_report::fault::Fault;
 use gb_report::report::Report;
 use std::alloc::Global;
@@ -68,10 +68,9 @@ fn told<A: Actions, F: Folder, W: Write>(
 {
     let answer = answered::<A, F>(alloc, folder, words, tables);
     let status = status_of(&answer);
-    match print(alloc, writer, &answer) {
-        true => Some(status),
-        false => None,
-    }
+    let printed = print(alloc, writer, &answer);
+    drop(answer);
+    printed.then_some(status)
 }
 
 /// Prints the answer, and tells whether all of it was taken.

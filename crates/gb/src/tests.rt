@@ -9,7 +9,7 @@ use gb_folder::memory::MemoryFolder;
 use gb_kinds::builtin::{Builtin, Run, StoredAction};
 use gb_kinds::table::add_text_kinds;
 use gb_kinds::texts::{fail, print_line, write_text};
-use gb_project::tables::Tables;
+use gb_plain::tables::Tables;
 use std::alloc::Global;
 use std::fs;
 use std::io::{self, ErrorKind, Write};

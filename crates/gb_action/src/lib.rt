@@ -23,6 +23,4 @@ pub mod run;
 pub mod shape;
 pub mod snapshot;
 pub mod table;
-#[cfg(test)]
-mod tests;
 pub mod values;

@@ -1,6 +1,7 @@
 //! The jobs by name.
+use crate::plans::{Shape, plans};
 use crate::stop::Stop;
-use crate::{kinds, properties, trees};
+use crate::{kinds, properties, records, trees};
 use gb_core::name::Name;
 use gb_kinds::builtin::{Builtin, Run, StoredAction};
 use gb_kinds::files::{copy_files, replace_tokens, sums, word_index};
@@ -36,6 +37,26 @@ pub fn run(
         "outputs" => outputs(alloc, count.unwrap_or(1024)),
         "prints" => trees::prints(alloc, count.unwrap_or(65_536)),
         "sums" => trees::sums(alloc, count.unwrap_or(1000)),
+        _ => run_on_tasks(alloc, job, count, times),
+    }
+}
+
+/// Does the job over records or plans.
+fn run_on_tasks(
+    alloc: Global,
+    job: &str,
+    count: Option<usize>,
+    times: Option<usize>,
+) -> Result<bool, Stop> {
+    match job {
+        "records_put" => records::records_put(alloc, count.unwrap_or(4096)),
+        "records" => records::records(alloc, count.unwrap_or(4096)),
+        "record_put" => records::record_put(alloc, count.unwrap_or(65_536)),
+        "record_json" => records::record_json(alloc, count.unwrap_or(65_536)),
+        "record" => records::record(alloc, count.unwrap_or(65_536)),
+        "plan_chain" => plans(alloc, Shape::Chain, count.unwrap_or(4096)),
+        "plan_fan" => plans(alloc, Shape::Fan, count.unwrap_or(4096)),
+        "plan_needs" => plans(alloc, Shape::Needs, count.unwrap_or(4096)),
         _ => run_kind(alloc, job, count, times.unwrap_or(1)),
     }
 }

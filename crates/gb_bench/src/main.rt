@@ -16,7 +16,9 @@ mod asking;
 mod contents;
 mod job;
 mod kinds;
+mod plans;
 mod properties;
+mod records;
 mod stop;
 #[cfg(test)]
 mod tests;

@@ -3,7 +3,9 @@ use gb_action::reply::ActionFault;
 use gb_core::name::NameFault;
 use gb_core::place::PlaceFault;
 use gb_folder::folder::FolderFault;
+use gb_history::fault::RecordFault;
 use gb_provider::fault::{Final, ProviderFault, StepFault, TableFault};
+use gb_records::fault::Unwritten;
 use gb_tree::fault::TreeFault;
 use std::alloc::{AllocError, AllocFailed};
 use std::io;
@@ -89,6 +91,24 @@ impl From<Final> for Stop {
 
 impl From<ActionFault> for Stop {
     fn from(_fault: ActionFault) -> Stop {
+        Stop::Refused
+    }
+}
+
+impl From<RecordFault> for Stop {
+    fn from(_fault: RecordFault) -> Stop {
+        Stop::Refused
+    }
+}
+
+impl From<Unwritten> for Stop {
+    fn from(_fault: Unwritten) -> Stop {
+        Stop::Refused
+    }
+}
+
+impl From<serde_json::Error> for Stop {
+    fn from(_error: serde_json::Error) -> Stop {
         Stop::Refused
     }
 }

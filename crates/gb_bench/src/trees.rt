@@ -58,7 +58,12 @@ fn have_digest(prints: &Prints, digest: &[u8; 32]) -> bool {
 }
 
 /// Puts so many files that hold these bytes beneath `src`.
-fn fill<F: Folder>(alloc: Global, folder: &mut F, count: usize, bytes: &[u8]) -> Result<(), Stop> {
+pub fn fill<F: Folder>(
+    alloc: Global,
+    folder: &mut F,
+    count: usize,
+    bytes: &[u8],
+) -> Result<(), Stop> {
     for number in 0..count {
         let place = format!(in alloc; "src/f{number}")?;
         folder.write(&Place::read(alloc, place.as_str())?, bytes, u64::MAX)?;
@@ -67,7 +72,7 @@ fn fill<F: Folder>(alloc: Global, folder: &mut F, count: usize, bytes: &[u8]) ->
 }
 
 /// The prints of all files beneath `src`.
-fn all_prints<F: Folder>(alloc: Global, folder: &mut F) -> Result<Prints, Stop> {
+pub fn all_prints<F: Folder>(alloc: Global, folder: &mut F) -> Result<Prints, Stop> {
     let name = Name::read(alloc, "src")?;
     let root = Place::read(alloc, "src")?;
     Ok(prints_of(alloc, folder, &name, Naming::Relative, &[root], &[], &[])?)

@@ -10,16 +10,16 @@ use Rattle.gb_core.specs.Lists.{byte_order}
 use Rattle.gb_action.specs.Meanings.{Meanings}
 use Rattle.gb_report.specs.declared.fault.Fault.{Fault}
 use Rattle.gb_report.specs.declared.fault.Fault.TheVariants as faults
-use Rattle.gb_project.specs.declared.plain.Call.{Call}
-use Rattle.gb_project.specs.declared.plain.Clause.{Clause}
-use Rattle.gb_project.specs.declared.plain.Clause.TheVariants.{DoFirst, DoLast, OutputFile}
-use Rattle.gb_project.specs.declared.plain.Registration.{Registration}
-use Rattle.gb_project.specs.declared.plain.Statement.{Statement}
-use Rattle.gb_project.specs.Declaration.{call_faults, main_faults, clause_faults, statement_faults, is_misshapen, shape_faults, is_built, outside_faults, is_bad_argument, fit_of, argument_faults, task_faults, task_of, declaration_faults}
+use Rattle.gb_plain.specs.declared.plain.Call.{Call}
+use Rattle.gb_plain.specs.declared.plain.Clause.{Clause}
+use Rattle.gb_plain.specs.declared.plain.Clause.TheVariants.{DoFirst, DoLast, OutputFile}
+use Rattle.gb_plain.specs.declared.plain.Registration.{Registration}
+use Rattle.gb_plain.specs.declared.plain.Statement.{Statement}
+use Rattle.gb_plain.specs.Declaration.{call_faults, main_faults, clause_faults, statement_faults, is_misshapen, shape_faults, is_built, outside_faults, is_bad_argument, fit_of, argument_faults, task_faults, task_of, declaration_faults}
 use Rattle.gb_core.specs.Lists.{first_of}
-use Rattle.gb_project.specs.Task.{Rows, seen_outputs}
-use Rattle.gb_project.specs.Words.{absolute, task_named, word_faults, words_faults, found_unless, selected}
-use Rattle.gb_project.specs.declared.task.Output.{Output}
+use Rattle.gb_plain.specs.Task.{Rows, seen_outputs}
+use Rattle.gb_plain.specs.Words.{absolute, task_named, word_faults, words_faults, found_unless, selected}
+use Rattle.gb_plain.specs.declared.task.Output.{Output}
 use Rattle.gb_build.specs.Blame.{is_of_device, HasFailed, times_blamed_by}
 
 abbrev AreBlameless : List Fault → Type 0

@@ -2,7 +2,7 @@
 use Rattle.std.proofs.Common.{arith, ◌≡◌, ◌≤◌, ◌+◌, ℕ, List, [], ◌∷◌, ◌++◌, refl, sym, subst, inl, inr}
 use Rattle.gb_action.specs.Meanings.{Meanings}
 use Rattle.gb_folder.specs.Files.{Contents, SameTearing, Tearing}
-use Rattle.gb_project.specs.Task.{Rows}
+use Rattle.gb_plain.specs.Task.{Rows}
 use Rattle.gb_build.specs.Blame.{HasFailed}
 use Rattle.gb_build.specs.Events.{Answered, EventsHold, Step, times_blamed, times_blamed_in_all}
 use Rattle.gb_build.specs.declared.events.Event.{Event}

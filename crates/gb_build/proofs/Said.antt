@@ -4,7 +4,7 @@ use Rattle.gb_folder.specs.Files.{Place, Bytes, Files, IsFolder, file_at}
 use Rattle.gb_report.specs.declared.fault.Fault.{Fault}
 use Rattle.gb_report.specs.declared.fault.Fault.TheVariants as faults
 use Rattle.gb_script.specs.declared.fault.ScriptFault.TheVariants as scripts
-use Rattle.gb_project.specs.declared.plain.Statement.{Statement}
+use Rattle.gb_plain.specs.declared.plain.Statement.{Statement}
 use Rattle.gb_store.proofs.Emptied.{free_at}
 use Rattle.gb_build.specs.Scripts.{FileSays, ScriptSays, script_place}
 

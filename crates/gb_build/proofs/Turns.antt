@@ -11,12 +11,12 @@ use Rattle.gb_report.specs.declared.report.Outcome.{Outcome}
 use Rattle.gb_report.specs.declared.report.Outcome.TheVariants as outcomes
 use Rattle.gb_report.specs.declared.report.Report.{Report}
 use Rattle.gb_report.specs.declared.report.TaskReport.{TaskReport}
-use Rattle.gb_project.specs.declared.plain.Registration.{Registration}
-use Rattle.gb_project.specs.Declaration.{argument_faults, declaration_faults, lacks_actions, outside_faults, is_misshapen, shape_faults, statement_faults, task_faults, task_of}
-use Rattle.gb_project.specs.Task.{Rows, seen_outputs}
-use Rattle.gb_project.specs.declared.task.Action.{Action}
-use Rattle.gb_project.specs.declared.task.Output.{Output}
-use Rattle.gb_project.specs.declared.task.TaskDeclaration.{TaskDeclaration}
+use Rattle.gb_plain.specs.declared.plain.Registration.{Registration}
+use Rattle.gb_plain.specs.Declaration.{argument_faults, declaration_faults, lacks_actions, outside_faults, is_misshapen, shape_faults, statement_faults, task_faults, task_of}
+use Rattle.gb_plain.specs.Task.{Rows, seen_outputs}
+use Rattle.gb_plain.specs.declared.task.Action.{Action}
+use Rattle.gb_plain.specs.declared.task.Output.{Output}
+use Rattle.gb_plain.specs.declared.task.TaskDeclaration.{TaskDeclaration}
 use Rattle.gb_store.specs.Faults.{IsOfMachine}
 use Rattle.gb_store.proofs.Machine.{at_err, machine_before}
 use Rattle.gb_exec.specs.Kinds.{Kinds}

@@ -6,8 +6,8 @@ use Rattle.std.specs.List.{list_all, starts_with}
 use Rattle.std.specs.Prelude.{bytes_eq, codes}
 use Rattle.gb_core.specs.Place.{is_beneath, is_under}
 use Rattle.gb_folder.specs.Files.{Place, Files, Contents, files_where}
-use Rattle.gb_project.specs.Declaration.{is_built}
-use Rattle.gb_project.specs.declared.task.Output.{Output}
+use Rattle.gb_plain.specs.Declaration.{is_built}
+use Rattle.gb_plain.specs.declared.task.Output.{Output}
 use Rattle.gb_exec.specs.Making.{is_output_at}
 use Rattle.gb_store.specs.Changes.{ChangesOnly}
 use Rattle.gb_build.specs.Build.{is_of_build}

@@ -8,13 +8,13 @@ use Rattle.gb_report.specs.declared.fault.Fault.{Fault}
 use Rattle.gb_report.specs.declared.fault.Fault.TheVariants as faults
 use Rattle.gb_report.specs.declared.report.Report.{Report}
 use Rattle.gb_report.specs.declared.report.TaskReport.{TaskReport}
-use Rattle.gb_project.specs.declared.plain.Registration.{Registration}
-use Rattle.gb_project.specs.declared.plain.Statement.{Statement}
+use Rattle.gb_plain.specs.declared.plain.Registration.{Registration}
+use Rattle.gb_plain.specs.declared.plain.Statement.{Statement}
 use Rattle.gb_action.specs.Meanings.{Meanings}
-use Rattle.gb_project.specs.Task.{Rows}
-use Rattle.gb_project.specs.Declaration.{declaration_faults, task_of}
+use Rattle.gb_plain.specs.Task.{Rows}
+use Rattle.gb_plain.specs.Declaration.{declaration_faults, task_of}
 use Rattle.gb_core.specs.Lists.{first_of}
-use Rattle.gb_project.specs.Words.{selected}
+use Rattle.gb_plain.specs.Words.{selected}
 use Rattle.gb_exec.specs.Kinds.{kinds_of}
 use Rattle.gb_exec.specs.Scratch.{from_scratch}
 use Rattle.gb_store.specs.Faults.{IsOfMachine}

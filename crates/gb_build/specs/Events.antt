@@ -2,7 +2,7 @@
 use Rattle.std.specs.Prelude.{ℕ, ◌≡◌, ◌≤◌, ◌+◌, Bool, cond, List, [], ◌∷◌, Result, Ok, Err}
 use Rattle.gb_action.specs.Meanings.{Meanings}
 use Rattle.gb_folder.specs.Files.{Place, Contents, Tearing, is_own}
-use Rattle.gb_project.specs.Task.{Rows}
+use Rattle.gb_plain.specs.Task.{Rows}
 use Rattle.gb_report.specs.declared.fault.Fault.{Fault}
 use Rattle.gb_report.specs.declared.report.Report.{Report}
 use Rattle.gb_store.specs.Changes.{ChangesOnly, is_at}

@@ -8,8 +8,8 @@ use Rattle.gb_script.specs.Script.{Says, Spells}
 use Rattle.gb_script.specs.declared.fault.ScriptFault.{ScriptFault}
 use Rattle.gb_script.specs.declared.fault.ScriptFault.TheVariants as scripts
 use Rattle.gb_script.specs.declared.script.Statement as written
-use Rattle.gb_project.specs.Plain.{plain_of}
-use Rattle.gb_project.specs.declared.plain.Statement.{Statement}
+use Rattle.gb_plain.specs.Plain.{plain_of}
+use Rattle.gb_plain.specs.declared.plain.Statement.{Statement}
 
 -- where the script stands
 abbrev pub script_place : Place

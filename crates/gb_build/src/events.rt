@@ -11,7 +11,7 @@ use gb_action::actions::Actions;
 use gb_core::bytes::Bytes;
 use gb_core::place::Place;
 use gb_folder::folder::Folder;
-use gb_project::tables::Tables;
+use gb_plain::tables::Tables;
 use gb_report::fault::Fault;
 use gb_report::report::Report;
 use std::alloc::{AllocError, Global};

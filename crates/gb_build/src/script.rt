@@ -10,7 +10,7 @@ ghost use Rattle.gb_build.specs.Scripts.{IsFaultOf, ScriptSays, SpellsPlain, las
 
 use gb_core::place::Place;
 use gb_folder::folder::{Folder, FolderFault};
-use gb_project::plain::{Script, read_plain};
+use gb_plain::plain::{Script, read_plain};
 use gb_report::fault::Fault;
 use gb_script::fault::ScriptFault;
 use gb_script::{MAX_SCRIPT, read_script, script};

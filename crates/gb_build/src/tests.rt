@@ -15,12 +15,18 @@ fn words(alloc: Global, texts: &[&str]) -> Result<Vec<String>, Fail> {
     Ok(words)
 }
 
+fn number_of(fault: Fault) -> u16 {
+    let number = fault.number();
+    drop(fault);
+    number
+}
+
 #[test]
 fn options_are_refused(rt: HostRuntime) -> Result<(), Fail> {
     let alloc = rt.alloc();
     let read = Invocation::read(alloc, words(alloc, &["gen", "--nope"])?);
     assert_eq!(rt;
-        read.map(|_read| 0).map_err(|fault| fault.number()),
+        read.map(|_read| 0).map_err(|fault| number_of(fault)),
         Err(96)
     );
     let read = Invocation::read(alloc, words(alloc, &["gen", ":t"])?)?;

@@ -5,3 +5,4 @@ pub mod TaskPaths
 pub mod Splits
 pub mod Parts
 pub mod Found
+pub mod Ordered

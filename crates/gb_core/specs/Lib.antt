@@ -4,3 +4,4 @@ pub mod Place
 pub mod Path
 pub mod Laws
 pub mod Lists
+pub mod Tasks

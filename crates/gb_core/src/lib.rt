@@ -10,7 +10,6 @@ pub mod laws;
 pub mod name;
 pub mod path;
 pub mod place;
-#[cfg(test)]
-mod tests;
+pub mod tasks;
 pub mod text;
 pub mod value;

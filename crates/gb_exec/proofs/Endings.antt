@@ -1,7 +1,7 @@
 -- Runs of actions, one action more at a time.
 use Rattle.std.proofs.Common.{◌≡◌, List, [], ◌∷◌, ◌++◌, length, Option, Some, None, Ok, Err, refl, ap, ◌∙◌}
-use Rattle.gb_project.specs.declared.task.Action.{Action}
-use Rattle.gb_project.specs.declared.task.Output.{Output}
+use Rattle.gb_plain.specs.declared.task.Action.{Action}
+use Rattle.gb_plain.specs.declared.task.Output.{Output}
 use Rattle.gb_report.specs.declared.fault.Fault.{Fault}
 use Rattle.gb_exec.specs.Kinds.{Kinds}
 use Rattle.gb_exec.specs.Making.{Made, ends, or_end, step}

@@ -9,8 +9,8 @@ use Rattle.gb_core.specs.Lists.{first_of}
 use Rattle.gb_action.specs.declared.reply.Written.{Written}
 use Rattle.gb_folder.specs.Files.{Place, Bytes, Files, are_placed, is_blocked, with_file, places_under}
 use Rattle.gb_folder.proofs.Sound.{all_put}
-use Rattle.gb_project.specs.declared.task.Action.{Action}
-use Rattle.gb_project.specs.declared.task.Output.{Output}
+use Rattle.gb_plain.specs.declared.task.Action.{Action}
+use Rattle.gb_plain.specs.declared.task.Output.{Output}
 use Rattle.gb_report.specs.declared.fault.Fault.{Fault}
 use Rattle.gb_report.specs.declared.fault.Fault.TheVariants as faults
 use Rattle.gb_store.proofs.Emptied.{all_under}

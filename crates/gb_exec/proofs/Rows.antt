@@ -7,9 +7,9 @@ use Rattle.gb_core.specs.declared.value.Value.TheVariants.{Text}
 use Rattle.gb_action.specs.declared.reply.Written.{Written}
 use Rattle.gb_folder.specs.Files.{Files}
 use Rattle.gb_folder.specs.Limits.{max_file}
-use Rattle.gb_project.specs.declared.task.Action.{Action}
-use Rattle.gb_project.specs.declared.task.Output.{Output}
-use Rattle.gb_project.specs.declared.task.TaskDeclaration.{TaskDeclaration}
+use Rattle.gb_plain.specs.declared.task.Action.{Action}
+use Rattle.gb_plain.specs.declared.task.Output.{Output}
+use Rattle.gb_plain.specs.declared.task.TaskDeclaration.{TaskDeclaration}
 use Rattle.gb_report.specs.declared.fault.Fault.{Fault}
 use Rattle.gb_report.specs.declared.fault.Fault.TheVariants as faults
 use Rattle.gb_exec.specs.Kinds.{Kinds}

@@ -4,10 +4,10 @@ use Rattle.gb_folder.specs.Files.{Place, Files, Contents, files_where, is_empty}
 use Rattle.gb_report.specs.Outcome.{is_failed}
 use Rattle.gb_report.specs.declared.report.Outcome.{Outcome}
 use Rattle.gb_report.specs.declared.report.Outcome.TheVariants as outcomes
-use Rattle.gb_project.specs.Task.{is_output_of}
-use Rattle.gb_project.specs.declared.task.Action.{Action}
-use Rattle.gb_project.specs.declared.task.Output.{Output}
-use Rattle.gb_project.specs.declared.task.TaskDeclaration.{TaskDeclaration}
+use Rattle.gb_plain.specs.Task.{is_output_of}
+use Rattle.gb_plain.specs.declared.task.Action.{Action}
+use Rattle.gb_plain.specs.declared.task.Output.{Output}
+use Rattle.gb_plain.specs.declared.task.TaskDeclaration.{TaskDeclaration}
 use Rattle.gb_exec.specs.Kinds.{Kinds}
 use Rattle.gb_exec.specs.Making.{ends, is_output_at, nothing_over, others}
 use Rattle.gb_exec.specs.Scratch.{SuccessIsFromScratch, HasActionsForOutputs, cleared, folder_of}

@@ -3,7 +3,7 @@ use Rattle.std.specs.Prelude.{ℕ, List, [], Option, None, Some, Err}
 use Rattle.std.specs.FinMap.Entries.{find}
 use Rattle.gb_core.specs.Lists.{byte_order}
 use Rattle.gb_action.specs.Meanings.{Meanings, Making, Printing, makes_of, prints_of}
-use Rattle.gb_project.specs.Task.{Rows}
+use Rattle.gb_plain.specs.Task.{Rows}
 
 -- what each kind makes and prints
 pub record Kinds : Type 0 where

@@ -5,8 +5,8 @@ use Rattle.gb_folder.specs.Files.{Files, Contents, files_where, is_empty}
 use Rattle.gb_report.specs.Outcome.{is_failed}
 use Rattle.gb_report.specs.declared.fault.Fault.{Fault}
 use Rattle.gb_report.specs.declared.report.TaskReport.{TaskReport}
-use Rattle.gb_project.specs.Task.{is_output_of}
-use Rattle.gb_project.specs.declared.task.TaskDeclaration.{TaskDeclaration}
+use Rattle.gb_plain.specs.Task.{is_output_of}
+use Rattle.gb_plain.specs.declared.task.TaskDeclaration.{TaskDeclaration}
 use Rattle.gb_exec.specs.Kinds.{Kinds}
 use Rattle.gb_exec.specs.Making.{Made, ends, nothing_over}
 use Rattle.gb_exec.specs.Turn.{Turn}

@@ -10,10 +10,10 @@ use Rattle.gb_report.specs.declared.report.Outcome.TheVariants as outcomes
 use Rattle.gb_report.specs.declared.report.TaskReport.{TaskReport}
 use Rattle.gb_store.specs.Changes.{ChangesOnly}
 use Rattle.gb_store.specs.Faults.{IsOfMachine}
-use Rattle.gb_project.specs.Task.{is_output_of}
-use Rattle.gb_project.specs.declared.task.Action.{Action}
-use Rattle.gb_project.specs.declared.task.Output.{Output}
-use Rattle.gb_project.specs.declared.task.TaskDeclaration.{TaskDeclaration}
+use Rattle.gb_plain.specs.Task.{is_output_of}
+use Rattle.gb_plain.specs.declared.task.Action.{Action}
+use Rattle.gb_plain.specs.declared.task.Output.{Output}
+use Rattle.gb_plain.specs.declared.task.TaskDeclaration.{TaskDeclaration}
 use Rattle.gb_exec.specs.Kinds.{Kinds}
 use Rattle.gb_exec.specs.Making.{Made, ends, nothing_over, others}
 

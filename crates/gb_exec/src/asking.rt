@@ -1,6 +1,6 @@
 //! Asking the actions of a task.
 ghost use Rattle.std.specs.Prelude.{◌≡◌, ◌⊎◌, ℕ, List, [], false, Ok, Err, IfOk, IfErr, map};
-ghost use Rattle.gb_project.specs.Task.{IsReadyAction, seen_outputs};
+ghost use Rattle.gb_plain.specs.Task.{IsReadyAction, seen_outputs};
 ghost use Rattle.gb_exec.specs.Kinds.{kinds_of};
 
 use gb_action::actions::Actions;
@@ -12,8 +12,8 @@ use gb_action::request::Request;
 use gb_action::run::run_action;
 use gb_action::snapshot::Snapshots;
 use gb_action::values::{Arguments, NamedValues};
-use gb_project::tables::Tables;
-use gb_project::task::{Action, Output};
+use gb_plain::tables::Tables;
+use gb_plain::task::{Action, Output};
 use gb_report::fault::Fault;
 use std::alloc::{AllocError, Global};
 

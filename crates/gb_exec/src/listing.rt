@@ -10,7 +10,7 @@ ghost use Rattle.gb_exec.specs.Turn.{odd_outputs};
 
 use gb_core::place::Place;
 use gb_folder::folder::Folder;
-use gb_project::task::Output;
+use gb_plain::task::Output;
 use gb_report::fault::Fault;
 use gb_store::listing::listed_at;
 use std::alloc::Global;

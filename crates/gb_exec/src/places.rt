@@ -21,7 +21,7 @@ use gb_core::place::{Place, PlaceFault, RelPath};
 use gb_core::text::Text;
 use gb_folder::file_map::FileMap;
 use gb_folder::limits::{MAX_FILE, MAX_FILES};
-use gb_project::task::Output;
+use gb_plain::task::Output;
 use gb_report::fault::Fault;
 use std::alloc::{AllocError, Global};
 use std::collections::BTreeMap;

@@ -1,7 +1,7 @@
 //! The turn of a task in a build.
 ghost use Rattle.std.specs.Prelude.{◌≡◌, ◌≤◌, ℕ, List, Err, IsTrue, IfOk, OnErr, Ok};
 ghost use Rattle.gb_folder.specs.Files.{HasRisen, SameTearing};
-ghost use Rattle.gb_project.specs.Task.{IsReady, is_output_of};
+ghost use Rattle.gb_plain.specs.Task.{IsReady, is_output_of};
 ghost use Rattle.gb_report.specs.declared.report.Outcome.TheVariants.{Failed};
 ghost use Rattle.gb_exec.specs.Kinds.{kinds_of};
 ghost use Rattle.gb_exec.specs.Turn.{Turn};
@@ -10,8 +10,8 @@ use crate::run::run_task;
 use gb_action::actions::Actions;
 use gb_core::text::Texts;
 use gb_folder::folder::Folder;
-use gb_project::tables::Tables;
-use gb_project::task::TaskDeclaration;
+use gb_plain::tables::Tables;
+use gb_plain::task::TaskDeclaration;
 use gb_report::fault::Fault;
 use gb_report::report::{Outcome, TaskReport};
 use std::alloc::{AllocError, Global};

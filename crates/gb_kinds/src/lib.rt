@@ -17,16 +17,12 @@ pub mod function_table;
 pub mod functions;
 mod index;
 mod line;
-mod names;
+pub mod names;
 mod one_file;
 mod remade;
 pub mod shapes;
 mod source;
 pub mod stored;
 pub mod table;
-#[cfg(test)]
-mod tests;
 pub mod texts;
-#[cfg(test)]
-mod value_tests;
 mod words;

@@ -18,7 +18,8 @@ use Rattle.gb_provider.specs.declared.reading.Reading.TheVariants.{Settles}
 use Rattle.gb_provider.specs.Answers.{IsGot, value_of}
 use Rattle.gb_provider.specs.Called.{Called}
 use Rattle.gb_provider.specs.Meanings.{Meanings, meaning_of}
-use Rattle.gb_provider.specs.Produced.{IsEndlessTold, carrier, carriers, carry_all, carry_property, carry_side, choose_tasks, chosen_tasks, on_tasks, produced_by, with_tasks}
+use Rattle.gb_provider.specs.Produced.{IsEndlessTold, carrier, carriers, carry_all, carry_property, carry_side, choose_tasks, chosen_tasks, on_tasks, produced_by}
+use Rattle.gb_core.specs.Tasks.{with_tasks}
 use Rattle.gb_provider.specs.Remembered.{AreWithin}
 use Rattle.gb_provider.specs.Rounds.{Rule, Answers, Reads, after_operand, and_then, answer_after, reading, settled}
 use Rattle.gb_provider.specs.Rules.{OperandsWithin}

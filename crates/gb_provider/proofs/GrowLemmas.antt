@@ -20,7 +20,8 @@ use Rattle.gb_provider.specs.Answers.{value_of}
 use Rattle.gb_provider.specs.Called.{Called}
 use Rattle.gb_provider.specs.Indexed.{IsNoOutput}
 use Rattle.gb_provider.specs.Meanings.{Meanings, meaning_of}
-use Rattle.gb_provider.specs.Produced.{carrier, carriers, carry_all, carry_property, carry_side, choose_tasks, on_tasks, produced_by, with_tasks}
+use Rattle.gb_provider.specs.Produced.{carrier, carriers, carry_all, carry_property, carry_side, choose_tasks, on_tasks, produced_by}
+use Rattle.gb_core.specs.Tasks.{with_tasks}
 use Rattle.gb_provider.specs.Remembered.{AreWithin, IsRemembered}
 use Rattle.gb_provider.specs.Rounds.{Rule, Answers, Reads, after_operand, and_then, answer, answer_after, reading, settled}
 use Rattle.gb_provider.specs.Rules.{OperandsWithin, PlaceWithin, SettingWithin, chosen_rule, is_output, list_rule, on_text, on_value, or_else, output_place, output_rule, property_rule, rule, rules}

@@ -6,7 +6,6 @@ pub mod RecallLemmas
 pub mod NamesLemmas
 pub mod WithinLemmas
 pub mod TestLemmas
-pub mod ProducedLemmas
 pub mod EndlessLemmas
 pub mod PastLemmas
 pub mod ListLemmas

@@ -11,7 +11,8 @@ use Rattle.gb_provider.specs.declared.expression.Outcome.TheVariants.{Given, Abs
 use Rattle.gb_provider.specs.declared.produced.Produced.{Produced}
 use Rattle.gb_provider.specs.declared.produced.Produced.TheVariants as produced
 use Rattle.gb_provider.specs.declared.reading.Reading.TheVariants.{Waits}
-use Rattle.gb_provider.specs.Produced.{carry_all, on_tasks, with_tasks}
+use Rattle.gb_provider.specs.Produced.{carry_all, on_tasks}
+use Rattle.gb_core.specs.Tasks.{with_tasks}
 use Rattle.gb_provider.specs.Rounds.{Rule, Answers, Reads, reading}
 use Rattle.gb_provider.specs.Rules.{list_rule, listed, on_text, on_value}
 use Rattle.gb_provider.specs.Search.{AreBefore, ReadsAfter, IsPast, has_tasks, is_given}

@@ -12,6 +12,5 @@ pub mod Steps
 pub mod Changes
 pub mod Remembered
 pub mod Produced
-pub mod Sample
 pub mod Laws
 pub mod Indexed

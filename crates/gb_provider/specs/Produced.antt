@@ -1,6 +1,5 @@
 -- Which tasks produce what an expression gives.
 use Rattle.std.specs.Prelude.{◌≡◌, ◌⊎◌, ℕ, List, [], ◌∷◌, Option, Some, None, Result, Ok, Err, map}
-use Rattle.std.specs.BTreeSet.{insert_key}
 use Rattle.gb_core.specs.declared.value.Value.{Value}
 use Rattle.gb_core.specs.declared.value.Value.TheVariants as values
 use Rattle.gb_provider.specs.declared.fault.Chosen.{Chosen}
@@ -25,12 +24,7 @@ use Rattle.gb_provider.specs.Remembered.{AreWithin, IsRemembered}
 use Rattle.gb_provider.specs.Rounds.{Rule, Answers, Reads, answer}
 use Rattle.gb_provider.specs.Rules.{rules}
 use Rattle.gb_provider.specs.declared.reading.State.{State}
-use Rattle.gb_core.specs.Lists.{byte_order}
-
--- tasks in the order of their paths by bytes, with these, each once
-abbrev pub with_tasks : List (List ℕ) → List (List ℕ) → List (List ℕ)
-with_tasks tasks [] = tasks
-with_tasks tasks (task ∷ more) = with_tasks (insert_key byte_order tasks task) more
+use Rattle.gb_core.specs.Tasks.{with_tasks}
 
 -- a value that is a task is produced by it, and another by none
 abbrev pub tasks_of : Value → List (List ℕ)

@@ -1,8 +1,6 @@
 //! Lazy values: properties, outputs of tasks, and what is made of them.
 #![tactic(auto)]
 
-#[cfg(test)]
-mod asking;
 mod carriers;
 pub mod change;
 mod evaluate;
@@ -16,11 +14,7 @@ mod producing;
 pub mod providers;
 pub mod reading;
 mod recall;
-#[cfg(test)]
-mod sample;
 mod search;
 mod shared;
 pub mod table;
-#[cfg(test)]
-mod tests;
 pub mod transforms;

@@ -12,12 +12,13 @@ use crate::evaluate::known_at;
 use crate::expression::{Expression, Outcome};
 use crate::expressions::Outputs;
 use crate::fault::ProviderFault;
-use crate::produced::{Produced, TaskPaths};
+use crate::produced::Produced;
 use crate::reading::State;
 use crate::recall::{extend, recall, tell_circle};
 use crate::search::evaluate;
 use crate::shared::Shared;
 use crate::transforms::Transforms;
+use gb_core::tasks::TaskPaths;
 use std::alloc::{AllocError, Global};
 use std::mem;
 

@@ -11,7 +11,7 @@ use crate::stop::Stop;
 use gb_answer::builtin_runs;
 use gb_kinds::builtin::Builtin;
 use gb_kinds::table::builtin_table;
-use gb_project::tables::Tables;
+use gb_plain::tables::Tables;
 use std::io::{self, BufWriter};
 use std::process::ExitCode;
 

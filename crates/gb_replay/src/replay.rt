@@ -15,7 +15,7 @@ use gb_build::invocation::Invocation;
 use gb_core::place::Place;
 use gb_folder::folder::Folder;
 use gb_folder::memory::MemoryFolder;
-use gb_project::tables::Tables;
+use gb_plain::tables::Tables;
 use gb_report::fault::Fault;
 use std::alloc::{AllocError, Global};
 use std::io::{ErrorKind, Read, Write};
@@ -61,7 +61,10 @@ fn try_replay<A: Actions, R: Read, W: Write>(
 fn bad_line_text(alloc: Global, number: u64) -> Result<Vec<u8>, AllocError>
     ensures { IfOk result (λ text. text.items ≡ refusal_text (faults.BadLine number)) }
 {
-    refusal_text(alloc, &Fault::BadLine(number))
+    let fault = Fault::BadLine(number);
+    let text = refusal_text(alloc, &fault);
+    drop(fault);
+    text
 }
 
 /// Reads all bytes, or one more than an input may have.
@@ -169,7 +172,9 @@ fn build_text<A: Actions, F: Folder>(
 fn fault_text(alloc: Global, fault: Fault) -> Result<Vec<u8>, AllocError>
     ensures { IfOk result (λ text. text.items ≡ not_built_text fault) }
 {
-    not_built_text(alloc, &fault)
+    let text = not_built_text(alloc, &fault);
+    drop(fault);
+    text
 }
 
 fn event_text<A: Actions, F: Folder>(

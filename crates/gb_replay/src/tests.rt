@@ -4,7 +4,7 @@ use gb_action::table::ActionTable;
 use gb_kinds::builtin::{Builtin, Run};
 use gb_kinds::table::add_text_kinds;
 use gb_kinds::texts::{fail, print_line, write_text};
-use gb_project::tables::Tables;
+use gb_plain::tables::Tables;
 use std::alloc::Global;
 use std::io::{self, ErrorKind, Read, Write};
 use std::test::Fail;

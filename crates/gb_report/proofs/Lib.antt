@@ -1,2 +1,3 @@
+pub mod Row
 mod Rows
 pub mod Numbers

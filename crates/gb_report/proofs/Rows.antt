@@ -5,6 +5,7 @@ use Rattle.std.specs.Fmt.{digits}
 use Rattle.std.specs.List.{flat_map}
 use Rattle.std.specs.Str.{chars}
 use Rattle.gb_report.specs.declared.fault.Fault.TheVariants as faults
+use Rattle.gb_report.specs.declared.fault.Limited.TheVariants as limited
 use Rattle.gb_report.specs.declared.report.Outcome.{Outcome}
 use Rattle.gb_report.specs.declared.report.Outcome.TheVariants as outcomes
 use Rattle.gb_report.specs.declared.report.TaskReport.{TaskReport}
@@ -78,3 +79,33 @@ bad_line = refl
 control_character : shown (97 ∷ 10 ∷ 127 ∷ []) ≡ codes "a??"
 unfolding chars lib.Utf8.encode
 control_character = refl
+
+-- the texts of faults of scripts and plans
+circular : fault_text (faults.Circular (codes ":#a" ∷ codes ":lib#b" ∷ [])) ≡ codes "30 circular :#a, :lib#b"
+circular = refl
+
+no_value : fault_text (faults.NoValue (codes ":t") (codes "in")) ≡ codes "33 no value :t in"
+no_value = refl
+
+duplicate_task : fault_text (faults.DuplicateTask (codes ":a")) ≡ codes "51 duplicate task :a"
+duplicate_task = refl
+
+too_many : fault_text (faults.TooMany limited.Properties) ≡ codes "58 too many properties"
+too_many = refl
+
+unknown_output : fault_text (faults.UnknownOutput (codes ":a") (codes "o")) ≡ codes "59 unknown output :a o"
+unfolding chars lib.Utf8.encode
+unknown_output = refl
+
+cycle : fault_text (faults.Cycle (codes ":b" ∷ codes ":a" ∷ [])) ≡ codes "60 cycle :b, :a"
+cycle = refl
+
+undeclared : fault_text (faults.UndeclaredDependency (codes ":c") (codes ":p") (codes "build/o"))
+    ≡ codes "62 undeclared dependency :c :p build/o"
+undeclared = refl
+
+own_output : fault_text (faults.OwnOutputAsInput (codes ":a") (codes "build/o")) ≡ codes "63 own output as input :a build/o"
+own_output = refl
+
+history : fault_text faults.HistoryNotWritten ≡ codes "90 history not written"
+history = refl

@@ -1,12 +1,12 @@
 //! What became of each task of a build.
-ghost use Rattle.std.specs.Prelude.{◌≡◌, []};
+ghost use Rattle.std.specs.Prelude.{◌≡◌, [], IfOk};
 ghost use Rattle.std.specs.List.{list_any};
 ghost use Rattle.gb_report.specs.Outcome.{is_failed};
 
 use crate::fault::Fault;
 use gb_core::path::TaskPath;
 use gb_core::text::Texts;
-use std::alloc::Global;
+use std::alloc::{AllocError, Global};
 use std::marker::Model;
 
 /// What became of a task.
@@ -27,6 +27,20 @@ pub enum Outcome {
 
 impl Outcome {
     ghost use Rattle.gb_report.specs.Outcome.{is_executed, is_failed, is_started, is_up_to_date};
+
+    /// An equal outcome.
+    pub fn copy(&self, alloc: Global) -> Result<Outcome, AllocError>
+        ensures { IfOk result (λ copied. copied ≡ self.now) }
+    {
+        Ok(match self {
+            Outcome::Executed => Outcome::Executed,
+            Outcome::UpToDate => Outcome::UpToDate,
+            Outcome::Skipped => Outcome::Skipped,
+            Outcome::NoSource => Outcome::NoSource,
+            Outcome::Failed(fault) => Outcome::Failed(fault.copy(alloc)?),
+            Outcome::NotRun => Outcome::NotRun,
+        })
+    }
 
     pub fn is_executed(&self) -> bool
         ensures { result ≡ is_executed self.now }
@@ -52,6 +66,24 @@ impl Outcome {
     {
         !matches!(self, Outcome::NotRun)
     }
+}
+
+/// What those who listen to a build are told of a task's turn.
+#[derive(Drop)]
+pub enum Heard {
+    Start(TaskPath),
+    End(TaskPath, Outcome),
+}
+
+/// How a build is to be done.
+#[derive(Clone, Copy)]
+pub struct Options {
+    /// Tasks that do not need a failed one still run.
+    pub keep_going: bool,
+    /// What was done before is done again.
+    pub rerun: bool,
+    /// Nothing runs: the tasks that would are told.
+    pub dry_run: bool,
 }
 
 /// What became of one task, and the lines that it printed.

@@ -1,300 +1,191 @@
-//! Printed texts from outside, and each call that takes memory once.
-use crate::fault::Fault;
+//! Each call that takes memory, once, and texts from outside.
+use crate::fault::{Fault, Limited};
 use crate::render::{render, render_fault};
 use crate::report::{Outcome, Report, TaskReport, TaskReports};
 use gb_core::name::Name;
 use gb_core::path::TaskPath;
-use gb_core::place::Place;
+use gb_core::place::{Place, RelPath};
+use gb_core::tasks::TaskList;
 use gb_core::text::{Text, Texts};
 use std::alloc::{AllocError, Global};
 use std::test::Fail;
 
-fn add(
-    tasks: &mut Vec<TaskReport>,
-    path: TaskPath,
-    outcome: Outcome,
-    lines: Texts,
-) -> Result<(), AllocError> {
-    tasks.push(TaskReport {
+/// A task with an action.
+fn ran(path: TaskPath, outcome: Outcome, lines: Texts) -> TaskReport {
+    TaskReport {
         path,
         outcome,
         has_actions: true,
         lines,
-    })?;
+    }
+}
+
+fn add(tasks: &mut Vec<TaskReport>, task: TaskReport) -> Result<(), AllocError> {
+    tasks.push(task)?;
     Ok(())
 }
 
-fn build_of(tasks: Vec<TaskReport>) -> Report {
-    Report {
-        tasks: TaskReports::from_vec(tasks),
-        dry_run: false,
-        listener_refused: false,
-    }
+/// A task of this path that printed nothing.
+fn add_quiet(tasks: &mut Vec<TaskReport>, alloc: Global, path: &str) -> Result<(), Fail> {
+    let path = TaskPath::read(alloc, path)?;
+    Ok(add(tasks, ran(path, Outcome::UpToDate, Texts::new(alloc)))?)
 }
 
-/// Whether the report is printed so.
-fn prints(alloc: Global, report: &Report, want: &str) -> Result<bool, AllocError> {
-    Ok(render(alloc, report)?.as_slice() == want.as_bytes())
-}
-
-/// Whether the fault has this number and this text.
-fn tells(alloc: Global, fault: Fault, number: u16, want: &str) -> Result<bool, AllocError> {
-    Ok(fault.number() == number && render_fault(alloc, &fault)?.as_slice() == want.as_bytes())
-}
-
-/// The lines of a text, which are parted by spaces.
-fn lines_of(alloc: Global, text: &str) -> Result<Texts, AllocError> {
+fn one_line(alloc: Global, line: &str) -> Result<Texts, AllocError> {
     let mut lines = Texts::new(alloc);
-    for line in text.split(' ') {
-        lines.push(Text::from_str(alloc, line)?)?;
-    }
+    lines.push(Text::from_str(alloc, line)?)?;
     Ok(lines)
 }
 
-#[test]
-fn an_executed_task_prints_its_lines(rt: HostRuntime) -> Result<(), Fail> {
-    let alloc = rt.alloc();
+/// Whether the report is printed so.
+fn prints(alloc: Global, report: &Report, want: &str) -> Result<bool, Fail> {
+    Ok(render(alloc, report)?.as_slice() == want.as_bytes())
+}
+
+/// A build of three tasks, one of which failed.
+fn three_tasks(alloc: Global) -> Result<Vec<TaskReport>, Fail> {
     let mut tasks = Vec::new(alloc);
     let path = TaskPath::read(alloc, ":hi")?;
-    add(
-        &mut tasks,
-        path,
-        Outcome::Executed,
-        lines_of(alloc, "2 1 3 4")?,
-    )?;
-    let report = build_of(tasks);
-    assert!(rt; report.is_successful());
-    let want = "> Task :hi\n2\n1\n3\n4\nBUILD SUCCESSFUL\n1 actionable task: 1 executed\n";
-    assert!(rt; prints(alloc, &report, want)?);
-    Ok(())
-}
-
-#[test]
-fn a_failed_task_is_told_twice(rt: HostRuntime) -> Result<(), Fail> {
-    let alloc = rt.alloc();
-    let mut tasks = Vec::new(alloc);
+    let lines = one_line(alloc, "2")?;
+    add(&mut tasks, ran(path, Outcome::Executed, lines))?;
+    add_quiet(&mut tasks, alloc, ":a")?;
     let path = TaskPath::read(alloc, ":t")?;
-    let lines = lines_of(alloc, "a")?;
     let text = Text::from_str(alloc, "no")?;
+    let lines = one_line(alloc, "a")?;
     add(
         &mut tasks,
-        path,
-        Outcome::Failed(Fault::ActionFailed(text)),
-        lines,
+        ran(path, Outcome::Failed(Fault::ActionFailed(text)), lines),
     )?;
-    let report = build_of(tasks);
-    assert!(rt; !report.is_successful());
+    Ok(tasks)
+}
+
+fn copies_of(alloc: Global, tasks: &[TaskReport]) -> Result<Vec<TaskReport>, AllocError> {
+    let mut copies = Vec::new(alloc);
+    for task in tasks {
+        let path = task.path.copy()?;
+        let lines = task.lines.copy(alloc)?;
+        add(&mut copies, ran(path, task.outcome.copy(alloc)?, lines))?;
+    }
+    Ok(copies)
+}
+
+fn a_build_is_printed(alloc: Global) -> Result<bool, Fail> {
+    let tasks = three_tasks(alloc)?;
+    let copied = copies_of(alloc, tasks.as_slice())?;
+    let report = Report {
+        tasks: TaskReports::from_vec(copied),
+        dry_run: false,
+        listener_refused: true,
+    };
     let want =
-        "> Task :t FAILED\na\nFAILED :t: 42 no\nBUILD FAILED\n1 actionable task: 1 executed\n";
-    assert!(rt; prints(alloc, &report, want)?);
-    Ok(())
+        "> Task :hi\n2\n> Task :a UP-TO-DATE\n> Task :t FAILED\na\nFAILED :t: 42 no\nFAILED listener: 91 listener refused\nBUILD FAILED\n3 actionable tasks: 2 executed, 1 up-to-date\n";
+    Ok(!report.is_successful() && prints(alloc, &report, want)?)
 }
 
-#[test]
-fn counts_are_parted(rt: HostRuntime) -> Result<(), Fail> {
-    let alloc = rt.alloc();
+fn a_dry_run_is_printed(alloc: Global) -> Result<bool, Fail> {
     let mut tasks = Vec::new(alloc);
-    add(
-        &mut tasks,
-        TaskPath::read(alloc, ":a")?,
-        Outcome::UpToDate,
-        Texts::new(alloc),
-    )?;
-    add(
-        &mut tasks,
-        TaskPath::read(alloc, ":b")?,
-        Outcome::Executed,
-        Texts::new(alloc),
-    )?;
-    add(
-        &mut tasks,
-        TaskPath::read(alloc, ":c")?,
-        Outcome::NotRun,
-        Texts::new(alloc),
-    )?;
-    let mut report = build_of(tasks);
-    report.listener_refused = true;
-    assert_eq!(rt; report.tasks.as_slice().len(), 3);
-    let want =
-        "> Task :a UP-TO-DATE\n> Task :b\nFAILED listener: 91 listener refused\nBUILD FAILED\n2 actionable tasks: 1 executed, 1 up-to-date\n";
-    assert!(rt; prints(alloc, &report, want)?);
-    Ok(())
+    add_quiet(&mut tasks, alloc, ":a")?;
+    let report = Report {
+        tasks: TaskReports::from_vec(tasks),
+        dry_run: true,
+        listener_refused: false,
+    };
+    prints(alloc, &report, ":a SKIPPED\nBUILD SUCCESSFUL\n")
 }
 
-#[test]
-fn a_dry_run_prints_its_tasks(rt: HostRuntime) -> Result<(), Fail> {
-    let alloc = rt.alloc();
-    let mut tasks = Vec::new(alloc);
-    add(
-        &mut tasks,
-        TaskPath::read(alloc, ":a")?,
-        Outcome::Skipped,
-        Texts::new(alloc),
-    )?;
-    let mut report = build_of(tasks);
-    report.dry_run = true;
-    assert!(rt; prints(alloc, &report, ":a SKIPPED\nBUILD SUCCESSFUL\n")?);
-    Ok(())
-}
-
-#[test]
-fn a_build_of_no_task_prints_its_result(rt: HostRuntime) -> Result<(), Fail> {
-    let alloc = rt.alloc();
+fn no_task_is_printed(alloc: Global) -> Result<bool, Fail> {
     let report = Report {
         tasks: TaskReports::new(alloc),
         dry_run: false,
         listener_refused: false,
     };
-    assert!(rt; prints(alloc, &report, "BUILD SUCCESSFUL\n")?);
-    Ok(())
+    Ok(report.is_successful() && prints(alloc, &report, "BUILD SUCCESSFUL\n")?)
 }
 
 #[test]
-fn faults_of_folders_are_told(rt: HostRuntime) -> Result<(), Fail> {
-    let alloc = rt.alloc();
-    let place = Place::read(alloc, "a/b")?;
-    assert!(rt; tells(alloc, Fault::Device(place.copy()?), 10, "10 device a/b")?);
-    assert!(rt; tells(alloc, Fault::Missing(place.copy()?), 11, "11 missing a/b")?);
-    assert!(rt; tells(alloc, Fault::Blocked(place.copy()?), 12, "12 blocked a/b")?);
-    assert!(rt;
-        tells(
-            alloc,
-            Fault::TooLarge(place.copy()?),
-            13,
-            "13 too large a/b"
-        )?
-    );
-    assert!(rt;
-        tells(
-            alloc,
-            Fault::BadFileName(place.copy()?),
-            14,
-            "14 bad file name a/b"
-        )?
-    );
-    assert!(rt;
-        tells(
-            alloc,
-            Fault::OwnState(place.copy()?),
-            94,
-            "94 own state a/b"
-        )?
-    );
+fn builds_are_printed(rt: HostRuntime) -> Result<(), Fail> {
+    assert!(rt; a_build_is_printed(rt.alloc())?);
+    assert!(rt; a_dry_run_is_printed(rt.alloc())?);
+    assert!(rt; no_task_is_printed(rt.alloc())?);
     Ok(())
 }
 
-#[test]
-fn faults_of_scripts_are_told(rt: HostRuntime) -> Result<(), Fail> {
-    let alloc = rt.alloc();
-    let script = Place::read(alloc, "build.gb")?;
-    assert!(rt;
-        tells(
-            alloc,
-            Fault::Syntax(script.copy()?, 1),
-            20,
-            "20 syntax build.gb:1"
-        )?
-    );
-    assert!(rt;
-        tells(
-            alloc,
-            Fault::TooLong(script.copy()?),
-            21,
-            "21 too long build.gb"
-        )?
-    );
-    assert!(rt;
-        tells(
-            alloc,
-            Fault::TooDeep(script.copy()?, 12),
-            22,
-            "22 too deep build.gb:12"
-        )?
-    );
-    assert!(rt;
-        tells(
-            alloc,
-            Fault::NotUtf8(script.copy()?),
-            23,
-            "23 not UTF-8 build.gb"
-        )?
-    );
-    assert!(rt; tells(alloc, Fault::BadLine(3), 95, "95 bad line 3")?);
-    assert!(rt; tells(alloc, Fault::Usage, 96, "96 usage")?);
+fn push(faults: &mut Vec<Fault>, fault: Fault) -> Result<(), AllocError> {
+    faults.push(fault)?;
     Ok(())
 }
 
-#[test]
-fn faults_of_tasks_are_told(rt: HostRuntime) -> Result<(), Fail> {
-    let alloc = rt.alloc();
-    let task = TaskPath::read(alloc, ":t")?;
-    assert!(rt; tells(alloc, Fault::BadShape(task.copy()?), 55, "55 bad shape :t")?);
-    let name = Name::read(alloc, "fail")?;
-    let fault = Fault::BadArgument(task.copy()?, name);
-    assert!(rt; tells(alloc, fault, 43, "43 bad argument :t fail")?);
-    let place = Place::read(alloc, "o")?;
-    let fault = Fault::OutputOutsideBuild(task, place);
-    assert!(rt; tells(alloc, fault, 56, "56 output outside build :t o")?);
-    assert!(rt; tells(alloc, Fault::NoTasks, 64, "64 no tasks")?);
-    Ok(())
-}
-
-#[test]
-fn faults_of_actions_are_told(rt: HostRuntime) -> Result<(), Fail> {
-    let alloc = rt.alloc();
-    let name = Name::read(alloc, "src")?;
-    assert!(rt;
-        tells(
-            alloc,
-            Fault::UnknownAction(name.copy()?),
-            40,
-            "40 unknown action src"
-        )?
-    );
-    assert!(rt;
-        tells(
-            alloc,
-            Fault::TooManyFiles(name),
-            72,
-            "72 too many files src"
-        )?
-    );
-    let text = Text::from_str(alloc, "no\tway")?;
-    assert!(rt; tells(alloc, Fault::ActionFailed(text), 42, "42 no\tway")?);
-    assert!(rt; tells(alloc, Fault::OutOfMemory, 3, "3 out of memory")?);
-    assert!(rt; tells(alloc, Fault::from(AllocError), 3, "3 out of memory")?);
-    Ok(())
+fn rows(alloc: Global) -> Result<(Texts, TaskList), Fail> {
+    let mut names = Texts::new(alloc);
+    names.push(Text::from_str(alloc, ":#a")?)?;
+    names.push(Text::from_str(alloc, ":lib#b")?)?;
+    let mut tasks = TaskList::new(alloc);
+    tasks.push(TaskPath::read(alloc, ":b")?)?;
+    tasks.push(TaskPath::read(alloc, ":a")?)?;
+    Ok((names, tasks))
 }
 
 /// A text from outside of 81 characters, two of them control characters and one of two bytes.
-fn long(alloc: Global) -> Result<Text, AllocError> {
+fn long_text(alloc: Global) -> Result<Text, AllocError> {
     Text::from_str(
         alloc,
         "é\n34567890123456789012345678901234567890123456789012345678901234567890123456789\x7f1",
     )
 }
 
+/// Faults of scripts, of plans and of tasks.
+fn faults_of_each_form(alloc: Global) -> Result<Vec<Fault>, Fail> {
+    let mut faults = Vec::new(alloc);
+    let (names, tasks) = rows(alloc)?;
+    push(&mut faults, Fault::BadPlace(long_text(alloc)?))?;
+    push(
+        &mut faults,
+        Fault::Syntax(Place::read(alloc, "build.gb")?, 12),
+    )?;
+    push(&mut faults, Fault::Circular(names))?;
+    push(&mut faults, Fault::TooMany(Limited::Tasks))?;
+    push(&mut faults, Fault::Cycle(tasks))?;
+    let path = RelPath::read(alloc, "m/a")?;
+    push(
+        &mut faults,
+        Fault::DuplicateInput(Name::read(alloc, "src")?, path),
+    )?;
+    Ok(faults)
+}
+
+fn copies(alloc: Global, faults: &[Fault]) -> Result<Vec<Fault>, AllocError> {
+    let mut copies = Vec::new(alloc);
+    for fault in faults {
+        push(&mut copies, fault.copy(alloc)?)?;
+    }
+    Ok(copies)
+}
+
+fn lines_of(alloc: Global, faults: &[Fault]) -> Result<Vec<u8>, AllocError> {
+    let mut lines = Vec::new(alloc);
+    for fault in faults {
+        lines.extend_from_slice(render_fault(alloc, fault)?.as_slice())?;
+        lines.push(b'\n')?;
+    }
+    Ok(lines)
+}
+
+fn copies_are_told(alloc: Global) -> Result<bool, Fail> {
+    let want =
+        "2 bad place é?34567890123456789012345678901234567890123456789012345678901234567890123456789?\n20 syntax build.gb:12\n30 circular :#a, :lib#b\n58 too many tasks\n60 cycle :b, :a\n71 duplicate input src m/a\n";
+    let faults = faults_of_each_form(alloc)?;
+    let copied = copies(alloc, faults.as_slice())?;
+    Ok(lines_of(alloc, copied.as_slice())?.as_slice() == want.as_bytes())
+}
+
 #[test]
-fn texts_from_outside_are_cut_and_cleaned(rt: HostRuntime) -> Result<(), Fail> {
-    let alloc = rt.alloc();
-    assert_eq!(rt; long(alloc)?.as_str().chars().count(), 81);
-    let want =
-        "1 bad name é?34567890123456789012345678901234567890123456789012345678901234567890123456789?";
-    assert!(rt; tells(alloc, Fault::BadName(long(alloc)?), 1, want)?);
-    let want =
-        "2 bad place é?34567890123456789012345678901234567890123456789012345678901234567890123456789?";
-    assert!(rt; tells(alloc, Fault::BadPlace(long(alloc)?), 2, want)?);
-    let want =
-        "50 unknown project é?34567890123456789012345678901234567890123456789012345678901234567890123456789?";
-    assert!(rt; tells(alloc, Fault::UnknownProject(long(alloc)?), 50, want)?);
-    let want =
-        "52 task not found é?34567890123456789012345678901234567890123456789012345678901234567890123456789?";
-    assert!(rt; tells(alloc, Fault::TaskNotFound(long(alloc)?), 52, want)?);
+fn faults_are_copied_and_told(rt: HostRuntime) -> Result<(), Fail> {
+    assert!(rt; copies_are_told(rt.alloc())?);
     Ok(())
 }
 
 /// Both wants of memory become faults.
-fn texts(alloc: Global) -> Result<Vec<Text>, Fault> {
+fn one_text(alloc: Global) -> Result<Vec<Text>, Fault> {
     let mut texts = Vec::new(alloc);
     texts.push(Text::from_str(alloc, "a")?)?;
     Ok(texts)
@@ -302,6 +193,9 @@ fn texts(alloc: Global) -> Result<Vec<Text>, Fault> {
 
 #[test]
 fn want_of_memory_is_a_fault(rt: HostRuntime) -> Result<(), Fail> {
-    assert_eq!(rt; texts(rt.alloc())?.len(), 1);
+    let answer = one_text(rt.alloc());
+    let is_there = answer.is_ok();
+    drop(answer);
+    assert!(rt; is_there);
     Ok(())
 }

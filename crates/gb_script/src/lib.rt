@@ -29,6 +29,3 @@ mod values;
 mod words;
 
 pub use source::{MAX_SCRIPT, read_script, read_settings};
-
-#[cfg(test)]
-mod tests;

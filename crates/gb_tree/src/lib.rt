@@ -27,5 +27,3 @@ pub mod pattern;
 pub mod prints;
 pub mod property;
 mod reading;
-#[cfg(test)]
-mod tests;

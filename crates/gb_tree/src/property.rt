@@ -76,6 +76,7 @@ pub fn prints_of<F: Folder>(
         (F.failures folder.old) (F.failures folder.new) result }
     ensures tearing { SameTearing (F.may_leave folder.old) (F.may_leave folder.new) }
     ensures same { IsTrue F.tells → F.contents folder.new ≡ F.contents folder.old }
+    ensures named { IfOk result (λ prints. prints.0 ≡ name.now) }
     ensures prints { IsTrue F.tells → IfOk result (λ prints. prints
         ≡ (
           name.now,

@@ -2,10 +2,10 @@ use Rattle.std.proofs.Common.{◌≡◌, [], ◌∷◌, ◌++◌, false, Err, re
 use Rattle.std.proofs.lemmas.Result.{err_from_is_err_and}
 use Rattle.std.specs.Cmp.Lexicographic.{bytes_decides}
 use Rattle.gb_folder.specs.Files.{Contents}
-use Rattle.gb_project.specs.Declaration.{task_of}
-use Rattle.gb_project.specs.Task.{is_output_of}
-use Rattle.gb_project.specs.Words.{selected}
-use Rattle.gb_project.specs.declared.task.TaskDeclaration.{TaskDeclaration}
+use Rattle.gb_plain.specs.Declaration.{task_of}
+use Rattle.gb_plain.specs.Task.{is_output_of}
+use Rattle.gb_plain.specs.Words.{selected}
+use Rattle.gb_plain.specs.declared.task.TaskDeclaration.{TaskDeclaration}
 use Rattle.gb_exec.specs.Kinds.{kinds_of}
 use Rattle.gb_exec.specs.Turn.{Turn}
 use Rattle.gb_store.proofs.Machine.{at_err, changes_chain, changes_none}

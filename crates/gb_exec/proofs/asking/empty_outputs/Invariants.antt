@@ -1,5 +1,5 @@
 use Rattle.std.proofs.Common.{◌≡◌, ◌++◌, map, drop}
-use Rattle.gb_project.specs.Task.{seen_outputs}
+use Rattle.gb_plain.specs.Task.{seen_outputs}
 use Rattle.gb_exec.proofs.asking.empty_outputs.Given as goal
 
 abbrev pub invariant-loop-output : goal.invariant-loop-output

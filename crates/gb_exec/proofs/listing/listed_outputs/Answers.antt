@@ -8,7 +8,7 @@ use Rattle.gb_core.specs.Place.{is_under}
 use Rattle.gb_core.specs.Lists.{first_of}
 use Rattle.gb_folder.specs.Files.{Contents, is_odd_under, places_under}
 use Rattle.gb_folder.proofs.Changes.{SameTearing-chain}
-use Rattle.gb_project.specs.declared.task.Output.{Output}
+use Rattle.gb_plain.specs.declared.task.Output.{Output}
 use Rattle.gb_report.specs.declared.fault.Fault.{Fault}
 use Rattle.gb_report.specs.declared.fault.Fault.TheVariants as faults
 use Rattle.gb_store.specs.Faults.{IsOfMachine}

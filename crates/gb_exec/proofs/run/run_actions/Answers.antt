@@ -2,9 +2,9 @@ use Rattle.std.proofs.Common.{arith, ◌≡◌, ◌++◌, ◌∷◌, [], List, O
 use Rattle.std.proofs.lemmas.Result.{err_from_is_err_and}
 use Rattle.std.specs.List.{AllByRecursion}
 use Rattle.std.specs.VecDeque.Iter.{deque_iter_rest}
-use Rattle.gb_project.specs.Task.{IsReadyAction, is_output_of}
-use Rattle.gb_project.specs.declared.task.Action.{Action}
-use Rattle.gb_project.specs.declared.task.Output.{Output}
+use Rattle.gb_plain.specs.Task.{IsReadyAction, is_output_of}
+use Rattle.gb_plain.specs.declared.task.Action.{Action}
+use Rattle.gb_plain.specs.declared.task.Output.{Output}
 use Rattle.gb_report.specs.declared.fault.Fault.{Fault}
 use Rattle.gb_exec.specs.Kinds.{kinds_of}
 use Rattle.gb_exec.specs.Making.{ends, is_output_at, made_so_far, nothing_over, step}

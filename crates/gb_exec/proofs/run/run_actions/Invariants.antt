@@ -1,8 +1,8 @@
 use Rattle.std.proofs.Common.{◌≡◌, ◌≤◌, ◌++◌, List, None, IsTrue}
 use Rattle.std.specs.VecDeque.Iter.{deque_iter_rest}
-use Rattle.gb_project.specs.Task.{is_output_of, IsReadyAction}
+use Rattle.gb_plain.specs.Task.{is_output_of, IsReadyAction}
 use Rattle.std.specs.List.{AllByRecursion}
-use Rattle.gb_project.specs.declared.task.Action.{Action}
+use Rattle.gb_plain.specs.declared.task.Action.{Action}
 use Rattle.gb_exec.specs.Kinds.{kinds_of}
 use Rattle.gb_exec.specs.Making.{ends, made_so_far, nothing_over}
 use Rattle.gb_folder.specs.Files.{SameTearing, are_placed}

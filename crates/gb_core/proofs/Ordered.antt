@@ -1,0 +1,40 @@
+-- Lists of tasks in order.
+use Rattle.std.proofs.Common.{◌≡◌, ℕ, List, [], ◌∷◌, ◌++◌, append-nil, refl, sym, ap, subst, ◌∙◌}
+use Rattle.std.specs.BTreeSet.{insert_key}
+use Rattle.std.specs.List.{AllByRecursion}
+use Rattle.std.specs.List.Sorted.{IsStrictlySortedBy}
+use Rattle.std.specs.Ordering.{match_ordering, ordering_reverse}
+use Rattle.std.specs.Cmp.Lexicographic.{nat_list_cmp_total}
+use Rattle.std.specs.declared.cmp.Ordering.TheVariants.{Less, Greater}
+use Rattle.std.proofs.lemmas.List.{append_assoc}
+use Rattle.gb_core.specs.Tasks.{with_tasks}
+use Rattle.gb_core.specs.Lists.{byte_order}
+
+-- a task above all others goes last
+put_last : (tasks : List (List ℕ)) (task : List ℕ) → AllByRecursion (λ other. byte_order other task ≡ Less) tasks → insert_key byte_order tasks task ≡ tasks ++ task ∷ []
+put_last [] task below = refl
+put_last (other ∷ tasks) task below =
+    let after : byte_order task other ≡ Greater = nat_list_cmp_total.antisymm task other ∙ ap ordering_reverse below.0 in
+    ap (λ o. match_ordering o (task ∷ other ∷ tasks) (other ∷ tasks) (other ∷ insert_key byte_order tasks task)) after
+    ∙ ap (λ rest. other ∷ rest) (put_last tasks task below.1)
+
+at_seam : {X : Type 0} (P : X → Type 0) (front : List X) (x : X) (back : List X) → AllByRecursion P (front ++ x ∷ back) → P x
+at_seam P [] x back all = all.0
+at_seam P (y ∷ front) x back all = at_seam P front x back all.1
+
+front_below : (front : List (List ℕ)) (task : List ℕ) (back : List (List ℕ)) → IsStrictlySortedBy byte_order (front ++ task ∷ back) → AllByRecursion (λ other. byte_order other task ≡ Less) front
+unfolding IsStrictlySortedBy
+front_below [] task back sorted = tt
+front_below (other ∷ front) task back sorted = (at_seam (λ y. byte_order other y ≡ Less) front task back sorted.0, front_below front task back sorted.1)
+
+with_above : (tasks front : List (List ℕ)) → IsStrictlySortedBy byte_order (front ++ tasks) → with_tasks front tasks ≡ front ++ tasks
+with_above [] front sorted = sym (append-nil front)
+with_above (task ∷ tasks) front sorted =
+    let last = put_last front task (front_below front task tasks sorted) in
+    let seam = append_assoc front (task ∷ []) tasks in
+    ap (λ f. with_tasks f tasks) last
+    ∙ (with_above tasks (front ++ task ∷ []) (subst (IsStrictlySortedBy byte_order) (sym seam) sorted) ∙ seam)
+
+-- tasks that stand in order are put in as they stand
+pub with_ordered : (tasks : List (List ℕ)) → IsStrictlySortedBy byte_order tasks → with_tasks [] tasks ≡ tasks
+with_ordered tasks sorted = with_above tasks [] sorted

@@ -1,0 +1,10 @@
+pub mod Cuts
+pub mod Rows
+pub mod Sorted
+pub mod Turns
+pub mod Lesser
+pub mod Meets
+pub mod Plans
+pub mod Bridges
+pub mod Numbered
+pub mod Judged

@@ -1,0 +1,36 @@
+-- What a plan is refused with, and what is answered to what was asked.
+use Rattle.std.specs.Prelude.{◌≡◌, ◌⊎◌, List, Option, None, Some, Ok, Err}
+use Rattle.gb_plan.specs.Graph.{Plan, Registry, Request, IsPlan, IsSound}
+use Rattle.gb_plan.specs.Task.{Text}
+use Rattle.gb_plan.specs.Refusal.{Meeting, IsLeastMeeting, IsOverlap, IsOwnInput, IsUndeclared, IsRefused, request_of}
+use Rattle.gb_report.specs.declared.fault.Fault.{Fault}
+use Rattle.gb_report.specs.declared.fault.Fault.TheVariants.{OutOfMemory}
+use Rattle.gb_graph.specs.declared.met.Search.{Search}
+use Rattle.gb_graph.specs.declared.met.Search.TheVariants.{Overlaps, OwnInputs, Undeclared}
+use Rattle.gb_graph.specs.declared.refusal.Refusal.{Refusal}
+use Rattle.gb_graph.specs.Meetings.{meeting_of}
+
+-- The least meeting of the first kind of which there is any: overlaps, then own inputs, then undeclared ones.
+abbrev pub IsFirst : Plan → Search → Meeting → Type 0
+IsFirst plan Overlaps meeting = IsLeastMeeting (IsOverlap plan) meeting
+IsFirst plan OwnInputs meeting =
+    ((other : Meeting) → ¬ IsOverlap plan other) × IsLeastMeeting (IsOwnInput plan) meeting
+IsFirst plan Undeclared meeting =
+    ((other : Meeting) → ¬ IsOverlap plan other) × ((other : Meeting) → ¬ IsOwnInput plan other)
+    × IsLeastMeeting (IsUndeclared plan) meeting
+
+-- the plan is sound, or the first of its meetings is this one
+abbrev pub IsJudged : Plan → Option Refusal → Type 0
+IsJudged plan None = IsSound plan
+IsJudged plan (Some refusal) = IsFirst plan refusal.search (meeting_of refusal.found)
+
+-- there is a request, and this is its plan
+abbrev pub IsPlanOf : Registry → List Text → List Text → Plan → Type 0
+IsPlanOf registry requested excluded plan =
+    (request : Request) × (request_of registry requested excluded ≡ Ok request) × IsPlan request plan
+
+-- memory is out, there is no request for this reason, or the request is refused for it
+abbrev pub IsRefusalOf : Registry → List Text → List Text → Fault → Type 0
+IsRefusalOf registry requested excluded fault =
+    (fault ≡ OutOfMemory) ⊎ ((request_of registry requested excluded ≡ Err fault)
+    ⊎ ((request : Request) × (request_of registry requested excluded ≡ Ok request) × IsRefused request fault))

@@ -1,0 +1,4 @@
+pub mod Places
+pub mod Overlaps
+pub mod Meetings
+pub mod Answer

@@ -1,0 +1,92 @@
+-- Which tasks meet at which places, and the least of their meetings.
+use Rattle.std.specs.Prelude.{ℕ, ◌≡◌, ◌<◌, ◌↔◌, Bool, true, not, ◌&&◌, ◌==◌, List, [], Contains, Option, None, Some, if◌then◌else◌, slice_index_or, length}
+use Rattle.gb_core.specs.Place.{overlaps}
+use Rattle.gb_plan.specs.declared.plan.Planned.{Planned}
+use Rattle.gb_plan.specs.Task.{output_places, roots_of}
+use Rattle.gb_plan.specs.Graph.{Plan, IsAfter}
+use Rattle.gb_plan.specs.Refusal.{Meeting, is_before, IsLeastMeeting, IsOverlap, IsOwnInput, IsUndeclared}
+use Rattle.gb_order.specs.Order.{row, rows}
+use Rattle.gb_order.specs.Chains.{bit_in}
+use Rattle.gb_order.specs.Circle.{path_at}
+use Rattle.gb_graph.specs.declared.least.Found.{Found}
+use Rattle.gb_graph.specs.declared.met.Search.{Search}
+use Rattle.gb_graph.specs.declared.met.Search.TheVariants.{Overlaps, OwnInputs, Undeclared}
+use Rattle.gb_graph.specs.declared.places.TaskPlace.{TaskPlace}
+use Rattle.gb_graph.specs.declared.tables.Tables.{Tables}
+use Rattle.gb_graph.specs.Places.{AreSamePlaces, IsRising, places_from, with_places}
+
+-- the rows have the tasks that each comes after by a chain
+abbrev pub TellChains : List Planned → List (List ℕ) → Type 0
+TellChains tasks chains = (task before : ℕ) (d : Planned) → task < length tasks → before < length tasks
+    → (bit_in (row chains task) before ≡ 1)
+    ↔ IsAfter tasks (slice_index_or tasks task d).task (path_at tasks before)
+
+-- The two count: an output and another one; a root and an output of its own task; a root and an output of
+-- another task that its own does not come after.
+abbrev pub counts : Search → List (List ℕ) → TaskPlace → TaskPlace → Bool
+counts Overlaps chains at output = not (at.number == output.number)
+counts OwnInputs chains at output = at.task == output.task
+counts Undeclared chains at output =
+    not (at.task == output.task) && not (bit_in (row chains at.task) output.task == 1)
+
+module _ (search : Search) (chains : List (List ℕ)) where
+  -- an output of the task counts, and overlaps the place
+  pub record IsMetTask (outputs : List TaskPlace) (at : TaskPlace) (task : ℕ) : Type 0 where
+    pub output : TaskPlace
+    pub output_in : Contains outputs output
+    pub is_task : output.task ≡ task
+    pub counted : counts search chains at output ≡ true
+    pub overlapped : overlaps at.place output.place ≡ true
+
+  -- the task of one of the places meets the task of an output there
+  pub record IsMet (tasks : Plan) (outputs places : List TaskPlace) (meeting : Meeting) : Type 0 where
+    pub at : TaskPlace
+    pub at_in : Contains places at
+    pub other : ℕ
+    pub met : IsMetTask outputs at other
+    pub is_task : meeting.task ≡ path_at tasks at.task
+    pub is_other : meeting.other ≡ path_at tasks other
+    pub is_place : meeting.place ≡ at.place
+
+-- a task at a place of its own with one of these tasks
+pub record IsMetAt (tasks : Plan) (at : TaskPlace) (others : List ℕ) (meeting : Meeting) : Type 0 where
+  pub other : ℕ
+  pub other_in : Contains others other
+  pub is_task : meeting.task ≡ path_at tasks at.task
+  pub is_other : meeting.other ≡ path_at tasks other
+  pub is_place : meeting.place ≡ at.place
+
+-- the meeting that was found
+abbrev pub meeting_of : Found → Meeting
+meeting_of found = record { task = found.task; other = found.other; place = found.place }
+
+-- of two the one that comes before, where there are two
+abbrev pub lesser : Option Found → Option Found → Option Found
+lesser None other = other
+lesser (Some found) None = Some found
+lesser (Some found) (Some other) =
+    if is_before (meeting_of other) (meeting_of found) then Some other else Some found
+
+-- the least of these meetings, if there is any
+abbrev pub IsLeast : (Meeting → Type 0) → Option Found → Type 0
+IsLeast Meets None = (meeting : Meeting) → ¬ Meets meeting
+IsLeast Meets (Some found) = IsLeastMeeting Meets (meeting_of found)
+
+-- the meetings of a plan that are looked for
+abbrev pub Meets : Plan → Search → Meeting → Type 0
+Meets plan Overlaps meeting = IsOverlap plan meeting
+Meets plan OwnInputs meeting = IsOwnInput plan meeting
+Meets plan Undeclared meeting = IsUndeclared plan meeting
+
+-- the chains of these tasks, all their outputs in order, and all their roots
+pub record AreTables (tasks : List Planned) (tables : Tables) : Type 0 where
+  pub chains : TellChains tasks (rows tables.chains.items)
+  pub rising : IsRising tables.outputs.items
+  pub outputs : AreSamePlaces (with_places [] (places_from output_places 0 tasks)) tables.outputs.items
+  pub roots : AreSamePlaces (with_places [] (places_from roots_of 0 tasks)) tables.roots.items
+
+-- the places that are held against the outputs: outputs too, or else roots
+abbrev pub places_for : Tables → Search → List TaskPlace
+places_for tables Overlaps = tables.outputs.items
+places_for tables OwnInputs = tables.roots.items
+places_for tables Undeclared = tables.roots.items

@@ -1,0 +1,14 @@
+-- Which places of a row overlap a place.
+use Rattle.std.specs.Prelude.{ℕ, ◌<◌, ◌↔◌, ◌⊎◌, Bool, not, ◌&&◌, List, length, Contains, IsTrue}
+use Rattle.gb_folder.specs.Files.{Place}
+use Rattle.gb_graph.specs.declared.places.TaskPlace.{TaskPlace}
+use Rattle.gb_graph.specs.Places.{place_at, is_before}
+
+-- the indices of the places that pass the test are found too
+abbrev pub FindsToo : List TaskPlace → (Place → Bool) → List ℕ → List ℕ → Type 0
+FindsToo row test old new = (index : ℕ) → Contains new index
+    ↔ (Contains old index ⊎ ((index < length row) × IsTrue (test (place_at row index))))
+
+-- from the one text on, and before the other
+abbrev pub is_between : List ℕ → List ℕ → Place → Bool
+is_between from to place = not (is_before place from) && is_before place to

@@ -1,0 +1,70 @@
+//! Which tasks have outputs that a place meets.
+ghost use Rattle.std.specs.Prelude.{◌≡◌, ◌↔◌, ℕ, Contains, IfOk, IsTrue};
+ghost use Rattle.gb_order.specs.Order.{row, rows};
+ghost use Rattle.gb_order.specs.Chains.{bit_in};
+ghost use Rattle.gb_graph.specs.Places.{IsRising};
+ghost use Rattle.gb_graph.specs.Meetings.{IsMetTask, counts};
+
+use crate::overlaps::overlapped;
+use crate::places::TaskPlace;
+use std::alloc::{AllocError, Global};
+
+/// What is looked for.
+#[derive(Clone, Copy)]
+pub enum Search {
+    /// Outputs that overlap one another.
+    Overlaps,
+    /// Outputs that their own task reads.
+    OwnInputs,
+    /// Outputs that a task reads and does not come after.
+    Undeclared,
+}
+
+/// Whether the second task stands before the first by a chain.
+fn is_chained(chains: &[Vec<u64>], task: usize, before: usize) -> bool
+    ensures { IsTrue result ↔ (bit_in (row (rows chains.now) task) before ≡ 1) }
+{
+    match chains.get(task) {
+        None => false,
+        Some(row) => match row.get(before / 64) {
+            None => false,
+            Some(word) => (*word >> (before % 64)) % 2 == 1,
+        },
+    }
+}
+
+/// Whether a place and an output that overlap are what is looked for.
+fn counts(search: Search, chains: &[Vec<u64>], at: &TaskPlace, output: &TaskPlace) -> bool
+    ensures { result ≡ counts search (rows chains.now) at.now output.now }
+{
+    match search {
+        Search::Overlaps => at.number != output.number,
+        Search::OwnInputs => at.task == output.task,
+        Search::Undeclared => {
+            at.task != output.task && !is_chained(chains, at.task, output.task)
+        }
+    }
+}
+
+/// The tasks with outputs that a place meets.
+pub fn met_at(
+    alloc: Global,
+    search: Search,
+    chains: &[Vec<u64>],
+    outputs: &[TaskPlace],
+    at: &TaskPlace,
+) -> Result<Vec<usize>, AllocError>
+    requires { IsRising outputs.now }
+    ensures { IfOk result (λ tasks. (task : ℕ) → Contains tasks.items task
+        ↔ IsMetTask search (rows chains.now) outputs.now at.now task) }
+{
+    let found = overlapped(alloc, outputs, &at.place)?;
+    let mut tasks = Vec::new(alloc);
+    for index in &found {
+        let output = &outputs[*index];
+        if counts(search, chains, at, output) {
+            tasks.push(output.task)?;
+        }
+    }
+    Ok(tasks)
+}

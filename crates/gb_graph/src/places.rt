@@ -1,0 +1,105 @@
+//! The places of a plan's tasks, in rows.
+ghost use Rattle.std.specs.Prelude.{◌≡◌, ◌∷◌, [], map, IfOk, OnOk};
+ghost use Rattle.std.specs.List.{flat_map};
+ghost use Rattle.gb_core.specs.Lists.{byte_order};
+ghost use Rattle.gb_plan.specs.Task.{roots_of, output_places};
+ghost use Rattle.gb_graph.specs.Places.{AreSamePlaces, IsRising, places_from, with_places};
+
+use gb_core::place::Place;
+use gb_plan::plan::Planned;
+use gb_plan::task::{FileProperty, Output};
+use std::alloc::{AllocError, Global};
+use std::cmp::Ordering;
+
+/// A place of a task: one of its outputs, or a root of what it reads.
+#[derive(Drop)]
+pub struct TaskPlace {
+    /// The number of the task in its plan.
+    pub task: usize,
+    /// The place's own number, counted over all tasks.
+    pub number: usize,
+    pub place: Place,
+}
+
+fn add(row: &mut Vec<TaskPlace>, task: usize, place: &Place) -> Result<(), AllocError>
+    ensures { OnOk result (row.new.items ≡ with_places row.old.items ((task, place.now) ∷ [])) }
+{
+    let number = row.len();
+    let place = place.copy()?;
+    row.push(TaskPlace {
+        task,
+        number,
+        place,
+    })?;
+    Ok(())
+}
+
+fn add_outputs(row: &mut Vec<TaskPlace>, task: usize, outputs: &[Output]) -> Result<(), AllocError>
+    ensures { OnOk result (row.new.items ≡ with_places row.old.items
+        (map (λ place. (task, place)) (map (λ output. output.place) outputs.now))) }
+{
+    for output in outputs {
+        add(row, task, &output.place)?;
+    }
+    Ok(())
+}
+
+fn add_roots(row: &mut Vec<TaskPlace>, task: usize, roots: &[Place]) -> Result<(), AllocError>
+    ensures { OnOk result (row.new.items ≡ with_places row.old.items
+        (map (λ root. (task, root)) roots.now)) }
+{
+    for root in roots {
+        add(row, task, root)?;
+    }
+    Ok(())
+}
+
+fn add_files(
+    row: &mut Vec<TaskPlace>,
+    task: usize,
+    files: &[FileProperty],
+) -> Result<(), AllocError>
+    ensures { OnOk result (row.new.items ≡ with_places row.old.items
+        (map (λ root. (task, root)) (flat_map (λ property. property.roots) files.now))) }
+{
+    for property in files {
+        add_roots(row, task, property.roots.as_slice())?;
+    }
+    Ok(())
+}
+
+/// The output places of all tasks.
+pub fn outputs_of(alloc: Global, tasks: &[Planned]) -> Result<Vec<TaskPlace>, AllocError>
+    ensures { IfOk result (λ row. row.items ≡ with_places [] (places_from output_places 0 tasks.now)) }
+{
+    let mut row = Vec::new(alloc);
+    for task in 0..tasks.len() {
+        add_outputs(&mut row, task, tasks[task].task.outputs.as_slice())?;
+    }
+    Ok(row)
+}
+
+/// The roots of the files that all tasks read.
+pub fn roots_of(alloc: Global, tasks: &[Planned]) -> Result<Vec<TaskPlace>, AllocError>
+    ensures { IfOk result (λ row. row.items ≡ with_places [] (places_from roots_of 0 tasks.now)) }
+{
+    let mut row = Vec::new(alloc);
+    for task in 0..tasks.len() {
+        add_files(&mut row, task, tasks[task].task.files.as_slice())?;
+    }
+    Ok(row)
+}
+
+fn by_place(a: &TaskPlace, b: &TaskPlace) -> Ordering
+    ensures { result ≡ byte_order a.now.place b.now.place }
+{
+    a.place.cmp(&b.place)
+}
+
+/// Sorts places by their bytes.
+pub fn sort(row: &mut Vec<TaskPlace>)
+    ensures rising { IsRising row.new.items }
+    ensures same { AreSamePlaces row.old.items row.new.items }
+{
+    row.sort_unstable_by(|a, b| by_place(a, b));
+}

@@ -1,0 +1,56 @@
+//! Why a plan is refused whose tasks all get ready.
+ghost use Rattle.std.specs.Prelude.{◌≡◌, [], true, IfOk};
+ghost use Rattle.gb_plan.specs.Graph.{Plan, order, no_repeats, stuck};
+ghost use Rattle.gb_plan.specs.Refusal.{IsScheduleFault};
+ghost use Rattle.gb_graph.specs.Answer.{IsFirst, IsJudged};
+ghost use Rattle.gb_graph.specs.Meetings.{meeting_of};
+
+use crate::least::Found;
+use crate::met::Search;
+use crate::tables::{least_of, tables_of};
+use gb_plan::plan::Planned;
+use gb_report::fault::Fault;
+use std::alloc::{AllocError, Global};
+
+/// What was looked for, and the least meeting that was found.
+#[derive(Drop)]
+pub struct Refusal {
+    pub search: Search,
+    pub found: Found,
+}
+
+/// Why the plan is refused, if it is: outputs that overlap are told before outputs that their own task
+/// reads, and those before outputs that a task reads and does not come after.
+pub fn refusal_of(alloc: Global, tasks: &[Planned]) -> Result<Option<Refusal>, AllocError>
+    requires once { no_repeats (order tasks.now) ≡ true }
+    requires ready { stuck tasks.now [] tasks.now ≡ [] }
+    ensures { IfOk result (λ refusal. IsJudged tasks.now refusal) }
+{
+    let tables = tables_of(alloc, tasks)?;
+    let search = Search::Overlaps;
+    if let Some(found) = least_of(alloc, search, tasks, &tables)? {
+        return Ok(Some(Refusal { search, found }));
+    }
+    let search = Search::OwnInputs;
+    if let Some(found) = least_of(alloc, search, tasks, &tables)? {
+        return Ok(Some(Refusal { search, found }));
+    }
+    let search = Search::Undeclared;
+    match least_of(alloc, search, tasks, &tables)? {
+        Some(found) => Ok(Some(Refusal { search, found })),
+        None => Ok(None),
+    }
+}
+
+/// The fault that tells why: 61, 63 or 62.
+pub fn told(refusal: Refusal) -> Fault
+    ensures { (plan : Plan) → stuck plan [] plan ≡ []
+        → IsFirst plan refusal.search (meeting_of refusal.found) → IsScheduleFault plan result }
+{
+    let found = refusal.found;
+    match refusal.search {
+        Search::Overlaps => Fault::OverlappingOutputs(found.task, found.other, found.place),
+        Search::OwnInputs => Fault::OwnOutputAsInput(found.task, found.place),
+        Search::Undeclared => Fault::UndeclaredDependency(found.task, found.other, found.place),
+    }
+}

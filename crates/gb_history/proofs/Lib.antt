@@ -1,0 +1,7 @@
+pub mod Places
+pub mod Rising
+pub mod Ordinary
+pub mod Lists
+pub mod Records
+pub mod Deciding
+pub mod OneText

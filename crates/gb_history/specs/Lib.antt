@@ -1,0 +1,6 @@
+pub mod Places
+pub mod Ascending
+pub mod Faults
+pub mod Remembered
+pub mod Text
+pub mod Decision

@@ -1,0 +1,122 @@
+-- The text of a record: its JSON, a line feed, the digest of the JSON, a line feed.
+use Rattle.std.specs.Prelude.{ℕ, ◌≡◌, ⊤, List, [], ◌∷◌, ◌++◌, map, codes}
+use Rattle.std.specs.List.{AllByRecursion}
+use Rattle.std.specs.Str.{IsUtf8}
+use Rattle.hex.specs.Hex.{encode_lower}
+use Rattle.sha2.specs.Sha256.{sha256}
+use Rattle.serde_json.specs.Data.{Data, boolean, number, unsigned, string, array, object, no_members, member}
+use Rattle.serde_json.specs.View.{items_of}
+use Rattle.serde_json.specs.Written.{compact_text}
+use Rattle.gb_core.specs.declared.value.Value.{Value}
+use Rattle.gb_core.specs.declared.value.Value.TheVariants as values
+use Rattle.gb_action.specs.declared.output.Form.{Form}
+use Rattle.gb_action.specs.declared.output.Form.TheVariants as forms
+use Rattle.gb_plan.specs.declared.task.Action.{Action}
+use Rattle.gb_history.specs.declared.record.OutputRecord.{OutputRecord}
+use Rattle.gb_history.specs.declared.record.Edition.{Edition}
+use Rattle.gb_history.specs.declared.record.Edition.TheVariants as editions
+use Rattle.gb_history.specs.Remembered.{Remembered, Prints, IsAction, IsRemembered}
+
+abbrev pub value_json : Value → Data
+value_json (values.Text text) = object (member (codes "text") (string text) no_members)
+value_json (values.Flag flag) = object (member (codes "flag") (boolean flag) no_members)
+value_json (values.List texts) = object (member (codes "list") (array (items_of (map string texts))) no_members)
+value_json (values.Place place) = object (member (codes "place") (string place) no_members)
+value_json (values.Task path) = object (member (codes "task") (string path) no_members)
+
+abbrev pub input_json : List ℕ × Value → Data
+input_json input = array (items_of (string input.0 ∷ value_json input.1 ∷ []))
+
+abbrev pub plain_object : Data → List ℕ → Data
+plain_object arguments kind =
+    object (member (codes "args") arguments (member (codes "kind") (string kind) no_members))
+
+abbrev pub versioned_object : Data → List ℕ → ℕ → Data
+versioned_object arguments kind version = object
+    (member (codes "args") arguments
+    (member (codes "kind") (string kind)
+    (member (codes "version") (number (unsigned version)) no_members)))
+
+-- the first edition knows no versions
+abbrev pub action_json : Edition → Action → Data
+action_json editions.First action =
+    plain_object (array (items_of (map value_json action.args))) action.kind
+action_json editions.Second action =
+    versioned_object (array (items_of (map value_json action.args))) action.kind action.version
+
+abbrev pub print_json : List ℕ × List ℕ → Data
+print_json print = array (items_of (string print.0 ∷ string (encode_lower print.1) ∷ []))
+
+abbrev pub prints_json : Prints → Data
+prints_json prints = object
+    (member (codes "name") (string prints.0)
+    (member (codes "prints") (array (items_of (map print_json prints.1))) no_members))
+
+abbrev pub shape_text : Form → List ℕ
+shape_text forms.File = codes "file"
+shape_text forms.Dir = codes "dir"
+
+abbrev pub output_json : OutputRecord → Data
+output_json output = object
+    (member (codes "name") (string output.prints.0)
+    (member (codes "place") (string output.place)
+    (member (codes "prints") (array (items_of (map print_json output.prints.1)))
+    (member (codes "shape") (string (shape_text output.form)) no_members))))
+
+abbrev pub run_object : Data → Data → Data → List ℕ → Data → Data
+run_object actions files outputs path values = object
+    (member (codes "actions") actions
+    (member (codes "files") files
+    (member (codes "outputs") outputs
+    (member (codes "task") (string path)
+    (member (codes "values") values no_members)))))
+
+-- the record of the task of this path
+abbrev pub run_json : Edition → List ℕ → Remembered → Data
+run_json edition path run =
+    run_object (array (items_of (map (action_json edition) run.actions)))
+    (array (items_of (map prints_json run.inputs)))
+    (array (items_of (map output_json run.outputs)))
+    path
+    (array (items_of (map input_json run.values)))
+
+-- the number by which an edition is told
+abbrev pub edition_number : Edition → ℕ
+edition_number editions.First = 1
+edition_number editions.Second = 2
+
+-- a list of that record alone
+abbrev pub record_json : Edition → List ℕ → Remembered → Data
+record_json edition path run = object
+    (member (codes "form") (number (unsigned (edition_number edition)))
+    (member (codes "tasks") (array (items_of (run_json edition path run ∷ []))) no_members))
+
+-- a text and its seal
+abbrev pub sealed : List ℕ → List ℕ
+sealed json = json ++ 10 ∷ (encode_lower (sha256 json) ++ 10 ∷ [])
+
+unfoldable pub text_in : Edition → List ℕ → Remembered → List ℕ
+text_in edition path run = sealed (compact_text (record_json edition path run))
+
+-- the text that is written: that of the second edition
+abbrev pub record_text : List ℕ → Remembered → List ℕ
+record_text = text_in editions.Second
+
+-- the edition can tell the version
+abbrev pub FitsEdition : Edition → Action → Type 0
+FitsEdition editions.First action = action.version ≡ 1
+FitsEdition editions.Second action = ⊤
+
+abbrev pub IsActionIn : Edition → Action → Type 0
+IsActionIn edition action = IsAction action × FitsEdition edition action
+
+-- The text is that of the record in an edition that can tell its versions.
+pub record IsTextOf (path : List ℕ) (run : Remembered) (text : List ℕ) : Type 0 where
+  pub edition : Edition
+  pub fits : AllByRecursion (FitsEdition edition) run.actions
+  pub same : text ≡ text_in edition path run
+
+abbrev pub TextsSayOneRecord : Type 0
+TextsSayOneRecord =
+    (path : List ℕ) (one other : Remembered) (text : List ℕ) → IsUtf8 path → IsRemembered one
+    → IsRemembered other → IsTextOf path one text → IsTextOf path other text → one ≡ other

@@ -1,0 +1,16 @@
+//! What is remembered of a task: one small record, sealed by its digest.
+//!
+//! A record is written as compact JSON, and read only where its text, printed again, is the text that was
+//! read: a damaged, foreign or half-written text is no record.
+#![tactic(auto)]
+
+pub mod decide;
+pub mod fault;
+pub mod history;
+mod order;
+pub mod place;
+mod reading;
+pub mod record;
+mod same;
+pub mod text;
+mod writing;

@@ -1,0 +1,99 @@
+//! What is remembered of a task.
+ghost use Rattle.std.specs.Prelude.{◌≡◌, IsTrue};
+ghost use Rattle.std.specs.FinMap.Entries.{is_sorted};
+ghost use Rattle.gb_core.specs.Lists.{byte_order};
+ghost use Rattle.gb_history.specs.Remembered.{AreInOrder, prints_in};
+
+use gb_action::output::Form;
+use gb_action::values::NamedValues;
+use gb_core::place::Place;
+use gb_plan::task::Action;
+use gb_tree::prints::Prints;
+use std::marker::Model;
+
+/// In which form a record is written.
+#[derive(Clone, Copy, Debug, PartialEq, Eq)]
+pub enum Edition {
+    /// Actions without versions: each has version 1.
+    First,
+    /// Actions with their versions.
+    Second,
+}
+
+/// An output as a run left it, with the digests of its files.
+#[derive(Drop)]
+pub struct OutputRecord {
+    pub form: Form,
+    pub place: Place,
+    pub prints: Prints,
+}
+
+/// What is remembered of a run that ended well; the names of values, properties and outputs strictly rise.
+#[derive(Drop)]
+pub struct Record {
+    actions: Vec<Action>,
+    values: NamedValues,
+    inputs: Vec<Prints>,
+    outputs: Vec<OutputRecord>,
+}
+
+impl Model for Record {
+    ghost use Rattle.std.specs.Prelude.{IsTrue};
+    ghost use Rattle.std.specs.FinMap.Entries.{is_sorted};
+    ghost use Rattle.gb_core.specs.Lists.{byte_order};
+    ghost use Rattle.gb_history.specs.Remembered.{Remembered, prints_in};
+
+    ghost Value = { Remembered };
+
+    ghost view = { λ r. record { actions = r.actions.items; values = r.values; inputs = r.inputs.items; outputs = r.outputs.items } };
+
+    ghost invariant = { λ r. IsTrue (is_sorted byte_order r.values) × IsTrue (is_sorted byte_order r.inputs.items)
+        × IsTrue (is_sorted byte_order (prints_in r.outputs.items)) };
+}
+
+impl Record {
+    /// The record of these actions, input values, file properties and outputs, the last three by rising names.
+    pub fn new(
+        actions: Vec<Action>,
+        values: NamedValues,
+        inputs: Vec<Prints>,
+        outputs: Vec<OutputRecord>,
+    ) -> Record
+        requires values { IsTrue (is_sorted byte_order values) }
+        requires inputs { IsTrue (is_sorted byte_order inputs.items) }
+        requires outputs { IsTrue (is_sorted byte_order (prints_in outputs.items)) }
+        ensures { result ≡ record { actions = actions.items; values = values; inputs = inputs.items; outputs = outputs.items } }
+    {
+        Record {
+            actions,
+            values,
+            inputs,
+            outputs,
+        }
+    }
+
+    pub fn actions(&self) -> &[Action]
+        ensures actions { result.now ≡ self.now.actions }
+        ensures ordered { AreInOrder self.now }
+    {
+        self.actions.as_slice()
+    }
+
+    pub fn values(&self) -> &NamedValues
+        ensures { result.now ≡ self.now.values }
+    {
+        &self.values
+    }
+
+    pub fn inputs(&self) -> &[Prints]
+        ensures { result.now ≡ self.now.inputs }
+    {
+        self.inputs.as_slice()
+    }
+
+    pub fn outputs(&self) -> &[OutputRecord]
+        ensures { result.now ≡ self.now.outputs }
+    {
+        self.outputs.as_slice()
+    }
+}

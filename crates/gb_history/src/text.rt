@@ -1,0 +1,119 @@
+//! The text of a record, and the record that has a text.
+ghost use Rattle.std.specs.Prelude.{◌≡◌, List, ℕ, IfOk, OnOk, IsTrue, IsSomeAnd, MatchResult, ◌↔◌};
+ghost use Rattle.std.specs.List.{AllByRecursion};
+ghost use Rattle.std.specs.Str.{IsUtf8};
+ghost use Rattle.serde_json.specs.Written.{compact_text};
+ghost use Rattle.gb_history.specs.Remembered.{Remembered, IsRemembered};
+ghost use Rattle.gb_history.specs.Text.{record_json, record_text, text_in, sealed, FitsEdition, IsTextOf, TextsSayOneRecord};
+ghost use Rattle.gb_history.specs.declared.record.Edition.{Edition as Written};
+ghost use Rattle.gb_history.specs.declared.fault.RecordFault.TheVariants.{OutOfMemory};
+
+use crate::fault::RecordFault;
+use crate::reading::{edition_from, json_from, record_from};
+use crate::record::{Edition, Record};
+use crate::writing::record_json;
+use gb_core::path::TaskPath;
+use sha2::{Digest, Sha256};
+use std::alloc::{AllocError, Global};
+
+/// A JSON text, a line feed, its digest in hex, a line feed.
+fn sealed_text(alloc: Global, json: &[u8]) -> Result<Vec<u8>, AllocError>
+    ensures { IfOk result (λ text. text.items ≡ sealed json.now) }
+{
+    let digest = hex::encode(alloc, Sha256::digest(json))?;
+    let mut text = Vec::new(alloc);
+    text.extend_from_slice(json)?;
+    text.push(b'\n')?;
+    text.extend_from_slice(digest.as_bytes())?;
+    text.push(b'\n')?;
+    Ok(text)
+}
+
+/// The text of the record of a task in an edition.
+fn text_in(
+    alloc: Global,
+    edition: Edition,
+    path: &TaskPath,
+    run: &Record,
+) -> Result<Vec<u8>, AllocError>
+    ensures text { IfOk result (λ text. text.items ≡ text_in edition path.now run.now) }
+    ensures held { OnOk result (IsRemembered run.now) }
+    ensures utf8 { OnOk result (IsUtf8 path.now) }
+{
+    let json = record_json(alloc, edition, path, run)?;
+    sealed_text(alloc, json.to_vec(alloc)?.as_slice())
+}
+
+/// The text of the record of a task.
+pub fn record_text(alloc: Global, path: &TaskPath, run: &Record) -> Result<Vec<u8>, AllocError>
+    ensures text { IfOk result (λ text. text.items ≡ record_text path.now run.now) }
+    ensures held { OnOk result (IsRemembered run.now) }
+    ensures utf8 { OnOk result (IsUtf8 path.now) }
+{
+    text_in(alloc, Edition::Second, path, run)
+}
+
+fn is_same(left: &[u8], right: &[u8]) -> bool
+    ensures { IsTrue result ↔ (left.now ≡ right.now) }
+{
+    left == right
+}
+
+/// The bytes before the seal, where there is room for one.
+fn before_seal(bytes: &[u8]) -> Option<&[u8]>
+    ensures { (json : List ℕ) → bytes.now ≡ sealed json → IsSomeAnd result (λ text. text.now ≡ json) }
+{
+    if bytes.len() < 66 {
+        return None;
+    }
+    Some(&bytes[..bytes.len() - 66])
+}
+
+/// The edition and the record that a JSON text says.
+fn parsed(alloc: Global, json: &[u8]) -> Result<(Edition, Record), RecordFault>
+    ensures read { (edition : Written) (path : List ℕ) (run : Remembered) → IsUtf8 path → IsRemembered run
+        → AllByRecursion (FitsEdition edition) run.actions → json.now ≡ compact_text (record_json edition path run)
+        → MatchResult result (λ got. (got.0 ≡ edition) × (got.1 ≡ run)) (λ e. e ≡ OutOfMemory) }
+    ensures fits { IfOk result (λ got. AllByRecursion (FitsEdition got.0) got.1.actions) }
+{
+    let json = json_from(alloc, json)?;
+    let Some(edition) = edition_from(&json) else {
+        return Err(RecordFault::NotARecord);
+    };
+    let found = record_from(alloc, edition, &json)?;
+    Ok((edition, found))
+}
+
+/// The record of a task that has this text, in either edition; any other text is 80.
+pub fn read_record(alloc: Global, path: &TaskPath, bytes: &[u8]) -> Result<Record, RecordFault>
+    // What is read has the text.
+    ensures exact { IfOk result (λ run. IsTextOf path.now run bytes.now) }
+    ensures utf8 { OnOk result (IsUtf8 path.now) }
+    ensures held { IfOk result IsRemembered }
+    // The text of a record of the task is read as that record.
+    ensures back { (run : Remembered) → IsUtf8 path.now → IsRemembered run → IsTextOf path.now run bytes.now
+        → MatchResult result (λ got. got ≡ run) (λ e. e ≡ OutOfMemory) }
+{
+    let Some(json) = before_seal(bytes) else {
+        return Err(RecordFault::NotARecord);
+    };
+    let (edition, found) = parsed(alloc, json)?;
+    let text = text_in(alloc, edition, path, &found)?;
+    if !is_same(text.as_slice(), bytes) {
+        return Err(RecordFault::NotARecord);
+    }
+    Ok(found)
+}
+
+/// A record that went through its text is the same record.
+pub fn through_text(alloc: Global, path: &TaskPath, run: &Record) -> Result<Record, RecordFault>
+    ensures { MatchResult result (λ got. got ≡ run.now) (λ e. e ≡ OutOfMemory) }
+{
+    let text = record_text(alloc, path, run)?;
+    read_record(alloc, path, text.as_slice())
+}
+
+/// A text is that of one record of a task at most.
+pub fn texts_say_one_record()
+    ensures { TextsSayOneRecord }
+{}

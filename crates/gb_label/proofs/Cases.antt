@@ -1,0 +1,67 @@
+-- The case of a task, by what hinders it and by its source.
+use Rattle.std.specs.Prelude.{◌≡◌, ◌++◌, not, Bool, true, false, List, [], ◌∷◌, Option, None, Some, if◌then◌else◌}
+use Rattle.std.proofs.Common.{refl, sym, ap, ◌∙◌}
+use Rattle.gb_core.specs.Lists.{first_of}
+use Rattle.gb_folder.specs.Files.{Contents, is_empty}
+use Rattle.gb_meaning.specs.Label.{Early, CannotRead, HasNoActions, HasNoSource, Skips, early_case}
+use Rattle.gb_meaning.specs.Tree.{has_no_source, input_faults, listing_faults}
+use Rattle.gb_meaning.proofs.Common.{none_some}
+use Rattle.gb_plan.proofs.Tests.{not_false}
+use Rattle.gb_plan.specs.declared.task.TaskDeclaration.{TaskDeclaration as Task}
+use Rattle.gb_report.specs.declared.fault.Fault.{Fault}
+
+abbrev cased : Bool → Bool → List Fault → Bool → Option Early
+cased runs idle hindrances dry =
+    if not runs then Some Skips
+    else if idle then Some HasNoActions
+    else if not (is_empty hindrances) then Some (CannotRead hindrances)
+    else if dry then Some HasNoSource
+    else None
+
+goes : (runs idle : Bool) (hindrances : List Fault) (dry : Bool) → runs ≡ true → idle ≡ false → cased runs idle hindrances dry ≡ cased true false hindrances dry
+goes runs idle hindrances dry is acts = ap (λ b. cased b idle hindrances dry) is ∙ ap (λ b. cased true b hindrances dry) acts
+
+some_hindrance : (hindrances : List Fault) (dry : Bool) (fault : Fault) → first_of hindrances ≡ Some fault → cased true false hindrances dry ≡ Some (CannotRead hindrances)
+some_hindrance [] dry fault is = none_some is
+some_hindrance (first ∷ hindrances) dry fault is = refl
+
+pub hindered : (task : Task) (folder : Contents) (fault : Fault) → task.runs ≡ true → is_empty task.actions ≡ false
+    → first_of (input_faults task folder ++ listing_faults task folder) ≡ Some fault
+    → (hindrances : List Fault) × (early_case task folder ≡ Some (CannotRead hindrances)) × (first_of hindrances ≡ Some fault)
+hindered task folder fault runs acts first =
+    let hindrances = input_faults task folder ++ listing_faults task folder in (
+      hindrances,
+      goes task.runs (is_empty task.actions) hindrances (has_no_source task folder.files) runs acts
+          ∙ some_hindrance hindrances (has_no_source task folder.files) fault first,
+      first,
+    )
+
+-- the first of the front is the first of all
+pub first_in_front : {X : Type 0} (xs ys : List X) (x : X) → first_of xs ≡ Some x → first_of (xs ++ ys) ≡ Some x
+first_in_front [] ys x is = none_some is
+first_in_front (z ∷ xs) ys x is = is
+
+-- where nothing hinders it, its source decides
+pub by_source : (task : Task) (folder : Contents) (dry : Bool) → task.runs ≡ true → is_empty task.actions ≡ false → input_faults task folder ≡ []
+    → listing_faults task folder ≡ [] → has_no_source task folder.files ≡ dry → early_case task folder ≡ cased true false [] dry
+by_source task folder dry runs acts inputs outputs source =
+    goes task.runs (is_empty task.actions) _ (has_no_source task folder.files) runs acts
+    ∙ ap (λ faults. cased true false (faults ++ listing_faults task folder) (has_no_source task folder.files)) inputs
+    ∙ ap (λ faults. cased true false faults (has_no_source task folder.files)) outputs
+    ∙ ap (cased true false []) source
+
+-- a task of no case has nothing odd at its outputs
+pub listed_if_none : (task : Task) (folder : Contents) → early_case task folder ≡ None → listing_faults task folder ≡ []
+listed_if_none task folder none =
+    behind (input_faults task folder) (listing_faults task folder)
+    (unhindered task.runs (is_empty task.actions) (input_faults task folder ++ listing_faults task folder) (has_no_source task folder.files) none)
+  where
+    unhindered : (runs idle : Bool) (hindrances : List Fault) (dry : Bool) → cased runs idle hindrances dry ≡ None → hindrances ≡ []
+    unhindered false idle hindrances dry e = none_some (sym e)
+    unhindered true true hindrances dry e = none_some (sym e)
+    unhindered true false [] dry e = refl
+    unhindered true false (f ∷ fs) dry e = none_some (sym e)
+
+    behind : (xs ys : List Fault) → xs ++ ys ≡ [] → ys ≡ []
+    behind [] ys e = e
+    behind (x ∷ xs) ys e = not_false (sym (ap is_empty e))

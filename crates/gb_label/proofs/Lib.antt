@@ -1,0 +1,4 @@
+mod Cases
+mod Growth
+mod Names
+mod Sources

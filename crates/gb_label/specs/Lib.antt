@@ -1,0 +1,3 @@
+pub mod Deciding
+pub mod Looking
+pub mod Preparing

@@ -1,0 +1,50 @@
+-- What a task's turn is found to come to before its record is looked at.
+use Rattle.std.specs.Prelude.{ℕ, ◌≡◌, ◌⊎◌, ◌||◌, ◌&&◌, not, Bool, true, false, List, map, Some, None}
+use Rattle.std.specs.List.{list_any, list_all, zip}
+use Rattle.gb_core.specs.Lists.{first_of}
+use Rattle.gb_folder.specs.Files.{Contents, is_empty}
+use Rattle.gb_history.specs.Remembered.{Prints}
+use Rattle.gb_meaning.specs.Label.{Early, CannotRead, HasNoActions, HasNoSource, Skips, early_case}
+use Rattle.gb_meaning.specs.Tree.{trees_of}
+use Rattle.gb_plan.specs.declared.task.FileProperty.{FileProperty}
+use Rattle.gb_plan.specs.declared.task.TaskDeclaration.{TaskDeclaration as Task}
+use Rattle.gb_report.specs.declared.fault.Fault.{Fault}
+use Rattle.gb_store.specs.Faults.{IsOfMachine}
+use Rattle.gb_turn.specs.Reading.{digests_in}
+use Rattle.gb_label.specs.declared.look.Look.{Look}
+use Rattle.gb_label.specs.declared.look.Look.TheVariants as looks
+
+-- the property does not skip the task, since it need not or is not empty by its prints
+abbrev pub is_no_reason : FileProperty × Prints → Bool
+is_no_reason pair = not pair.0.skip_when_empty || is_empty pair.1.1
+
+-- there are properties that skip the task when empty, and all of them are empty by their prints
+abbrev pub lacks_source : List FileProperty → List Prints → Bool
+lacks_source properties inputs =
+    list_any (λ property. property.skip_when_empty) properties && list_all is_no_reason (zip properties inputs)
+
+-- what is found is the task's case; and where it is none, the digests of its inputs
+abbrev pub IsCase : Task → Contents → Look → Type 0
+IsCase task folder looks.Skips = early_case task folder ≡ Some Skips
+IsCase task folder looks.HasNoActions = early_case task folder ≡ Some HasNoActions
+IsCase task folder looks.HasNoSource = early_case task folder ≡ Some HasNoSource
+IsCase task folder (looks.Goes inputs) =
+    (early_case task folder ≡ None) × (inputs.items ≡ digests_in (trees_of task folder.files))
+
+-- what may be found of the task over any folder
+abbrev pub MayBe : Task → Look → Type 0
+MayBe task looks.Skips = task.runs ≡ false
+MayBe task looks.HasNoActions = (task.runs ≡ true) × (is_empty task.actions ≡ true)
+MayBe task looks.HasNoSource =
+    (task.runs ≡ true) × (is_empty task.actions ≡ false)
+    × (list_any (λ property. property.skip_when_empty) task.files ≡ true)
+MayBe task (looks.Goes inputs) =
+    (task.runs ≡ true) × (is_empty task.actions ≡ false)
+    × (map (λ found. found.0) inputs.items ≡ map (λ property. property.name) task.files)
+
+-- the machine failed between these counts, or the fault is the first of what the task cannot be read for
+abbrev pub IsHindered : Task → Contents → ℕ → ℕ → Fault → Type 0
+IsHindered task folder before after fault =
+    IsOfMachine before after fault
+    ⊎ ((hindrances : List Fault) × (early_case task folder ≡ Some (CannotRead hindrances))
+    × (first_of hindrances ≡ Some fault))

@@ -1,0 +1,28 @@
+-- What a started task's turn is prepared for.
+use Rattle.std.specs.Prelude.{◌≡◌, true, false, Option, Some, None}
+use Rattle.std.specs.List.{list_any}
+use Rattle.gb_folder.specs.Files.{Contents, is_empty}
+use Rattle.gb_history.specs.Remembered.{Remembered}
+use Rattle.gb_meaning.specs.Label.{HasNoActions, HasNoSource, Skips, early_case}
+use Rattle.gb_plan.specs.declared.task.TaskDeclaration.{TaskDeclaration as Task}
+use Rattle.gb_report.specs.declared.report.Options.{Options}
+use Rattle.gb_label.specs.Deciding.{IsDecided}
+use Rattle.gb_label.specs.declared.prepare.Prepared.{Prepared}
+use Rattle.gb_label.specs.declared.prepare.Prepared.TheVariants as prepared
+
+-- It is the task's case; and where it is none, what is decided from its record.
+abbrev pub IsPrepared : Options → Task → Contents → Option Remembered → Prepared → Type 0
+IsPrepared options task folder run prepared.Skips = early_case task folder ≡ Some Skips
+IsPrepared options task folder run prepared.HasNoActions = early_case task folder ≡ Some HasNoActions
+IsPrepared options task folder run prepared.HasNoSource = early_case task folder ≡ Some HasNoSource
+IsPrepared options task folder run (prepared.Decided decision) =
+    (early_case task folder ≡ None) × IsDecided options task folder run decision
+
+-- what it may be over any folder
+abbrev pub MayPrepare : Task → Prepared → Type 0
+MayPrepare task prepared.Skips = task.runs ≡ false
+MayPrepare task prepared.HasNoActions = (task.runs ≡ true) × (is_empty task.actions ≡ true)
+MayPrepare task prepared.HasNoSource =
+    (task.runs ≡ true) × (is_empty task.actions ≡ false)
+    × (list_any (λ property. property.skip_when_empty) task.files ≡ true)
+MayPrepare task (prepared.Decided decision) = (task.runs ≡ true) × (is_empty task.actions ≡ false)

@@ -1,0 +1,117 @@
+//! The cases that are settled before any record is looked at.
+ghost use Rattle.std.specs.Prelude.{◌≡◌, ◌≤◌, ◌||◌, true, false, length, IsTrue, IfOk, IfErr, OnErr};
+ghost use Rattle.std.specs.List.{list_all, list_any, zip};
+ghost use Rattle.gb_folder.specs.Files.{SameTearing, is_empty};
+ghost use Rattle.gb_label.specs.Looking.{IsCase, IsHindered, MayBe, is_no_reason, lacks_source};
+ghost use Rattle.gb_plan.specs.Task.{is_output_of};
+ghost use Rattle.gb_store.specs.Faults.{Blames, BlamesOnly};
+ghost use Rattle.gb_turn.specs.Reading.{is_input_of};
+
+use gb_folder::folder::Folder;
+use gb_plan::task::{FileProperty, TaskDeclaration};
+use gb_report::fault::Fault;
+use gb_run::emptying::listed_outputs;
+use gb_tree::prints::Prints;
+use gb_turn::prints::print_inputs;
+use std::alloc::Global;
+
+/// What a task is found to be before its record is looked at.
+#[derive(Drop)]
+pub enum Look {
+    /// `enabled` or a test is false.
+    Skips,
+    HasNoActions,
+    /// All file properties that skip the task when empty are empty.
+    HasNoSource,
+    /// None of these. The prints are those of its file properties.
+    Goes(Vec<Prints>),
+}
+
+/// Whether there are properties that skip a task when empty.
+fn may_skip(properties: &[FileProperty]) -> bool
+    ensures { result ≡ list_any (λ property. property.skip_when_empty) properties.now }
+{
+    properties.iter().any(|property| property.skip_when_empty)
+}
+
+/// Whether the property does not skip its task.
+fn is_no_reason(property: &FileProperty, found: &Prints) -> bool
+    ensures { result ≡ is_no_reason (property.now, found.now) }
+{
+    !property.skip_when_empty || found.as_slice().is_empty()
+}
+
+/// Whether all properties that skip a task when empty are empty.
+fn are_empty(properties: &[FileProperty], inputs: &[Prints]) -> bool
+    requires { length properties.now ≡ length inputs.now }
+    ensures { result ≡ list_all is_no_reason (zip properties.now inputs.now) }
+{
+    for (at, property) in properties.iter().enumerate() {
+        if !is_no_reason(property, &inputs[at]) {
+            return false;
+        }
+    }
+    true
+}
+
+/// Whether there are properties that skip a task when empty, and all of them are empty.
+fn is_without_source(properties: &[FileProperty], inputs: &[Prints]) -> bool
+    requires { length properties.now ≡ length inputs.now }
+    ensures { result ≡ lacks_source properties.now inputs.now }
+{
+    may_skip(properties) && are_empty(properties, inputs)
+}
+
+/// What a task that has actions is found to be.
+fn look_at_files<F: Folder>(
+    alloc: Global,
+    folder: &mut F,
+    task: &TaskDeclaration,
+) -> Result<Look, Fault>
+    requires runs { task.now.runs ≡ true }
+    requires acts { is_empty task.now.actions ≡ false }
+    ensures count { F.failures folder.old ≤ F.failures folder.new }
+    ensures blame { Blames result (F.failures folder.old) (F.failures folder.new) }
+    ensures blamed { BlamesOnly (λ place. is_input_of task.now place || is_output_of task.now place) result }
+    ensures tearing { SameTearing (F.may_leave folder.old) (F.may_leave folder.new) }
+    ensures may_be { IfOk result (MayBe task.now) }
+    ensures same { IsTrue F.tells → F.contents folder.new ≡ F.contents folder.old }
+    ensures case { IsTrue F.tells → IfOk result (IsCase task.now (F.contents folder.old)) }
+    ensures err { IsTrue F.tells → IfErr result
+        (IsHindered task.now (F.contents folder.old) (F.failures folder.old) (F.failures folder.new)) }
+{
+    let inputs = print_inputs(alloc, folder, task)?;
+    let _places = listed_outputs(alloc, folder, task.outputs.as_slice())?;
+    if is_without_source(task.files.as_slice(), inputs.as_slice()) {
+        return Ok(Look::HasNoSource);
+    }
+    Ok(Look::Goes(inputs))
+}
+
+/// What a task is found to be before its record is looked at. Nothing is changed, also not by an error: the
+/// first of what hinders reading its inputs or listing its outputs, or the machine's.
+pub fn looked_at<F: Folder>(
+    alloc: Global,
+    folder: &mut F,
+    task: &TaskDeclaration,
+) -> Result<Look, Fault>
+    ensures count { F.failures folder.old ≤ F.failures folder.new }
+    ensures blame { Blames result (F.failures folder.old) (F.failures folder.new) }
+    ensures blamed { BlamesOnly (λ place. is_input_of task.now place || is_output_of task.now place) result }
+    ensures tearing { SameTearing (F.may_leave folder.old) (F.may_leave folder.new) }
+    // Over any folder: which of them it may be, and that what is skipped or has no actions reads nothing.
+    ensures may_be { IfOk result (MayBe task.now) }
+    ensures reads { OnErr result ((task.now.runs ≡ true) × (is_empty task.now.actions ≡ false)) }
+    ensures same { IsTrue F.tells → F.contents folder.new ≡ F.contents folder.old }
+    ensures case { IsTrue F.tells → IfOk result (IsCase task.now (F.contents folder.old)) }
+    ensures err { IsTrue F.tells → IfErr result
+        (IsHindered task.now (F.contents folder.old) (F.failures folder.old) (F.failures folder.new)) }
+{
+    if !task.runs {
+        return Ok(Look::Skips);
+    }
+    if task.actions.is_empty() {
+        return Ok(Look::HasNoActions);
+    }
+    look_at_files(alloc, folder, task)
+}

@@ -1,0 +1,65 @@
+//! What a started task's turn comes to, before anything is changed.
+ghost use Rattle.std.specs.Prelude.{◌≡◌, ◌≤◌, ◌||◌, true, false, IsTrue, IfOk, IfErr, OnErr, option_copied};
+ghost use Rattle.gb_folder.specs.Files.{SameTearing, is_empty};
+ghost use Rattle.gb_label.specs.Deciding.{HasNamesInOrder};
+ghost use Rattle.gb_label.specs.Looking.{IsHindered};
+ghost use Rattle.gb_label.specs.Preparing.{IsPrepared, MayPrepare};
+ghost use Rattle.gb_plan.specs.Task.{is_output_of};
+ghost use Rattle.gb_store.specs.Faults.{Blames, BlamesOnly};
+ghost use Rattle.gb_turn.specs.Reading.{is_input_of};
+
+use crate::deciding::decided;
+use crate::look::{Look, looked_at};
+use gb_folder::folder::Folder;
+use gb_history::decide::Decision;
+use gb_history::record::Record;
+use gb_plan::task::TaskDeclaration;
+use gb_report::fault::Fault;
+use gb_report::report::Options;
+use std::alloc::Global;
+
+/// What a started task's turn comes to.
+#[derive(Drop)]
+pub enum Prepared {
+    /// `enabled` or a test is false.
+    Skips,
+    HasNoActions,
+    /// All file properties that skip the task when empty are empty: its outputs are to be removed.
+    HasNoSource,
+    /// None of these: it is up to date, or runs by changes or in full.
+    Decided(Decision),
+}
+
+/// What a task's turn comes to, by its record, its inputs and its outputs as they stand. Nothing is changed,
+/// also not by an error: the first of what hinders reading its inputs or listing its outputs, or the machine's.
+pub fn prepare<F: Folder>(
+    alloc: Global,
+    folder: &mut F,
+    task: &TaskDeclaration,
+    options: Options,
+    old: Option<&Record>,
+) -> Result<Prepared, Fault>
+    requires in_order { HasNamesInOrder task.now }
+    ensures count { F.failures folder.old ≤ F.failures folder.new }
+    ensures blame { Blames result (F.failures folder.old) (F.failures folder.new) }
+    ensures blamed { BlamesOnly (λ place. is_input_of task.now place || is_output_of task.now place) result }
+    ensures tearing { SameTearing (F.may_leave folder.old) (F.may_leave folder.new) }
+    // Over any folder: which it may be, and that what is skipped or has no actions reads nothing.
+    ensures may_be { IfOk result (MayPrepare task.now) }
+    ensures reads { OnErr result ((task.now.runs ≡ true) × (is_empty task.now.actions ≡ false)) }
+    ensures same { IsTrue F.tells → F.contents folder.new ≡ F.contents folder.old }
+    ensures prepared { IsTrue F.tells → IfOk result
+        (IsPrepared options task.now (F.contents folder.old) (option_copied old.entry)) }
+    ensures err { IsTrue F.tells → IfErr result
+        (IsHindered task.now (F.contents folder.old) (F.failures folder.old) (F.failures folder.new)) }
+{
+    match looked_at(alloc, folder, task)? {
+        Look::Skips => Ok(Prepared::Skips),
+        Look::HasNoActions => Ok(Prepared::HasNoActions),
+        Look::HasNoSource => Ok(Prepared::HasNoSource),
+        Look::Goes(inputs) => {
+            let decision = decided(alloc, folder, task, options, old, inputs)?;
+            Ok(Prepared::Decided(decision))
+        }
+    }
+}

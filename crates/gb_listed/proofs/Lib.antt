@@ -1,0 +1,5 @@
+pub mod Tables
+pub mod FolderTexts
+pub mod WordFaults
+pub mod Checks
+pub mod Overlapping

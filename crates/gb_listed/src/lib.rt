@@ -1,0 +1,9 @@
+//! Tasks in a list, for tests and benchmarks of plans.
+#![tactic(auto)]
+
+pub mod checking;
+mod declaring;
+mod folder;
+pub mod listed;
+pub mod recipe;
+mod words;

@@ -1,0 +1,46 @@
+-- What a call leaves of what listeners have heard.
+use Rattle.std.specs.Prelude.{ℕ, ◌≡◌, ◌≤◌, ◌↔◌, Bool, true, not, ◌&&◌, List, ◌++◌, Option, None, Some}
+use Rattle.std.specs.List.{AllZip}
+use Rattle.gb_report.specs.declared.report.Heard.{Heard}
+use Rattle.gb_report.specs.declared.report.Heard.TheVariants as heard
+use Rattle.gb_folder.specs.Files.{HasRisen}
+use Rattle.gb_report.specs.declared.report.Report.{Report}
+use Rattle.gb_meaning.specs.Turn.{heard_of}
+use Rattle.gb_meaning.specs.Headline.{Ear, HaveHeard, HearsAll, HearsSome}
+use Rattle.std.specs.Borrow.{Bor}
+use Rattle.gb_report.specs.declared.report.Outcome.{Outcome}
+
+-- what is told of a task: that its turn has come, or with which outcome it ended
+abbrev pub told_of : List ℕ → Option (Bor Outcome) → Heard
+told_of task None = heard.Start task
+told_of task (Some outcome) = heard.End task outcome.now
+
+-- it has refused what it was told: its own count rose, and it has heard no more
+pub record Refuses (old new : Ear) : Type 0 where
+  pub same : new.0 ≡ old.0
+  pub rose : HasRisen old.1 new.1
+
+-- one listener has heard all or some of what it was told, and its count of refusals has not fallen
+pub record HasBeenTold (told : List Heard) (old new : Ear) : Type 0 where
+  pub count : old.1 ≤ new.1
+  pub some : HearsSome told old new
+
+-- All listeners were told; and it is known whether each has heard it all.
+pub record AllTold (told : List Heard) (all_heard : Bool) (old new : List Ear) : Type 0 where
+  pub each : AllZip (HasBeenTold told) old new
+  pub whole : (all_heard ≡ true) ↔ AllZip (HearsAll told) old new
+
+-- ---- What tellings come to
+
+-- Told of some things and then of others, listeners were told of them all.
+abbrev pub ToldMore : Type 0
+ToldMore =
+    (first later : List Heard) (all_first all_later : Bool) (old mid new : List Ear)
+    → AllTold first all_first old mid
+    → AllTold later all_later mid new → AllTold (first ++ later) (all_first && all_later) old new
+
+-- Who was told of each task of a report that was started has heard the build.
+abbrev pub ToldIsHeard : Type 0
+ToldIsHeard =
+    (report : Report) (all_heard : Bool) (old new : List Ear) → report.listener_refused ≡ not all_heard
+    → AllTold (heard_of report.dry_run report.tasks) all_heard old new → HaveHeard report old new

@@ -1,0 +1,72 @@
+-- Over every list of events, each build in which no task failed is from scratch.
+use Rattle.std.specs.Prelude.{List, [], ◌∷◌, ◌++◌, ⊤}
+use Rattle.std.proofs.Common.{inl, inr}
+use Rattle.gb_meaning.specs.declared.events.Event.{Event}
+use Rattle.gb_meaning.specs.declared.events.Event.TheVariants as events
+use Rattle.gb_meaning.specs.declared.events.Answer.{Answer}
+use Rattle.gb_meaning.specs.declared.events.Answer.TheVariants as answers
+use Rattle.gb_folder.specs.Files.{Bytes}
+use Rattle.gb_meaning.specs.TrueRecord.{AreApart}
+use Rattle.gb_meaning.specs.Turn.{Guard}
+use Rattle.gb_meaning.specs.Edits.{Shown}
+use Rattle.gb_meaning.specs.Events.{Setting, State, Step}
+use Rattle.gb_meaning.specs.Headline.{RunHolds, IsClear, StillClear, contents_outside, seen_with, state_of}
+use Rattle.gb_meaning.specs.Every.{Succeeds, AllSucceed, EverySuccessIsFromScratch, contents_of_all}
+use Rattle.gb_meaning.proofs.Lemmas.Clear.{Among, apart_of_fewer, in_left, in_right, in_one}
+
+-- what was seen, and stands before and after an event, is among all
+pub up_to_here : (seen here next rest : List Bytes) → Among (seen ++ here ++ next) (seen ++ (here ++ (next ++ rest)))
+up_to_here seen here next rest c h = elim (in_one c (seen ++ here) next h) [
+  | inl earlier ↦ elim (in_one c seen here earlier) [
+    | inl in_seen ↦ in_left c seen (here ++ (next ++ rest)) in_seen
+    | inr in_here ↦ in_right c seen (here ++ (next ++ rest)) (in_left c here (next ++ rest) in_here)
+  ]
+  | inr in_next ↦ in_right c seen (here ++ (next ++ rest)) (in_right c here (next ++ rest) (in_left c next rest in_next))
+]
+
+-- the same contents, otherwise joined
+pub joined : (seen here rest : List Bytes) → Among (seen ++ here ++ rest) (seen ++ (here ++ rest))
+joined seen here rest c h = elim (in_one c (seen ++ here) rest h) [
+  | inr later ↦ in_right c seen (here ++ rest) (in_right c here rest later)
+  | inl earlier ↦ elim (in_one c seen here earlier) [
+    | inl in_seen ↦ in_left c seen (here ++ rest) in_seen
+    | inr in_here ↦ in_right c seen (here ++ rest) (in_left c here rest in_here)
+  ]
+]
+
+module _ (setting : Setting) where
+  pub step_succeeds : (granted : Guard) (seen : List Bytes) (old new : State) (event : Event) (answer : Answer)
+      → granted (seen_with seen old new) → Step setting granted seen old event answer new → Succeeds setting old.contents event answer new.contents
+  step_succeeds granted seen old new (events.Put place bytes) answer given s = tt
+  step_succeeds granted seen old new (events.Remove place) answer given s = tt
+  step_succeeds granted seen old new events.Lost answer given s = tt
+  step_succeeds granted seen old new (events.Invoke invocation) (answers.Built report) given s =
+      λ none. let success = s.success given none in record { plan = s.plan; planned = s.planned; started = success.0; files = success.1 }
+  step_succeeds granted seen old new (events.Invoke invocation) answers.Edited given s = tt
+  step_succeeds granted seen old new (events.Invoke invocation) (answers.Refused fault) given s = tt
+  step_succeeds granted seen old new (events.Invoke invocation) (answers.NotBuilt fault) given s = tt
+
+  run_succeeds : (clear : Type 0) (seen : List Bytes) (old : State) (all : List Event) (told : List Answer) (end : Shown)
+      → RunHolds setting clear seen old all told end
+      → (states : List State) × (clear → AreApart setting.digest (seen ++ contents_of_all (old ∷ states)) → AllSucceed setting old states all told end)
+  run_succeeds clear seen old [] [] end run = ([], λ _ _. run.1)
+  run_succeeds clear seen old [] (answer ∷ others) end run = absurd run
+  run_succeeds clear seen old (event ∷ rest) [] end run = absurd run
+  run_succeeds clear seen old (event ∷ rest) (answer ∷ others) end run =
+      let next : State = run.0 in
+      let here_seen : List Bytes = contents_outside old.contents in
+      let later = run_succeeds (StillClear setting clear old (seen_with seen old next)) (seen ++ here_seen) next rest others end run.4 in (
+        next ∷ later.0,
+        λ is_clear apart.
+            let here : IsClear setting old.remembered (seen_with seen old next) =
+            inr (apart_of_fewer setting.digest (seen ++ contents_of_all (old ∷ next ∷ later.0)) (seen_with seen old next)
+            (up_to_here seen here_seen (contents_outside next.contents) (contents_of_all later.0)) apart) in (
+              step_succeeds (StillClear setting clear old) seen old next event answer (is_clear, here) run.2,
+              later.1 (is_clear, here) (apart_of_fewer setting.digest (seen ++ contents_of_all (old ∷ next ∷ later.0)) ((seen ++ here_seen) ++ contents_of_all (next ∷ later.0))
+                  (joined seen here_seen (contents_of_all (next ∷ later.0))) apart),
+            ),
+      )
+
+pub every : (setting : Setting) → EverySuccessIsFromScratch setting
+every setting old end all told holds remembered stands =
+    let run = run_succeeds setting ⊤ _ (state_of old remembered) all told end (holds remembered stands) in (run.0, run.1 tt)

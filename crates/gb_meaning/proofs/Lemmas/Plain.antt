@@ -1,0 +1,123 @@
+-- Where no two contents of a run have one digest, no step of it has a premise; and success follows from what
+-- the other clauses of a build say.
+use Rattle.std.specs.Prelude.{ℕ, List, [], ◌∷◌, ◌++◌, ⊤}
+use Rattle.std.proofs.Common.{inl, inr}
+use Rattle.gb_report.specs.declared.report.Options.{Options}
+use Rattle.gb_report.specs.declared.report.TaskReport.{TaskReport}
+use Rattle.gb_meaning.proofs.Standing.{rules_of, standing}
+use Rattle.gb_meaning.specs.declared.events.Event.{Event}
+use Rattle.gb_meaning.specs.declared.events.Event.TheVariants as events
+use Rattle.gb_meaning.specs.declared.events.Answer.{Answer}
+use Rattle.gb_meaning.specs.declared.events.Answer.TheVariants as answers
+use Rattle.gb_folder.specs.Files.{Bytes}
+use Rattle.gb_meaning.specs.Kinds.{Kinds}
+use Rattle.gb_meaning.specs.Memory.{World, folder_contents}
+use Rattle.gb_meaning.specs.TrueRecord.{AreApart}
+use Rattle.gb_plan.specs.Graph.{Plan, Request, IsPlan}
+use Rattle.gb_plan.specs.declared.plan.Planned.{Planned}
+use Rattle.gb_meaning.specs.Label.{Moment}
+use Rattle.gb_meaning.specs.Turn.{May, Guard, Turns, Builds, moment_after}
+use Rattle.gb_meaning.specs.Edits.{Shown}
+use Rattle.gb_meaning.specs.Events.{Setting, State, Step, may_come, own_files, world_in}
+use Rattle.gb_meaning.specs.Headline.{RunHolds, IsClear, StillClear, contents_outside, seen_with, state_of}
+use Rattle.gb_meaning.specs.Every.{PlainRun, ClearRunIsPlain, AllSucceed, Headline, contents_of_all, always}
+use Rattle.gb_meaning.proofs.Lemmas.Clear.{Among, apart_of_fewer, all_hold}
+use Rattle.gb_meaning.proofs.Lemmas.Every.{up_to_here, joined, step_succeeds}
+
+-- ---- A build with no word on digests
+
+-- a guard that holds of fewer contents where it holds of more
+abbrev pub Spreads : Guard → Type 0
+Spreads granted = (all some : List Bytes) → Among some all → granted all → granted some
+
+-- where nothing has a premise, it does not count what was seen
+any_seen : (kinds : Kinds) (options : Options) (may : May) (plan : Plan) (seen other : List Bytes) (rest : List Planned) (moment : Moment) (reports : List TaskReport) (new : World) (failures : ℕ)
+    → Turns (rules_of kinds options may plan) always seen rest moment reports (standing new failures) → Turns (rules_of kinds options may plan) always other rest moment reports (standing new failures)
+any_seen kinds options may plan seen other [] moment [] new failures turns = turns
+any_seen kinds options may plan seen other [] moment (report ∷ reports) new failures turns = turns
+any_seen kinds options may plan seen other (planned ∷ rest) moment [] new failures turns = turns
+any_seen kinds options may plan seen other (planned ∷ rest) moment (report ∷ reports) new failures turns = (
+  turns.0,
+  record { folder = turns.1.folder; files = turns.1.files; odd = turns.1.odd; count = turns.1.count; turn = turns.1.turn },
+  any_seen kinds options may plan (seen ++ folder_contents moment.world) (other ++ folder_contents moment.world) rest (moment_after moment report turns.0) reports new failures turns.2,
+)
+
+module _ (setting : Setting) (granted : Guard) (spreads : Spreads granted) where
+  pub plain_builds : (may : May) (options : Options) (request : Request) (plan : Plan) (seen other : List Bytes) (before after : ℕ) (old new : World) (reports : List TaskReport) → IsPlan request plan
+      → granted (seen ++ folder_contents old ++ folder_contents new)
+      → Builds (rules_of setting.kinds options may plan) granted seen (standing old before) reports (standing new after) → Builds (rules_of setting.kinds options may plan) always other (standing old before) reports (standing new after)
+  plain_builds may options request plan seen other before after old new reports is_plan given builds = elim builds [
+    | inl dry ↦ inl dry
+    | inr run ↦ inr (
+      run.0,
+      any_seen setting.kinds options may plan seen other plan (record { world = old; outcomes = []; failures = before }) reports new after
+          (all_hold setting.kinds options may plan granted spreads seen plan (record { world = old; outcomes = []; failures = before }) reports new after is_plan.sound.outputs_apart given run.1),
+    )
+  ]
+
+  step_plain : (seen : List Bytes) (old new : State) (event : Event) (answer : Answer)
+      → granted (seen_with seen old new) → Step setting granted seen old event answer new → (other : List Bytes) → Step setting always other old event answer new
+  step_plain seen old new (events.Put place bytes) answer given s other = s
+  step_plain seen old new (events.Remove place) answer given s other = s
+  step_plain seen old new events.Lost answer given s other = s
+  step_plain seen old new (events.Invoke invocation) (answers.Built report) given s other = record {
+    plan = s.plan;
+    planned = s.planned;
+    dry_run = s.dry_run;
+    elsewhere = s.elsewhere;
+    dry_keeps = s.dry_keeps;
+    builds = plain_builds (may_come setting (own_files old.contents) invocation.options) invocation.options s.planned.request s.plan seen other old.failures new.failures (world_in old) (world_in new) report.tasks s.planned.planned given s.builds;
+    success = λ _. s.success given;
+  }
+  step_plain seen old new (events.Invoke invocation) (answers.NotBuilt fault) given s other = s
+  step_plain seen old new (events.Invoke invocation) answers.Edited given s other = s
+  step_plain seen old new (events.Invoke invocation) (answers.Refused fault) given s other = s
+
+module _ (setting : Setting) where
+  clear_spreads : (clear : Type 0) (old : State) → Spreads (StillClear setting clear old)
+  clear_spreads clear old all some among given = (given.0, elim given.1 [ inl none ↦ inl none | inr apart ↦ inr (apart_of_fewer setting.digest all some among apart) ])
+
+  run_plain : (clear : Type 0) (seen : List Bytes) (old : State) (all : List Event) (told : List Answer) (end : Shown)
+      → RunHolds setting clear seen old all told end
+      → (states : List State) × (clear → AreApart setting.digest (seen ++ contents_of_all (old ∷ states)) → PlainRun setting old states all told end)
+  run_plain clear seen old [] [] end run = ([], λ _ _. run)
+  run_plain clear seen old [] (answer ∷ others) end run = absurd run
+  run_plain clear seen old (event ∷ rest) [] end run = absurd run
+  run_plain clear seen old (event ∷ rest) (answer ∷ others) end run =
+      let next : State = run.0 in
+      let here_seen : List Bytes = contents_outside old.contents in
+      let later = run_plain (StillClear setting clear old (seen_with seen old next)) (seen ++ here_seen) next rest others end run.4 in (
+        next ∷ later.0,
+        λ is_clear apart.
+            let here : IsClear setting old.remembered (seen_with seen old next) =
+            inr (apart_of_fewer setting.digest (seen ++ contents_of_all (old ∷ next ∷ later.0)) (seen_with seen old next)
+            (up_to_here seen here_seen (contents_outside next.contents) (contents_of_all later.0)) apart) in (
+              run.1,
+              step_plain setting (StillClear setting clear old) (clear_spreads clear old) seen old next event answer (is_clear, here) run.2,
+              run.3 (is_clear, here),
+              later.1 (is_clear, here) (apart_of_fewer setting.digest (seen ++ contents_of_all (old ∷ next ∷ later.0)) ((seen ++ here_seen) ++ contents_of_all (next ∷ later.0))
+                  (joined seen here_seen (contents_of_all (next ∷ later.0))) apart),
+            ),
+      )
+
+pub plain : (setting : Setting) → ClearRunIsPlain setting
+plain setting old end all told holds remembered stands =
+    let run = run_plain setting ⊤ _ (state_of old remembered) all told end (holds remembered stands) in (run.0, run.1 tt)
+
+-- in a plain run each success is from scratch
+plain_succeeds : (setting : Setting) (old : State) (states : List State) (all : List Event) (told : List Answer) (end : Shown)
+    → PlainRun setting old states all told end → AllSucceed setting old states all told end
+plain_succeeds setting old [] [] [] end run = run.1
+plain_succeeds setting old (next ∷ states) (event ∷ rest) (answer ∷ others) end run =
+    (step_succeeds setting always [] old next event answer tt (run.1 []), plain_succeeds setting next states rest others end run.3)
+plain_succeeds setting old [] [] (answer ∷ others) end run = absurd run
+plain_succeeds setting old [] (event ∷ rest) [] end run = absurd run
+plain_succeeds setting old [] (event ∷ rest) (answer ∷ others) end run = absurd run
+plain_succeeds setting old (next ∷ states) [] [] end run = absurd run
+plain_succeeds setting old (next ∷ states) [] (answer ∷ others) end run = absurd run
+plain_succeeds setting old (next ∷ states) (event ∷ rest) [] end run = absurd run
+
+pub headline : (setting : Setting) → Headline setting
+headline setting old end all told holds remembered stands =
+    let run = plain setting old end all told holds remembered stands in
+    (run.0, λ apart. (run.1 apart, plain_succeeds setting (state_of old remembered) run.0 all told end (run.1 apart)))

@@ -1,0 +1,93 @@
+-- Sessions one after another: the records that one leaves are those that the next one finds.
+use Rattle.std.specs.Prelude.{◌≡◌, Bool, true, false, cond, List, [], ◌∷◌, Option, None, Some, IsTrue, is_some}
+use Rattle.std.specs.List.{AllByRecursion}
+use Rattle.std.specs.FinMap.Entries.{find-where_key, is_sorted-where_key, where_key}
+use Rattle.std.proofs.Common.{sym, ap, subst, inl, inr}
+use Rattle.gb_core.specs.Lists.{byte_order}
+use Rattle.gb_core.specs.Path.{is_task_path}
+use Rattle.gb_folder.specs.Files.{Contents, Bytes, file_at}
+use Rattle.gb_plan.specs.Task.{Path}
+use Rattle.gb_meaning.specs.declared.events.Event.{Event}
+use Rattle.gb_meaning.specs.declared.events.Answer.{Answer}
+use Rattle.gb_meaning.specs.Memory.{Entry, Memory, recalled}
+use Rattle.gb_meaning.specs.TrueRecord.{Stores}
+use Rattle.gb_meaning.specs.Edits.{Shown}
+use Rattle.gb_meaning.specs.Events.{Setting, State}
+use Rattle.gb_meaning.specs.Headline.{Stands}
+use Rattle.gb_meaning.specs.Every.{PlainRun}
+use Rattle.gb_meaning.specs.Sessions.{Session, IsEdited, SessionsHold, AllHold, HeadlineOfSessions, begins, remembered_after, still_remembered}
+use Rattle.gb_meaning.proofs.Common.{none_some}
+use Rattle.gb_meaning.proofs.Lemmas.Files.{tied_same, T_of, of_T}
+use Rattle.gb_meaning.proofs.Lemmas.Plain.{headline}
+
+-- what holds of all entries holds of some
+some_hold : {X : Type 0} (test : Path → Bool) (P : Path × X → Type 0) (entries : List (Path × X))
+    → AllByRecursion P entries → AllByRecursion P (where_key byte_order test entries)
+some_hold test P [] h = tt
+some_hold test P (entry ∷ entries) h =
+    elim (test entry.0) as (λ b. AllByRecursion P (cond b (entry ∷ where_key byte_order test entries) (where_key byte_order test entries))) [
+      | true ↦ (h.0, some_hold test P entries h.1)
+      | false ↦ some_hold test P entries h.1
+    ]
+
+module _ (setting : Setting) where
+  -- the record of one task, where its file stands as it did, or is gone
+  stores : (path : Path) (old new : Option Bytes) (entry : Option Entry) → Stores setting.digest setting.says path old entry
+      → new ≡ old → Stores setting.digest setting.says path new (cond (is_some new) entry None)
+  stores path old None entry h same = tt
+  stores path old (Some bytes) entry h same = subst (λ left. Stores setting.digest setting.says path left entry) (sym same) h
+
+  gone : (path : Path) (new : Option Bytes) (entry : Option Entry) → new ≡ None → Stores setting.digest setting.says path new (cond (is_some new) entry None)
+  gone path None entry is_none = tt
+  gone path (Some bytes) entry is_none = none_some (sym is_none)
+
+  -- after an edit the records that still stand are those of what is still remembered
+  still_stands : (old new : Contents) (remembered : Memory) → IsEdited setting old new → Stands setting old remembered
+      → Stands setting new (still_remembered setting new remembered)
+  still_stands old new remembered edited stands = record {
+    is_folder = edited.is_folder;
+    in_order = of_T _ (is_sorted-where_key byte_order there remembered (T_of _ stands.in_order));
+    of_tasks = some_hold there (λ entry. IsTrue (is_task_path entry.0)) remembered stands.of_tasks;
+    records = λ path is_path. subst (Stores setting.digest setting.says path (file_at new.files (setting.record_place path))) (sym (found path)) (elim (edited.records path is_path) [
+      | inl same ↦ stores path (file_at old.files (setting.record_place path)) (file_at new.files (setting.record_place path)) (recalled remembered path) (stands.records path is_path) same
+      | inr is_none ↦ gone path (file_at new.files (setting.record_place path)) (recalled remembered path) is_none
+    ]);
+    made = some_hold there _ remembered stands.made;
+  }
+    where
+      there : Path → Bool
+      there path = is_some (file_at new.files (setting.record_place path))
+
+      found : (path : Path) → recalled (where_key byte_order there remembered) path ≡ cond (there path) (recalled remembered path) None
+      found path = find-where_key byte_order there path (λ x e. ap there (sym (tied_same path x e))) remembered
+
+  -- what a plain run leaves is what is remembered after its last state
+  plain_end : (old : State) (states : List State) (all : List Event) (told : List Answer) (end : Shown) → Stands setting old.contents old.remembered
+      → PlainRun setting old states all told end → Stands setting end.contents (remembered_after old.remembered states)
+  plain_end old [] [] [] end stands run = subst (λ folder. Stands setting folder old.remembered) run.1 stands
+  plain_end old (next ∷ states) (event ∷ rest) (answer ∷ others) end stands run = plain_end next states rest others end run.2 run.3
+  plain_end old [] [] (answer ∷ others) end stands run = absurd run
+  plain_end old [] (event ∷ rest) [] end stands run = absurd run
+  plain_end old [] (event ∷ rest) (answer ∷ others) end stands run = absurd run
+  plain_end old (next ∷ states) [] [] end stands run = absurd run
+  plain_end old (next ∷ states) [] (answer ∷ others) end stands run = absurd run
+  plain_end old (next ∷ states) (event ∷ rest) [] end stands run = absurd run
+
+  all_hold : (left : Contents) (sessions : List Session) → SessionsHold setting left sessions → (remembered : Memory) → Stands setting left remembered → AllHold setting remembered sessions
+  all_hold left [] hold remembered stands = tt
+  all_hold left (session ∷ rest) hold remembered stands =
+      let first : State = begins setting session remembered in
+      let found = still_stands left session.start.contents remembered hold.0 stands in
+      let run = headline setting session.start session.end session.events session.answers hold.1 first.remembered found in (
+        run.0,
+        λ apart.
+            let plain = run.1 apart in (
+              plain.0,
+              plain.1,
+              all_hold session.end.contents rest hold.2 (remembered_after first.remembered run.0)
+                  (plain_end first run.0 session.events session.answers session.end found plain.0),
+            ),
+      )
+
+pub sessions : (setting : Setting) → HeadlineOfSessions setting
+sessions setting left all hold remembered stands = all_hold setting left all hold remembered stands

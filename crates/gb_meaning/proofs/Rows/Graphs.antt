@@ -1,0 +1,86 @@
+-- A task whose need fails, its finalizer, and a task behind both.
+use Rattle.std.specs.Prelude.{◌≡◌, true, false, List, [], ◌∷◌, codes, refl, Ok}
+use Rattle.gb_report.specs.declared.fault.Fault.TheVariants as faults
+use Rattle.gb_report.specs.declared.report.Outcome.{Outcome}
+use Rattle.gb_report.specs.declared.report.Outcome.TheVariants as outcomes
+use Rattle.gb_report.specs.declared.report.Heard.TheVariants as heard
+use Rattle.gb_report.specs.declared.report.TaskReport.{TaskReport}
+use Rattle.gb_report.specs.declared.report.Report.{Report}
+use Rattle.gb_core.specs.declared.value.Value.{Value}
+use Rattle.gb_core.specs.declared.value.Value.TheVariants as values
+use Rattle.gb_plan.specs.Task.{Text, Path}
+use Rattle.gb_plan.specs.declared.task.Action.{Action}
+use Rattle.gb_plan.specs.declared.task.TaskDeclaration.{TaskDeclaration as Task}
+use Rattle.gb_plan.specs.Graph.{Registry, Plan}
+use Rattle.gb_meaning.specs.Turn.{heard_of, dry_reports}
+use Rattle.std.specs.Fmt.{digits}
+use Rattle.gb_report.specs.Report.{report_text}
+
+abbrev pub asks : Text → List Value → Action
+asks name args = record { kind = name; version = 1; args = args }
+
+abbrev pub action : Text → Text → Action
+action name text = asks name (values.Text text ∷ [])
+
+abbrev pub plain : Path → List Action → List Path → List Path → Task
+plain path actions needs finalizers = record {
+  path = path;
+  runs = true;
+  is_stale = false;
+  values = [];
+  files = [];
+  outputs = [];
+  actions = actions;
+  needs = needs;
+  must_run_after = [];
+  finalizers = finalizers;
+}
+
+abbrev pub p : Task
+p = plain (codes ":p") (action (codes "printLine") (codes "p") ∷ []) [] []
+
+abbrev pub bad : Task
+bad = plain (codes ":bad") (action (codes "fail") (codes "boom") ∷ []) [] (codes ":fin" ∷ [])
+
+abbrev pub fin : Task
+fin = plain (codes ":fin") (action (codes "printLine") (codes "fin") ∷ []) [] []
+
+abbrev pub q : Task
+q = plain (codes ":q") (action (codes "printLine") (codes "q") ∷ []) (codes ":bad" ∷ []) []
+
+abbrev pub registry : Registry
+registry = record {
+  projects = codes ":" ∷ [];
+  tasks = (codes ":p", Ok p) ∷ (codes ":bad", Ok bad) ∷ (codes ":fin", Ok fin) ∷ (codes ":q", Ok q) ∷ [];
+  default_tasks = [];
+}
+
+abbrev pub plan : Plan
+plan =
+    record { task = bad; word = 0; is_selected = false }
+    ∷ record { task = fin; word = 0; is_selected = false }
+    ∷ record { task = q; word = 0; is_selected = true }
+    ∷ record { task = p; word = 1; is_selected = true } ∷ []
+
+abbrev pub told : Task → Outcome → List Text → TaskReport
+told task outcome lines = record { path = task.path; outcome = outcome; has_actions = true; lines = lines }
+
+abbrev pub report : Report
+report = record {
+  tasks = told bad (outcomes.Failed (faults.ActionFailed (codes "boom"))) [] ∷ told fin outcomes.Executed (codes "fin" ∷ [])
+      ∷ told q outcomes.NotRun [] ∷ told p outcomes.NotRun [] ∷ [];
+  dry_run = false;
+  listener_refused = false;
+}
+
+pub heard_by_all : heard_of false report.tasks ≡ heard.Start (codes ":bad") ∷ heard.End (codes ":bad") (outcomes.Failed (faults.ActionFailed (codes "boom")))
+    ∷ heard.Start (codes ":fin") ∷ heard.End (codes ":fin") outcomes.Executed ∷ []
+heard_by_all = refl
+
+pub printed : report_text report ≡ codes "> Task :bad FAILED\n> Task :fin\nfin\nFAILED :bad: 42 boom\nBUILD FAILED\n2 actionable tasks: 2 executed\n"
+unfolding digits
+printed = refl
+
+pub printed_dry : report_text (record { tasks = dry_reports plan; dry_run = true; listener_refused = false })
+    ≡ codes ":bad SKIPPED\n:fin SKIPPED\n:q SKIPPED\n:p SKIPPED\nBUILD SUCCESSFUL\n"
+printed_dry = refl

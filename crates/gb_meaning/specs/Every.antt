@@ -1,0 +1,88 @@
+-- What a run of any events promises, in one sentence.
+use Rattle.std.specs.Prelude.{◌≡◌, ◌≤◌, false, List, [], ◌∷◌, ◌++◌, Some, ⊤}
+use Rattle.std.specs.List.{flat_map}
+use Rattle.gb_report.specs.declared.report.Report.{Report}
+use Rattle.gb_meaning.specs.declared.events.Event.{Event}
+use Rattle.gb_meaning.specs.declared.events.Event.TheVariants as events
+use Rattle.gb_meaning.specs.declared.events.Answer.{Answer}
+use Rattle.gb_meaning.specs.declared.events.Answer.TheVariants as answers
+use Rattle.gb_meaning.specs.declared.events.Invocation.{Invocation}
+use Rattle.gb_folder.specs.Files.{Bytes, Contents}
+use Rattle.gb_meaning.specs.Memory.{Memory}
+use Rattle.gb_meaning.specs.TrueRecord.{AreApart, outside, memory_contents}
+use Rattle.gb_plan.specs.Graph.{Plan}
+use Rattle.gb_meaning.specs.Turn.{Guard}
+use Rattle.gb_meaning.specs.Scratch.{from_scratch}
+use Rattle.gb_meaning.specs.Edits.{Shown}
+use Rattle.gb_meaning.specs.Events.{AreStarted, Setting, State, Step, HasPlan, has_failure, world_in}
+use Rattle.gb_meaning.specs.Headline.{EventsHold, Stands, contents_outside, state_of}
+
+-- all contents outside `.gb` at some states
+abbrev pub contents_of_all : List State → List Bytes
+contents_of_all states = flat_map (λ state. contents_outside state.contents) states
+
+-- A build of this folder started each task, and left what the tasks of its plan make from scratch, and
+-- nothing else changed.
+pub record IsFromScratch (setting : Setting) (old : Contents) (invocation : Invocation) (report : Report)
+    (new : Contents) : Type 0 where
+  pub plan : Plan
+  pub planned : HasPlan setting (outside old) invocation plan
+  pub started : AreStarted report
+  pub files : from_scratch setting.kinds invocation.options plan (outside old) ≡ Some (outside new).files
+
+-- a build in which no task failed is from scratch; of other answers nothing is said
+abbrev pub Succeeds : Setting → Contents → Event → Answer → Contents → Type 0
+Succeeds setting old (events.Invoke invocation) (answers.Built report) new =
+    has_failure report ≡ false → IsFromScratch setting old invocation report new
+Succeeds setting old event answer new = ⊤
+
+-- one event after another, from state to state, and at last this folder
+abbrev pub AllSucceed : Setting → State → List State → List Event → List Answer → Shown → Type 0
+AllSucceed setting old [] [] [] end = old.contents ≡ end.contents
+AllSucceed setting old (next ∷ states) (event ∷ rest) (answer ∷ others) end =
+    Succeeds setting old.contents event answer next.contents × AllSucceed setting next states rest others end
+AllSucceed setting old states rest others end = ⊥
+
+-- what holds of every list of contents
+abbrev pub always : Guard
+always contents = ⊤
+
+-- A run with no word on digests: each event is a step, and after each the folder holds the records of what is
+-- remembered, which is true.
+abbrev pub PlainRun : Setting → State → List State → List Event → List Answer → Shown → Type 0
+PlainRun setting old [] [] [] end = (old.failures ≤ end.failures) × (old.contents ≡ end.contents)
+PlainRun setting old (next ∷ states) (event ∷ rest) (answer ∷ others) end =
+    (old.failures ≤ next.failures) × ((seen : List Bytes) → Step setting always seen old event answer next)
+    × Stands setting next.contents next.remembered × PlainRun setting next states rest others end
+PlainRun setting old states rest others end = ⊥
+
+-- no two contents that stood at these states, or that the first records speak of, have one digest
+abbrev pub AllApart : Setting → State → List State → Type 0
+AllApart setting start states =
+    AreApart setting.digest (memory_contents (world_in start) ++ contents_of_all (start ∷ states))
+
+-- Over every list of events, from any true records: there are states, one after each event, of which this
+-- holds if no two of their contents have one digest.
+abbrev pub HoldsOfRuns : Setting → (State → List State → List Event → List Answer → Shown → Type 0) → Type 0
+HoldsOfRuns setting Holds =
+    (old end : Shown) (all : List Event) (answered : List Answer) → EventsHold setting old all answered end →
+    (remembered : Memory) → Stands setting old.contents remembered →
+    (states : List State)
+    × (AllApart setting (state_of old remembered) states
+    → Holds (state_of old remembered) states all answered end)
+
+-- each build in which no task failed is from scratch
+abbrev pub EverySuccessIsFromScratch : Setting → Type 0
+EverySuccessIsFromScratch setting = HoldsOfRuns setting (AllSucceed setting)
+
+-- the run is a plain one
+abbrev pub ClearRunIsPlain : Setting → Type 0
+ClearRunIsPlain setting = HoldsOfRuns setting (PlainRun setting)
+
+-- Both of the same states: each event is a step with no premise, after each the folder holds true records,
+-- and each build in which no task failed is from scratch.
+abbrev pub Headline : Setting → Type 0
+Headline setting =
+    HoldsOfRuns setting
+    (λ start states all answered end. PlainRun setting start states all answered end
+    × AllSucceed setting start states all answered end)

@@ -1,0 +1,218 @@
+-- What a build promises, and a run of many.
+use Rattle.std.specs.Prelude.{is_some, map, ℕ, ◌≡◌, ◌≤◌, ◌+◌, ◌-◌, ◌^◌, ◌↔◌, Bool, true, false, not, cond, ◌⊎◌, ◌||◌, Some, None, List, [], ◌∷◌, ◌++◌, length, bytes_eq, Option, Result, Ok, Err, IfOk, IsTrue, ⊤}
+use Rattle.std.specs.List.{AllByRecursion, list_any, count_by, items_where_true, AllZip}
+use Rattle.gb_report.specs.declared.fault.Fault.{Fault}
+use Rattle.gb_report.specs.declared.fault.Fault.TheVariants as faults
+use Rattle.gb_report.specs.declared.report.Outcome.{Outcome}
+use Rattle.gb_report.specs.declared.report.Outcome.TheVariants as outcomes
+use Rattle.gb_report.specs.declared.report.Report.{Report}
+use Rattle.gb_report.specs.declared.report.Heard.{Heard}
+use Rattle.gb_meaning.specs.declared.events.Event.{Event}
+use Rattle.gb_meaning.specs.declared.events.Event.TheVariants as events
+use Rattle.gb_meaning.specs.declared.events.Answer.{Answer}
+use Rattle.gb_meaning.specs.declared.events.Answer.TheVariants as answers
+use Rattle.gb_meaning.specs.declared.events.Invocation.{Invocation}
+use Rattle.gb_folder.specs.Files.{Tearing, is_empty, Place, Bytes, Files, Contents, files_where, with_file, is_own, DiffersOnlyAt, HasRisen}
+use Rattle.gb_core.specs.Place.{is_under}
+use Rattle.gb_plan.specs.Task.{Text, Path}
+use Rattle.gb_meaning.specs.Kinds.{Name, Kind, Kinds}
+use Rattle.gb_action.specs.Meanings.{Meanings, makes_of, prints_of, shape_of}
+use Rattle.gb_plan.specs.Ready.{Rows}
+use Rattle.gb_meaning.specs.Memory.{Memory}
+use Rattle.gb_plan.specs.Graph.{Registry, IsRegistry, build_folder}
+use Rattle.gb_meaning.specs.Turn.{Guard, heard_of}
+use Rattle.gb_meaning.specs.TrueRecord.{Record, RecordTexts, SaysNoRecord, AreApart, StandsFor, outside, memory_contents}
+use Rattle.gb_core.specs.Path.{is_task_path}
+use Rattle.gb_meaning.specs.Edits.{Shown}
+use Rattle.gb_meaning.specs.Events.{Setting, State, Step, world_in}
+
+-- ---- The tables of an invocation
+
+-- the kind of what is stored under a name
+abbrev pub kind_at : {S : Type 0} → Meanings S → Name × S → Kind
+kind_at meanings row = record { name = row.0; version = meanings.version row.1 }
+
+-- what is stored under a name means what the kinds say of it
+pub record AgreesAt {S : Type 0} (meanings : Meanings S) (kinds : Kinds) (row : Name × S) : Type 0 where
+  pub makes : kinds.makes (kind_at meanings row) ≡ makes_of meanings row.1
+  pub prints : kinds.prints (kind_at meanings row) ≡ prints_of meanings row.1
+  pub writes : kinds.writes (kind_at meanings row) ≡ is_some (shape_of meanings row.1).out
+  pub incremental : kinds.incremental (kind_at meanings row) ≡ (shape_of meanings row.1).incremental
+
+-- the tables agree with the kinds
+abbrev pub Agrees : {S : Type 0} → Meanings S → Rows S → Kinds → Type 0
+Agrees meanings rows kinds = AllByRecursion (AgreesAt meanings kinds) rows
+
+-- what scripts say is a registry, whatever the folder holds
+abbrev pub AreRegistries : (Files → List (Name × Text) → Result Registry Fault) → Type 0
+AreRegistries registry_of =
+    (files : Files) (properties : List (Name × Text)) → IfOk (registry_of files properties) IsRegistry
+
+-- ---- The device
+
+-- what the tool itself leaves at the place of a task's record: the text of a record, or nothing
+abbrev pub IsOfTool : RecordTexts → Path → Option Bytes → Type 0
+IsOfTool says path None = ⊤
+IsOfTool says path (Some bytes) = (said : Record) × says path said bytes
+
+-- Where the tool's write or removal was stopped, the old text is left, the new one, none, or one that says no
+-- record of its task.
+abbrev pub TearsAreSeen : RecordTexts → (Path → Place) → Tearing → Type 0
+TearsAreSeen says record_place may_leave =
+    (path : Path) (old new left : Option Bytes) → IsTrue (is_task_path path) → IsOfTool says path new
+    → may_leave (record_place path) old new left →
+    (left ≡ old) ⊎ (left ≡ new) ⊎ SaysNoRecord says path left
+
+abbrev pub is_of_device : Fault → Bool
+is_of_device (faults.Device place) = true
+is_of_device other = false
+
+abbrev pub failed_by_device : Outcome → Bool
+failed_by_device (outcomes.Failed fault) = is_of_device fault
+failed_by_device other = false
+
+-- how often an answer blames the device
+abbrev pub times_blamed : Answer → ℕ
+times_blamed answers.Edited = 0
+times_blamed (answers.Refused fault) = cond (is_of_device fault) 1 0
+times_blamed (answers.Built report) = count_by (λ task. failed_by_device task.outcome) report.tasks
+times_blamed (answers.NotBuilt fault) = cond (is_of_device fault) 1 0
+
+abbrev pub times_blamed_in_all : List Answer → ℕ
+times_blamed_in_all [] = 0
+times_blamed_in_all (answer ∷ rest) = times_blamed answer + times_blamed_in_all rest
+
+-- The device failed at least so often between these counts; at its last value the count tells no more.
+abbrev pub HasFailed : ℕ → ℕ → ℕ → Type 0
+HasFailed times before after = (before + times ≤ after) ⊎ (after ≡ 2 ^ 64 - 1)
+
+-- ---- What stands beside the world
+
+-- at or beneath `.gb` or a project's build folder
+abbrev pub is_of_build : List Path → Place → Bool
+is_of_build projects place =
+    is_own place || list_any (λ project. is_under place (build_folder project)) projects
+
+-- What no build changes, whatever fails: files elsewhere than in `.gb` and in the build folders of the
+-- projects.
+abbrev pub KeepsElsewhere : Result Registry Fault → Contents → Contents → Type 0
+KeepsElsewhere (Ok registry) old new =
+    DiffersOnlyAt (is_of_build registry.projects) old.files new.files × (new.odd ≡ old.odd)
+KeepsElsewhere (Err fault) old new = new ≡ old
+
+-- an edit that was refused changes nothing, but where the device failed at most its place
+abbrev pub RefusedEditKeeps : Place → Fault → Contents → Contents → Type 0
+RefusedEditKeeps place (faults.Device at) old new =
+    DiffersOnlyAt (bytes_eq place) old.files new.files × (new.odd ≡ old.odd)
+RefusedEditKeeps place fault old new = new ≡ old
+
+-- What an event may change, by its answer: a done edit what was asked, a loss `.gb`, a build what a build
+-- may, and a refusal nothing.
+abbrev pub EventKeeps : (Files → List (Name × Text) → Result Registry Fault) → Event → Answer
+    → Contents → Contents → Type 0
+EventKeeps registry_of (events.Put place bytes) answers.Edited old new =
+    new ≡ record old { files = with_file old.files place bytes }
+EventKeeps registry_of (events.Put place bytes) (answers.Refused fault) old new =
+    RefusedEditKeeps place fault old new
+EventKeeps registry_of (events.Remove place) answers.Edited old new =
+    new ≡ record old { files = files_where (λ other. not (bytes_eq place other)) old.files }
+EventKeeps registry_of (events.Remove place) (answers.Refused fault) old new =
+    RefusedEditKeeps place fault old new
+EventKeeps registry_of events.Lost answer old new =
+    DiffersOnlyAt is_own old.files new.files × (new.odd ≡ old.odd)
+EventKeeps registry_of (events.Invoke invocation) (answers.Built report) old new =
+    KeepsElsewhere (registry_of (outside old).files invocation.properties) old new
+EventKeeps registry_of event answer old new = new ≡ old
+
+abbrev pub AllKeepElsewhere : (Files → List (Name × Text) → Result Registry Fault) → List Event → List Answer
+    → Contents → Contents → Type 0
+AllKeepElsewhere registry_of (event ∷ rest) (answer ∷ others) old new =
+    (mid : Contents) × EventKeeps registry_of event answer old mid
+    × AllKeepElsewhere registry_of rest others mid new
+AllKeepElsewhere registry_of events answered old new = new ≡ old
+
+-- ---- Any list of events
+
+-- nothing was remembered as the event began, or no two of the contents have one digest
+abbrev pub IsClear : Setting → Memory → Guard
+IsClear setting remembered contents = IsTrue (is_empty remembered) ⊎ AreApart setting.digest contents
+
+abbrev pub contents_outside : Contents → List Bytes
+contents_outside folder = map (λ file. file.1) (outside folder).files
+
+abbrev pub Stands : Setting → Contents → Memory → Type 0
+Stands setting folder remembered =
+    StandsFor setting.kinds setting.digest setting.says setting.record_place folder remembered
+
+-- what was clear, and what an event from this state on adds to it, for these contents
+abbrev pub StillClear : Setting → Type 0 → State → Guard
+StillClear setting clear old contents = clear × IsClear setting old.remembered contents
+
+-- all that was seen once the event has led from one state to another
+abbrev pub seen_with : List Bytes → State → State → List Bytes
+seen_with seen old new = seen ++ contents_outside old.contents ++ contents_outside new.contents
+
+-- From a state on, each event is a step, as far as what was seen before it is clear; after each the folder
+-- holds the records of what is remembered, and what is remembered is true. Nothing but steps ties what lies
+-- between.
+abbrev pub RunHolds : Setting → Type 0 → List Bytes → State → List Event → List Answer → Shown → Type 0
+RunHolds setting clear seen old [] [] end = (old.failures ≤ end.failures) × (old.contents ≡ end.contents)
+RunHolds setting clear seen old [] (answer ∷ others) end = ⊥
+RunHolds setting clear seen old (event ∷ rest) [] end = ⊥
+RunHolds setting clear seen old (event ∷ rest) (answer ∷ others) end =
+    (next : State) × (old.failures ≤ next.failures)
+    × Step setting (StillClear setting clear old) seen old event answer next
+    × (StillClear setting clear old (seen_with seen old next) → Stands setting next.contents next.remembered)
+    × RunHolds setting (StillClear setting clear old (seen_with seen old next))
+    (seen ++ contents_outside old.contents) next rest others end
+
+-- the state of a folder that shows this, where this is remembered
+abbrev pub state_of : Shown → Memory → State
+state_of shown remembered =
+    record { contents = shown.contents; remembered = remembered; failures = shown.failures }
+
+-- A run of the events holds over whatever true records the old folder holds.
+abbrev pub EventsHold : Setting → Shown → List Event → List Answer → Shown → Type 0
+EventsHold setting old all answered end =
+    (remembered : Memory) → Stands setting old.contents remembered →
+    RunHolds setting ⊤ (memory_contents (world_in (state_of old remembered)))
+    (state_of old remembered) all answered end
+
+-- ---- One invocation
+
+abbrev pub answer_of : Result Report Fault → Answer
+answer_of (Ok report) = answers.Built report
+answer_of (Err fault) = answers.NotBuilt fault
+
+abbrev pub InvocationHolds : Setting → Shown → Invocation → Result Report Fault → Shown → Type 0
+InvocationHolds setting old invocation result end =
+    EventsHold setting old (events.Invoke invocation ∷ []) (answer_of result ∷ []) end
+
+-- ---- Listeners
+
+-- what a listener has heard, and how often it has refused a call
+abbrev pub Ear : Type 0
+Ear = List Heard × ℕ
+
+abbrev pub HearsAll : List Heard → Ear → Ear → Type 0
+HearsAll told old new = new.0 ≡ old.0 ++ told
+
+-- It has heard all that was told, in its order; or it has refused some of it, and heard the rest.
+abbrev pub HearsSome : List Heard → Ear → Ear → Type 0
+HearsSome told old new =
+    HearsAll told old new
+    ⊎ (HasRisen old.1 new.1 × (kept : List Bool) × (length kept ≡ length told)
+    × (new.0 ≡ old.0 ++ items_where_true kept told))
+
+-- Each listener has heard the build, without the calls that it refused, and the report says whether one was.
+pub record HaveHeard (report : Report) (old new : List Ear) : Type 0 where
+  pub each : AllZip (HearsSome (heard_of report.dry_run report.tasks)) old new
+  pub refused : report.listener_refused ≡ false
+      ↔ AllZip (HearsAll (heard_of report.dry_run report.tasks)) old new
+
+-- listeners have heard the builds among the answers, one after another, and nothing else
+abbrev pub HaveHeardAll : List Answer → List Ear → List Ear → Type 0
+HaveHeardAll [] old new = new ≡ old
+HaveHeardAll (answers.Built report ∷ rest) old new =
+    (mid : List Ear) × HaveHeard report old mid × HaveHeardAll rest mid new
+HaveHeardAll (answer ∷ rest) old new = HaveHeardAll rest old new

@@ -1,0 +1,16 @@
+pub mod Kinds
+pub mod Tree
+pub mod Made
+pub mod Scratch
+pub mod Memory
+pub mod Label
+pub mod Turn
+pub mod TrueRecord
+pub mod Edits
+pub mod Events
+pub mod Headline
+pub mod Promise
+pub mod Run
+pub mod Outline
+pub mod Every
+pub mod Sessions

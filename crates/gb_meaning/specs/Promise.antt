@@ -1,0 +1,47 @@
+-- What success means, as a law of the definitions.
+use Rattle.std.specs.Prelude.{ℕ, ◌≡◌, false, List, Some, IsTrue, ⊤, ◌++◌}
+use Rattle.std.specs.List.{list_any, list_all, AllByRecursion}
+use Rattle.gb_report.specs.declared.report.Options.{Options}
+use Rattle.gb_report.specs.declared.report.TaskReport.{TaskReport}
+use Rattle.gb_folder.specs.Files.{Bytes, IsFolder}
+use Rattle.gb_meaning.specs.Kinds.{Kinds}
+use Rattle.gb_meaning.specs.Memory.{folder_contents}
+use Rattle.gb_plan.specs.Graph.{Request, Plan, IsPlan, IsSound}
+use Rattle.gb_plan.specs.Task.{IsShaped}
+use Rattle.gb_report.specs.Outcome.{is_failed, is_started}
+use Rattle.gb_meaning.specs.Turn.{May, Rules, Standing, Builds}
+use Rattle.gb_meaning.specs.Scratch.{from_scratch}
+use Rattle.gb_meaning.specs.TrueRecord.{IsMade, AreApart}
+
+-- whatever the machine may do
+abbrev pub any_fault_comes : May
+any_fault_comes task moment new fault = ⊤
+
+abbrev pub any_rules : Kinds → Options → Plan → Rules
+any_rules kinds options plan = record { kinds = kinds; options = options; may = any_fault_comes; plan = plan }
+
+-- A build from true memory in which no task failed has started each task, and leaves what the plan makes from
+-- scratch, if no two of the contents seen before it, and standing before and after it, have one digest.
+abbrev pub SuccessIsFromScratch : Type 0
+SuccessIsFromScratch =
+    (kinds : Kinds) (options : Options) (digest : Bytes → List ℕ) (request : Request) (plan : Plan)
+    (seen : List Bytes) (old new : Standing) (reports : List TaskReport)
+    → IsPlan request plan → AllByRecursion (λ planned. IsShaped planned.task) plan
+    → IsFolder old.world.folder.files → AllByRecursion (λ entry. IsMade kinds entry.1) old.world.memory
+    → list_any (λ report. is_failed report.outcome) reports ≡ false
+    → AreApart digest (seen ++ folder_contents old.world ++ folder_contents new.world)
+    → Builds (any_rules kinds options plan) (AreApart digest) seen old reports new
+    → (options.dry_run ≡ false → IsTrue (list_all (λ report. is_started report.outcome) reports))
+    × (from_scratch kinds options plan old.world.folder ≡ Some new.world.folder.files)
+
+-- Whatever a build answers, stopped and failed ones among them: memory that was true is true after it, over
+-- the same contents.
+abbrev pub TruthIsKept : Type 0
+TruthIsKept =
+    (kinds : Kinds) (options : Options) (digest : Bytes → List ℕ) (plan : Plan) (seen : List Bytes)
+    (old new : Standing) (reports : List TaskReport)
+    → IsSound plan → IsFolder old.world.folder.files
+    → AllByRecursion (λ entry. IsMade kinds entry.1) old.world.memory
+    → AreApart digest (seen ++ folder_contents old.world ++ folder_contents new.world)
+    → Builds (any_rules kinds options plan) (AreApart digest) seen old reports new
+    → AllByRecursion (λ entry. IsMade kinds entry.1) new.world.memory

@@ -1,0 +1,90 @@
+-- What is stored of a run: digests in place of contents; and when it is true.
+use Rattle.std.specs.Prelude.{ℕ, ◌≡◌, not, List, ◌++◌, map, Ok, Contains, Option, None, Some, IsTrue, ⊤}
+use Rattle.std.specs.FinMap.Entries.{is_sorted}
+use Rattle.gb_core.specs.Path.{is_task_path}
+use Rattle.std.specs.List.{flat_map, AllByRecursion}
+use Rattle.gb_folder.specs.Files.{Place, Bytes, Contents, file_at, files_where, is_own, IsFolder}
+use Rattle.gb_core.specs.Lists.{byte_order}
+use Rattle.gb_meaning.specs.Kinds.{Name, Kinds}
+use Rattle.gb_plan.specs.Task.{Path}
+use Rattle.gb_action.specs.Meanings.{Values}
+use Rattle.gb_plan.specs.declared.task.Action.{Action}
+use Rattle.gb_plan.specs.declared.task.Output.{Output}
+use Rattle.gb_action.specs.Files.{Trees}
+use Rattle.gb_tree.specs.Tree.{files_from}
+use Rattle.gb_meaning.specs.Made.{made_of}
+use Rattle.gb_meaning.specs.Memory.{Entry, Memory, World, recalled}
+
+-- digests by path, for each name
+abbrev pub Prints : Type 0
+Prints = List (Name × List (Place × List ℕ))
+
+pub record Record : Type 0 where
+  pub actions : List Action
+  pub values : Values
+  pub inputs : Prints
+  pub outputs : List Output
+  pub files : Prints
+
+abbrev pub prints_of : (Bytes → List ℕ) → Trees → Prints
+prints_of digest trees = map (λ tree. (tree.0, map (λ file. (file.0, digest file.1)) tree.1)) trees
+
+-- what is stored of an entry: inputs by their paths, outputs by their paths from the output's place
+abbrev pub record_of : (Bytes → List ℕ) → Entry → Record
+record_of digest entry = record {
+  actions = entry.actions;
+  values = entry.values;
+  inputs = prints_of digest entry.inputs;
+  outputs = entry.outputs;
+  files = prints_of digest (map (λ output. (output.name, files_from entry.files output.place)) entry.outputs);
+}
+
+-- the outputs are what the actions make of the inputs; it does not say when
+abbrev pub IsMade : Kinds → Entry → Type 0
+IsMade kinds entry = made_of kinds entry.actions entry.values entry.inputs entry.outputs ≡ Ok entry.files
+
+abbrev pub contents_in : Trees → List Bytes
+contents_in trees = flat_map (λ tree. map (λ file. file.1) tree.1) trees
+
+abbrev pub contents_of : Entry → List Bytes
+contents_of entry = contents_in entry.inputs ++ map (λ file. file.1) entry.files
+
+-- no two contents of the set have one digest
+abbrev pub AreApart : (Bytes → List ℕ) → List Bytes → Type 0
+AreApart digest contents =
+    (a b : Bytes) → Contains contents a → Contains contents b → digest a ≡ digest b → a ≡ b
+
+-- ---- What a folder stands for
+
+-- the folder outside `.gb`
+abbrev pub outside : Contents → Contents
+outside folder = record folder { files = files_where (λ place. not (is_own place)) folder.files }
+
+-- When a text says this record of this task.
+abbrev pub RecordTexts : Type 1
+RecordTexts = Path → Record → Bytes → Type 0
+
+-- no text of a record of the task is left
+abbrev pub SaysNoRecord : RecordTexts → Path → Option Bytes → Type 0
+SaysNoRecord says path None = ⊤
+SaysNoRecord says path (Some bytes) = (said : Record) → ¬ says path said bytes
+
+-- what is left is the text of the entry's record, or of none
+abbrev pub Stores : (Bytes → List ℕ) → RecordTexts → Path → Option Bytes → Option Entry → Type 0
+Stores digest says path left None = SaysNoRecord says path left
+Stores digest says path left (Some entry) =
+    (bytes : Bytes) × (left ≡ Some bytes) × says path (record_of digest entry) bytes
+
+-- A folder holds the records of this memory, all of whose entries are true.
+pub record StandsFor (kinds : Kinds) (digest : Bytes → List ℕ) (says : RecordTexts)
+    (record_place : Path → Place) (folder : Contents) (memory : Memory) : Type 0 where
+  pub is_folder : IsFolder folder.files
+  pub in_order : IsTrue (is_sorted byte_order memory)
+  pub of_tasks : AllByRecursion (λ entry. IsTrue (is_task_path entry.0)) memory
+  pub records : (path : Path) → IsTrue (is_task_path path)
+      → Stores digest says path (file_at folder.files (record_place path)) (recalled memory path)
+  pub made : AllByRecursion (λ entry. IsMade kinds entry.1) memory
+
+-- all contents that a world's memory speaks of
+abbrev pub memory_contents : World → List Bytes
+memory_contents world = flat_map (λ entry. contents_of entry.1) world.memory

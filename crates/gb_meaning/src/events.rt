@@ -1,0 +1,69 @@
+//! What happens to a folder: edits and invocations, and the answer to each.
+ghost use Rattle.std.specs.Prelude.{◌≡◌};
+
+use gb_core::bytes::Bytes;
+use gb_core::name::Name;
+use gb_core::place::Place;
+use gb_core::text::{Text, Texts};
+use gb_report::fault::Fault;
+use gb_report::report::{Options, Report};
+use std::marker::Model;
+
+/// The values of properties that an invocation gives, by name.
+#[derive(Drop)]
+pub struct Properties {
+    properties: Vec<(Name, Text)>,
+}
+
+impl Model for Properties {
+    ghost use Rattle.std.specs.Prelude.{List, ℕ};
+
+    ghost Value = { List (List ℕ × List ℕ) };
+
+    ghost view = { λ p. p.properties.items };
+}
+
+impl Properties {
+    pub fn from_vec(properties: Vec<(Name, Text)>) -> Properties
+        ensures { result ≡ properties.items }
+    {
+        Properties { properties }
+    }
+
+    pub fn as_slice(&self) -> &[(Name, Text)]
+        ensures { result.now ≡ self.now }
+    {
+        self.properties.as_slice()
+    }
+}
+
+/// What a build is asked for.
+#[derive(Drop)]
+pub struct Invocation {
+    pub requested: Texts,
+    pub excluded: Texts,
+    pub properties: Properties,
+    pub options: Options,
+}
+
+#[derive(Drop)]
+pub enum Event {
+    /// A file is put; over one that stands there.
+    Put(Place, Bytes),
+    /// A file is taken away.
+    Remove(Place),
+    /// All that the tool keeps for itself, at and beneath `.gb`, is lost.
+    Lost,
+    /// A build.
+    Invoke(Invocation),
+}
+
+#[derive(Drop)]
+pub enum Answer {
+    Edited,
+    /// An edit was refused, and nothing changed but where the device failed in it.
+    Refused(Fault),
+    Built(Report),
+    /// A build was refused, and nothing changed.
+    NotBuilt(Fault),
+}

@@ -1,0 +1,49 @@
+-- The properties of a project stand in the whole table, once their nodes are made.
+use Rattle.std.specs.Prelude.{◌≡◌, ℕ, ◌<◌, List, [], filter_map, length, Some, reverse, slice_get}
+use Rattle.std.specs.BTreeMap.{is_at}
+use Rattle.std.specs.Map.{lookup}
+use Rattle.std.specs.FinMap.Entries.{find}
+use Rattle.gb_core.specs.Lists.{byte_order}
+use Rattle.gb_provider.specs.declared.expression.Expression.{Expression}
+use Rattle.gb_registry.specs.Projects.{Path}
+use Rattle.gb_registry.specs.Said.{declared_property}
+use Rattle.gb_registry.specs.Source.{Source}
+use Rattle.gb_registry.specs.Tables.{Tables}
+use Rattle.gb_script.specs.Tree.{PropertyOf}
+use Rattle.gb_script.specs.declared.script.Statement.{Statement}
+use Rattle.gb_project.specs.Joined.{Named}
+use Rattle.gb_project.specs.Partly.{IsPartOf}
+use Rattle.gb_project.specs.Spots.{Spot, Written}
+use Rattle.gb_project.specs.Whole.{number_of}
+use Rattle.gb_nodes.specs.Grown.{IsRight}
+use Rattle.gb_nodes.specs.Scripts.{script_site}
+use Rattle.gb_nodes.specs.Statements.{properties_made, unset_property}
+
+module _ {M F Z S A : Type 0} (tables : Tables M F Z S A) (source : Source) (all : List Spot)
+    (whole : List (Expression M F Z)) where
+  -- a property that nothing sets stands under the number of each of these names
+  abbrev pub AreUnset : Path → List (List ℕ) → Type 0
+  AreUnset project names =
+      (k : ℕ) (name : List ℕ) → slice_get names k ≡ Some name
+      → slice_get whole (number_of tables source all (Written project (PropertyOf name) []))
+      ≡ Some (unset_property project name)
+
+  -- Behind other expressions of a part the properties of a script: the table is a part still, and where the
+  -- expressions of the project stand is right.
+  pub record IsLaid (number : ℕ → ℕ) (nodes : List (Expression M F Z)) (project : Path)
+      (given : List (Named (List ℕ))) (statements : List Statement) : Type 0 where
+    pub numbers : ℕ → ℕ
+    pub part : IsPartOf numbers (properties_made project nodes (filter_map declared_property statements)) whole
+    pub agrees : (i : ℕ) → i < length nodes → numbers i ≡ number i
+    pub right : IsRight tables source all whole numbers
+        (properties_made project nodes (filter_map declared_property statements))
+        (script_site project given (length nodes) statements)
+
+  -- The properties of a script that stand in the whole, unset, are laid, where what is given by name is right.
+  abbrev pub ScriptsAreLaid : Type 0
+  ScriptsAreLaid =
+      (number : ℕ → ℕ) (nodes : List (Expression M F Z)) (project : Path) (given : List (Named (List ℕ)))
+      (statements : List Statement) → IsPartOf number nodes whole
+      → ((text : List ℕ) → lookup (is_at (byte_order text)) given ≡ find byte_order text (reverse source.given))
+      → AreUnset project (filter_map declared_property statements)
+      → IsLaid number nodes project given statements

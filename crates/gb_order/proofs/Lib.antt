@@ -1,0 +1,14 @@
+pub mod Rows
+pub mod Keeping
+pub mod Bits
+pub mod Numbers
+pub mod Edges
+pub mod Arranged
+pub mod Permuted
+pub mod Queues
+pub mod Reached
+pub mod Selections
+pub mod Firsts
+pub mod Schedules
+pub mod Rounds
+pub mod Circled

@@ -1,0 +1,36 @@
+-- The order of tasks 0, 1, .., which stand by their keys: the least task has the least number.
+use Rattle.std.specs.Prelude.{ℕ, ◌<◌, ◌≤◌, List, [], ◌∷◌, ◌++◌, map, length, Contains, Vec, slice_index_or}
+use Rattle.std.specs.Global.{Global}
+
+-- rows of numbers, without where they lie
+abbrev pub rows : List (Vec ℕ Global) → List (List ℕ)
+rows vecs = map (λ v. v.items) vecs
+
+-- the tasks that a task comes after
+abbrev pub row : List (List ℕ) → ℕ → List ℕ
+row after task = slice_index_or after task []
+
+-- all that a task comes after stands
+abbrev pub IsReady : List (List ℕ) → List ℕ → ℕ → Type 0
+IsReady after standing task = (before : ℕ) → Contains (row after task) before → Contains standing before
+
+-- the least of the ready tasks that do not stand yet
+pub record IsNext (after : List (List ℕ)) (standing : List ℕ) (task : ℕ) : Type 0 where
+  pub known : task < length after
+  pub waits : ¬ Contains standing task
+  pub ready : IsReady after standing task
+  pub least : (other : ℕ) → other < length after → ¬ Contains standing other → IsReady after standing other → task ≤ other
+
+-- each is the next one when those before it stand
+pub data InOrder (after : List (List ℕ)) : List ℕ → Type 0 where
+  begins : InOrder after []
+  goes_on : {standing : List ℕ} {task : ℕ} → InOrder after standing → IsNext after standing task → InOrder after (standing ++ task ∷ [])
+
+-- in order, as far as any task is ready
+pub record IsOrder (after : List (List ℕ)) (order : List ℕ) : Type 0 where
+  pub in_order : InOrder after order
+  pub whole : (task : ℕ) → task < length after → ¬ Contains order task → ¬ IsReady after order task
+
+-- each row names tasks
+abbrev pub AreTasks : List (List ℕ) → Type 0
+AreTasks after = (task before : ℕ) → Contains (row after task) before → before < length after

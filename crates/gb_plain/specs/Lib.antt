@@ -1,0 +1,5 @@
+pub mod Task
+pub mod Plain
+pub mod Faults
+pub mod Words
+pub mod Declaration

@@ -1,0 +1,14 @@
+pub mod Tests
+pub mod Chains
+pub mod Same
+pub mod Refused
+pub mod Meetings
+pub mod Circles
+pub mod Once
+pub mod Places
+pub mod Registered
+mod RowTasks
+mod PlanRows
+mod OrderRows
+mod CircleRows
+pub mod Plans

@@ -1,0 +1,207 @@
+-- Why what was asked is refused before its first task.
+use Rattle.std.specs.Prelude.{◌≡◌, Bool, true, false, not, ◌&&◌, ◌==◌, ◌⊎◌, List, [], ◌∷◌, ◌++◌, map, if◌then◌else◌, bytes_eq, Some, None, Result, Ok, Err, Contains}
+use Rattle.std.specs.List.{list_any, list_all, flat_map, filter}
+use Rattle.std.specs.Ordering.{is_lt, ordering_then}
+use Rattle.gb_core.specs.Lists.{byte_order, first_of}
+use Rattle.gb_core.specs.Path.{is_task_path, project_of}
+use Rattle.gb_core.specs.Place.{overlaps}
+use Rattle.gb_folder.specs.Files.{Place, is_empty}
+use Rattle.gb_report.specs.declared.fault.Fault.{Fault}
+use Rattle.gb_report.specs.declared.fault.Fault.TheVariants as faults
+use Rattle.gb_tree.specs.Property.{distinct}
+use Rattle.gb_plan.specs.declared.task.TaskDeclaration.{TaskDeclaration}
+use Rattle.gb_plan.specs.Task.{Text, Path, has_path, roots_of, output_places}
+use Rattle.gb_plan.specs.Graph.{Registry, declaration_at, Request, Plan, order, absolute, selected_by, words_of, brings, leaves_out, selected, IsSchedule, after_at, stuck, IsAfter, no_repeats}
+
+-- ---- Words
+
+-- the word has a colon, and names a project that there is not
+abbrev pub lacks_project : Registry → Text → Bool
+lacks_project registry word =
+    list_any (λ byte. byte == 58) word && not (has_path registry.projects (project_of (absolute word)))
+
+-- what is wrong with a word: it is no path, its project does not exist, or it selects no task
+abbrev pub word_faults : Registry → Text → List Fault
+word_faults registry word =
+    if not (is_task_path (absolute word)) then faults.BadName word ∷ []
+    else if lacks_project registry word then faults.UnknownProject word ∷ []
+    else if is_empty (selected_by registry word) then faults.TaskNotFound word ∷ [] else []
+
+-- What is asked of a registry, or the first fault of the words: no word at all, then requested words, then
+-- excluded ones.
+abbrev pub request_of : Registry → List Text → List Text → Result Request Fault
+request_of registry requested excluded = checked (words_of registry requested)
+  where
+    checked : List Text → Result Request Fault
+    checked words =
+        if is_empty words then Err faults.NoTasks
+        else elim (first_of (flat_map (word_faults registry) (words ++ excluded))) [
+          | None ↦ Ok (record {
+            registry = registry;
+            words = words;
+            excluded = flat_map (selected_by registry) excluded;
+          })
+          | Some fault ↦ Err fault
+        ]
+
+-- ---- Declarations
+
+-- those of the tasks that are not left out
+abbrev pub open_of : Request → List Path → List Path
+open_of request paths = filter (λ path. not (leaves_out request path)) paths
+
+-- what the task at a path brings, and neither is done nor waits
+abbrev pub newly_brought : Request → Path → List Path → List Path
+newly_brought request path known =
+    filter (λ next. not (has_path known next)) (open_of request (brings request.registry path))
+
+-- How far the queue of tasks has come: those that were looked at, and those that wait. It begins with the
+-- selected ones; the first that waits is looked at, and what it newly brings waits behind the others.
+pub data Queued (request : Request) : List Path → List Path → Type 0 where
+  begins : Queued request [] (distinct (open_of request (selected request)))
+  goes_on : {done : List Path} {path : Path} {waiting : List Path} {task : TaskDeclaration}
+      → Queued request done (path ∷ waiting)
+      → declaration_at request.registry path ≡ Some (Ok task)
+      → Queued request (done ++ path ∷ []) (waiting ++ newly_brought request path (done ++ path ∷ waiting))
+
+-- the fault is that of the first task of the queue that is at fault
+pub record IsTaskFault (request : Request) (fault : Fault) : Type 0 where
+  pub done : List Path
+  pub path : Path
+  pub waiting : List Path
+  pub queued : Queued request done (path ∷ waiting)
+  pub at_fault : declaration_at request.registry path ≡ Some (Err fault)
+
+-- ---- Cycles
+
+-- the path is one of these, and none of them comes before it by bytes
+pub record IsLeastOf (paths : List Path) (path : Path) : Type 0 where
+  pub is_in : has_path paths path ≡ true
+  pub least : list_all (λ other. not (is_lt (byte_order other path))) paths ≡ true
+
+-- the second task is the least of the unplaced ones that the first comes after
+abbrev pub IsLeastBefore : Plan → List Path → Path → Path → Type 0
+IsLeastBefore plan unplaced path before = IsLeastOf (filter (has_path unplaced) (after_at plan path)) before
+
+-- by steps from one task to another, through these: the one, and all between the two
+pub data Leads (steps : Path → Path → Type 0) : Path → List Path → Path → Type 0 where
+  is_there : {path : Path} → Leads steps path [] path
+  goes : {from : Path} {next : Path} {passed : List Path} {to : Path} → steps from next
+      → Leads steps next passed to → Leads steps from (from ∷ passed) to
+
+-- The circle into which the way from the least unplaced task leads, each time to the least unplaced task that
+-- the last one comes after: from its own least task on, each once. So each comes after the next, and the last
+-- after the first.
+pub record IsCircle (plan : Plan) (unplaced : List Path) (circle : List Path) : Type 0 where
+  pub start : Path
+  pub first : Path
+  pub way : List Path
+  pub from_least : IsLeastOf unplaced start
+  pub comes_to : Leads (IsLeastBefore plan unplaced) start way first
+  pub goes_round : Leads (IsLeastBefore plan unplaced) first circle first
+  pub once : no_repeats circle ≡ true
+  pub least_first : IsLeastOf circle first
+
+-- ---- Unsound plans
+
+-- Two tasks, and a place at which the first meets the second.
+pub record Meeting : Type 0 where
+  pub task : Path
+  pub other : Path
+  pub place : Place
+
+-- by the first task, then by the second, then by the place
+abbrev pub is_before : Meeting → Meeting → Bool
+is_before a b =
+    is_lt
+    (ordering_then (byte_order a.task b.task)
+    (ordering_then (byte_order a.other b.other) (byte_order a.place b.place)))
+
+-- it is one of these meetings, and none of them comes before it
+pub record IsLeastMeeting (Meets : Meeting → Type 0) (meeting : Meeting) : Type 0 where
+  pub meets : Meets meeting
+  pub least : (other : Meeting) → Meets other → is_before other meeting ≡ false
+
+-- output places, each with the path of its task
+abbrev pub outputs_of : Plan → List (Path × Place)
+outputs_of plan =
+    flat_map (λ planned. map (λ place. (planned.task.path, place)) (output_places planned.task)) plan
+
+-- an output place of the first task overlaps another, of the second task or of its own
+pub record IsOverlap (plan : Plan) (meeting : Meeting) : Type 0 where
+  pub front : List (Path × Place)
+  pub back : List (Path × Place)
+  pub stands : outputs_of plan ≡ front ++ (meeting.task, meeting.place) ∷ back
+  pub overlapped :
+      list_any (λ output. bytes_eq output.0 meeting.other && overlaps meeting.place output.1) (front ++ back)
+      ≡ true
+
+-- the second task writes a place that overlaps this root of the first
+pub record IsRead (plan : Plan) (reader writer : TaskDeclaration) (root : Place) : Type 0 where
+  pub reader_in : Contains (map (λ planned. planned.task) plan) reader
+  pub writer_in : Contains (map (λ planned. planned.task) plan) writer
+  pub is_root : has_path (roots_of reader) root ≡ true
+  pub overlapped : list_any (overlaps root) (output_places writer) ≡ true
+
+-- a task reads what it writes itself
+pub record IsOwnInput (plan : Plan) (meeting : Meeting) : Type 0 where
+  pub task : TaskDeclaration
+  pub is_task : meeting.task ≡ task.path
+  pub is_same : meeting.other ≡ task.path
+  pub reads : IsRead plan task task meeting.place
+
+-- a task reads what another writes, and does not come after it
+pub record IsUndeclared (plan : Plan) (meeting : Meeting) : Type 0 where
+  pub reader : TaskDeclaration
+  pub writer : TaskDeclaration
+  pub is_reader : meeting.task ≡ reader.path
+  pub is_writer : meeting.other ≡ writer.path
+  pub two : bytes_eq reader.path writer.path ≡ false
+  pub reads : IsRead plan reader writer meeting.place
+  pub not_after : ¬ IsAfter plan reader writer.path
+
+-- ---- The refusal
+
+-- some tasks never get ready, and the fault tells their circle
+pub record IsCycleFault (plan : Plan) (fault : Fault) : Type 0 where
+  pub some_stuck : is_empty (stuck plan [] plan) ≡ false
+  pub circle : List Path
+  pub is_circle : IsCircle plan (order (stuck plan [] plan)) circle
+  pub told : fault ≡ faults.Cycle circle
+
+-- all get ready, and outputs overlap
+pub record IsOverlapFault (plan : Plan) (fault : Fault) : Type 0 where
+  pub all_ready : stuck plan [] plan ≡ []
+  pub meeting : Meeting
+  pub is_least : IsLeastMeeting (IsOverlap plan) meeting
+  pub told : fault ≡ faults.OverlappingOutputs meeting.task meeting.other meeting.place
+
+-- all get ready, no outputs overlap, and a task reads its own
+pub record IsOwnInputFault (plan : Plan) (fault : Fault) : Type 0 where
+  pub all_ready : stuck plan [] plan ≡ []
+  pub outputs_apart : (other : Meeting) → ¬ IsOverlap plan other
+  pub meeting : Meeting
+  pub is_least : IsLeastMeeting (IsOwnInput plan) meeting
+  pub told : fault ≡ faults.OwnOutputAsInput meeting.task meeting.place
+
+-- all get ready, no outputs overlap, none is read by its own task, and a task reads another's that it does
+-- not come after
+pub record IsUndeclaredFault (plan : Plan) (fault : Fault) : Type 0 where
+  pub all_ready : stuck plan [] plan ≡ []
+  pub outputs_apart : (other : Meeting) → ¬ IsOverlap plan other
+  pub inputs_apart : (other : Meeting) → ¬ IsOwnInput plan other
+  pub meeting : Meeting
+  pub is_least : IsLeastMeeting (IsUndeclared plan) meeting
+  pub told : fault ≡ faults.UndeclaredDependency meeting.task meeting.other meeting.place
+
+-- what is wrong with a schedule of tasks that are declared
+pub data IsScheduleFault (plan : Plan) (fault : Fault) : Type 0 where
+  has_cycle : IsCycleFault plan fault → IsScheduleFault plan fault
+  has_overlap : IsOverlapFault plan fault → IsScheduleFault plan fault
+  has_own_input : IsOwnInputFault plan fault → IsScheduleFault plan fault
+  is_undeclared : IsUndeclaredFault plan fault → IsScheduleFault plan fault
+
+-- What was asked is refused with this fault: of the first task at fault, or where none is, of the schedule.
+abbrev pub IsRefused : Request → Fault → Type 0
+IsRefused request fault =
+    IsTaskFault request fault ⊎ ((plan : Plan) × IsSchedule request plan × IsScheduleFault plan fault)

@@ -1,0 +1,42 @@
+-- What the parts of a declared task are called: its places, and what actions see of it.
+use Rattle.std.specs.Prelude.{ℕ, ◌≡◌, Bool, true, List, map, bytes_eq}
+use Rattle.std.specs.List.{list_any, flat_map}
+use Rattle.gb_core.specs.Place.{is_under}
+use Rattle.gb_folder.specs.Files.{Place, is_empty}
+use Rattle.gb_action.specs.declared.output.Form.{Form}
+use Rattle.gb_plan.specs.declared.task.FileProperty.{FileProperty}
+use Rattle.gb_plan.specs.declared.task.Output.{Output}
+use Rattle.gb_plan.specs.declared.task.TaskDeclaration.{TaskDeclaration}
+
+abbrev pub Text : Type 0
+Text = List ℕ
+
+-- the path of a task, as `:lib:gen`, or of a project, as `:lib`
+abbrev pub Path : Type 0
+Path = List ℕ
+
+abbrev pub has_path : List Path → Path → Bool
+has_path paths path = list_any (bytes_eq path) paths
+
+-- the roots of all file properties
+abbrev pub roots_of : TaskDeclaration → List Place
+roots_of task = flat_map (λ property. property.roots) task.files
+
+abbrev pub output_places : TaskDeclaration → List Place
+output_places task = map (λ output. output.place) task.outputs
+
+-- the place lies at or beneath an output of the task
+abbrev pub is_output_of : TaskDeclaration → Place → Bool
+is_output_of task place = list_any (λ output. is_under place output.place) task.outputs
+
+-- the names of file properties, as actions see them
+abbrev pub seen_files : List FileProperty → List (List ℕ)
+seen_files files = map (λ property. property.name) files
+
+-- the names and forms of outputs, as actions see them
+abbrev pub seen_outputs : List Output → List (List ℕ × Form)
+seen_outputs outputs = map (λ output. (output.name, output.form)) outputs
+
+-- a task without actions has no outputs
+abbrev pub IsShaped : TaskDeclaration → Type 0
+IsShaped task = is_empty task.actions ≡ true → is_empty task.outputs ≡ true

@@ -1,0 +1,6 @@
+//! What a build is asked to run: tasks with all their expressions evaluated, and the plan of their order.
+#![tactic(auto)]
+
+pub mod laws;
+pub mod plan;
+pub mod task;

@@ -1,0 +1,32 @@
+-- The tasks that a realised task names are registered, and stand in the order of their paths, each once.
+use Rattle.std.specs.Prelude.{◌≡◌, true, Ok}
+use Rattle.std.specs.List.{AllByRecursion}
+use Rattle.std.specs.List.Sorted.{IsStrictlySortedBy}
+use Rattle.gb_core.specs.Lists.{byte_order}
+use Rattle.gb_plan.specs.declared.task.TaskDeclaration.{TaskDeclaration}
+use Rattle.gb_registry.specs.Projects.{Path, is_among}
+use Rattle.gb_registry.specs.Source.{Source}
+use Rattle.gb_registry.specs.Tables.{Tables}
+use Rattle.gb_project.specs.Realised.{realised}
+
+abbrev pub IsRegistered : Source → Path → Type 0
+IsRegistered source path = is_among source.names.tasks path ≡ true
+
+-- those that it runs after, and those that finalize it
+pub record NamesTasks (source : Source) (task : TaskDeclaration) : Type 0 where
+  pub after : AllByRecursion (IsRegistered source) task.must_run_after
+  pub finalizers : AllByRecursion (IsRegistered source) task.finalizers
+
+abbrev pub RealisedNamesTasks : {M F Z S A : Type 0} → Tables M F Z S A → Source → Type 0
+RealisedNamesTasks tables source =
+    (path : Path) (task : TaskDeclaration) → realised tables source path ≡ Ok task → NamesTasks source task
+
+-- its needs, those that it runs after, and those that finalize it: each once, by the bytes of their paths
+pub record IsInOrder (task : TaskDeclaration) : Type 0 where
+  pub needs : IsStrictlySortedBy byte_order task.needs
+  pub after : IsStrictlySortedBy byte_order task.must_run_after
+  pub finalizers : IsStrictlySortedBy byte_order task.finalizers
+
+abbrev pub RealisedInOrder : {M F Z S A : Type 0} → Tables M F Z S A → Source → Type 0
+RealisedInOrder tables source =
+    (path : Path) (task : TaskDeclaration) → realised tables source path ≡ Ok task → IsInOrder task

@@ -1,0 +1,21 @@
+-- How a task's trouble is told.
+use Rattle.std.specs.Prelude.{ℕ, ◌≡◌}
+use Rattle.gb_provider.specs.Answers.{RunsInto}
+use Rattle.gb_report.specs.declared.fault.Fault.{Fault}
+use Rattle.gb_report.specs.declared.fault.Fault.TheVariants.{Circular}
+use Rattle.gb_project.specs.Realised.{Trouble, Plain, Endless}
+use Rattle.gb_registry.specs.Tables.{Tables}
+use Rattle.gb_registry.specs.Source.{Source}
+use Rattle.gb_project.specs.Whole.{whole}
+
+module _ {M F Z S A : Type 0} (tables : Tables M F Z S A) (source : Source) (entry : ℕ) where
+  -- The names on the circle that an expression of the whole table runs into. Which circle it is said to be is
+  -- of no account: a workspace
+  -- keeps no numbers of the whole table, and knows of them only that there are some.
+  abbrev pub IsCircleTold : Fault → Type 0
+  IsCircleTold (Circular names) = ∥ RunsInto tables.means (whole tables source) entry names ∥₁
+  IsCircleTold other = ⊥
+
+abbrev pub IsTold : {M F Z S A : Type 0} → Tables M F Z S A → Source → Trouble → Fault → Type 0
+IsTold tables source (Plain known) fault = fault ≡ known
+IsTold tables source (Endless entry) fault = IsCircleTold tables source entry fault

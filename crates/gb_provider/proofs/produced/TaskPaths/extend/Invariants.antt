@@ -1,6 +1,0 @@
-use Rattle.std.proofs.Common.{◌≡◌}
-use Rattle.gb_provider.specs.Produced.{with_tasks}
-use Rattle.gb_provider.proofs.produced.TaskPaths.extend.Given as goal
-
-abbrev pub invariant-loop-task : goal.invariant-loop-task
-invariant-loop-task l = with_tasks l.self l.task-iterator ≡ with_tasks l.initial.self l.more

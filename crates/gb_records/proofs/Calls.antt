@@ -1,0 +1,186 @@
+-- What a folder's answer at a record's place comes to.
+use Rattle.std.proofs.Common.{◌≡◌, ◌≢◌, ◌⊎◌, ◌≤◌, ◌<◌, ◌||◌, ℕ, Bool, true, false, not, cond, IsTrue, List, [], ◌∷◌, ◌++◌, ◌+◌, get_or, take, length, Option, Some, None, Result, Ok, Err, refl, sym, ap, subst, inl, inr, true≢false, arith, ◌∙◌}
+use Rattle.std.specs.Prelude.{IfOk, IfErr, IsSomeAnd, OnOk}
+use Rattle.std.specs.Ordering.{eq_by_cmp}
+use Rattle.std.specs.List.{AllZip, list_all}
+use Rattle.std.proofs.lemmas.Bool.{and_parts}
+use Rattle.std.proofs.lemmas.List.{take_more}
+use Rattle.std.specs.Str.{IsUtf8}
+use Rattle.gb_core.specs.Path.{is_task_path}
+use Rattle.gb_core.specs.Place.{is_place}
+use Rattle.gb_core.specs.Lists.{byte_order}
+use Rattle.gb_folder.specs.Files.{Bytes, Files, Place, Contents, HasRisen, IsFolder, Tearing, are_placed, file_at, is_blocked, with_file, with_left, without}
+use Rattle.gb_folder.specs.declared.folder.FolderFault.{FolderFault}
+use Rattle.gb_folder.specs.declared.folder.FolderFault.TheVariants as folders
+use Rattle.gb_core.specs.declared.place.PlaceFault.{PlaceFault}
+use Rattle.gb_core.specs.declared.place.PlaceFault.TheVariants as places
+use Rattle.gb_report.specs.declared.fault.Fault.{Fault}
+use Rattle.gb_report.specs.declared.fault.Fault.TheVariants as faults
+use Rattle.gb_plan.specs.Task.{Path}
+use Rattle.gb_store.proofs.Emptied.{without_none, blocked_none}
+use Rattle.gb_history.specs.Places.{record_place}
+use Rattle.gb_history.specs.Remembered.{Remembered, IsRemembered}
+use Rattle.gb_history.specs.Text.{record_text}
+use Rattle.gb_history.specs.declared.record.Edition.TheVariants as editions
+use Rattle.gb_history.proofs.Lists.{all_true}
+use Rattle.gb_meaning.specs.Events.{max_record}
+use Rattle.gb_meaning.specs.Headline.{TearsAreSeen}
+use Rattle.gb_meaning.specs.Memory.{Entry, Memory, remember, forget}
+use Rattle.gb_meaning.specs.TrueRecord.{SaysNoRecord}
+use Rattle.gb_meaning.proofs.Lemmas.Files.{same_place}
+use Rattle.gb_records.specs.Faults.{none_for, removed_by, unwritten_for}
+use Rattle.gb_records.specs.Said.{IsText, IsSaidOf, IsReadAt, said_of}
+use Rattle.gb_records.specs.Standing.{ComesToNothing, Standing, StandsWithout, StandsWith, taken_out, written_in}
+use Rattle.gb_records.proofs.Standing.{at_left, elsewhere_left, forgotten, remembered, torn_in, torn_out}
+
+or_true : (b : Bool) → (b || true) ≡ true
+or_true true = refl
+or_true false = refl
+
+-- what a stopped call left at a place
+abbrev pub LeftAt : Tearing → Place → Option Bytes → Contents → Contents → Type 0
+LeftAt may_leave place next old new =
+    (left : Option Bytes) × may_leave place (file_at old.files place) next left × (new ≡ record old { files = with_left old.files place left })
+
+-- ---- a removal
+
+pub out_missing : (path : Path) (old new : Contents) → IsFolder old.files → new ≡ old → file_at old.files (record_place path) ≡ None → new ≡ taken_out true path old
+out_missing path old new sound same none = same ∙ ap (λ files. record old { files = files }) (sym (without_none old.files (record_place path) sound none))
+
+pub out_of : (path : Path) (old new : Contents) (fault : FolderFault) → IsFolder old.files → (fault ≢ folders.Device → new ≡ old)
+    → (fault ≡ folders.Missing → file_at old.files (record_place path) ≡ None) → OnOk (removed_by fault) (new ≡ taken_out true path old)
+out_of path old new folders.OutOfMemory sound same missing = tt
+out_of path old new folders.Device sound same missing = tt
+out_of path old new folders.Missing sound same missing = out_missing path old new sound (same (λ e. cc)) (missing refl)
+out_of path old new folders.Blocked sound same missing = tt
+out_of path old new folders.TooLarge sound same missing = tt
+out_of path old new folders.BadFileName sound same missing = tt
+
+pub nothing_of : (may_leave : Tearing) (path : Path) (before after : ℕ) (old new : Contents) (fault : FolderFault)
+    → (fault ≢ folders.Device → new ≡ old) → (fault ≡ folders.Device → HasRisen before after)
+    → (fault ≡ folders.Device → LeftAt may_leave (record_place path) None old new)
+    → (fault ≡ folders.Blocked → is_blocked old.files (record_place path) ≡ true) → fault ≢ folders.TooLarge → fault ≢ folders.BadFileName
+    → IfErr (removed_by fault) (λ told. ComesToNothing may_leave path None before after old told new)
+nothing_of may_leave path before after old new folders.OutOfMemory same rose torn blocked large named = same (λ e. cc)
+nothing_of may_leave path before after old new folders.Device same rose torn blocked large named = inr (rose refl, refl, torn refl)
+nothing_of may_leave path before after old new folders.Missing same rose torn blocked large named = tt
+nothing_of may_leave path before after old new folders.Blocked same rose torn blocked large named =
+    inl (same (λ e. cc), inl (ap (λ b. not (is_place (record_place path)) || b) (blocked refl) ∙ or_true (not (is_place (record_place path)))))
+nothing_of may_leave path before after old new folders.TooLarge same rose torn blocked large named = absurd (large refl)
+nothing_of may_leave path before after old new folders.BadFileName same rose torn blocked large named = absurd (named refl)
+
+pub gone : (path : Path) (old new : Contents) (memory : Memory) → IsTrue (is_task_path path) → new ≡ taken_out true path old → Standing old.files memory
+    → Standing new.files (forget memory path)
+gone path old new memory good out stood =
+    subst (λ (c : Contents). Standing c.files (forget memory path)) (sym out)
+    (forgotten old.files (without old.files (record_place path)) memory path good stood (elsewhere_left old.files path None)
+    (subst (SaysNoRecord IsText path) (sym (at_left old.files (record_place path) None)) tt))
+
+same_stands : (old new : Contents) (memory : Memory) → new ≡ old → Standing old.files memory → Standing new.files memory
+same_stands old new memory same stood = subst (λ (c : Contents). Standing c.files memory) (sym same) stood
+
+pub stands_out : (may_leave : Tearing) (path : Path) (old new : Contents) (fault : FolderFault) (memory : Memory) → IsTrue (is_task_path path)
+    → IsFolder old.files → (fault ≢ folders.Device → new ≡ old) → (fault ≡ folders.Missing → file_at old.files (record_place path) ≡ None)
+    → (fault ≡ folders.Device → LeftAt may_leave (record_place path) None old new) → TearsAreSeen IsText record_place may_leave
+    → Standing old.files memory → StandsWithout path memory (removed_by fault) new.files
+stands_out may_leave path old new folders.OutOfMemory memory good sound same missing torn seen stood = same_stands old new memory (same (λ e. cc)) stood
+stands_out may_leave path old new folders.Device memory good sound same missing torn seen stood =
+    let t = torn refl in
+    subst (λ (c : Contents). Standing c.files memory ⊎ Standing c.files (forget memory path)) (sym t.2)
+    (torn_out may_leave old.files memory path t.0 good seen t.1 stood)
+stands_out may_leave path old new folders.Missing memory good sound same missing torn seen stood =
+    gone path old new memory good (out_missing path old new sound (same (λ e. cc)) (missing refl)) stood
+stands_out may_leave path old new folders.Blocked memory good sound same missing torn seen stood = inl (same_stands old new memory (same (λ e. cc)) stood)
+stands_out may_leave path old new folders.TooLarge memory good sound same missing torn seen stood = inl (same_stands old new memory (same (λ e. cc)) stood)
+stands_out may_leave path old new folders.BadFileName memory good sound same missing torn seen stood = inl (same_stands old new memory (same (λ e. cc)) stood)
+
+-- ---- a write
+
+-- the text that is written of a run says it
+pub text_said : (path : Path) (run : Remembered) → IsUtf8 path → IsRemembered run → length (record_text path run) ≤ max_record
+    → IsText path (said_of run) (record_text path run)
+text_said path run utf8 held short = record {
+  run = run;
+  is = refl;
+  utf8 = utf8;
+  held = held;
+  text = record { edition = editions.Second; fits = all_true run.actions; same = refl };
+  short = short;
+}
+
+pub put : (path : Path) (old new : Contents) (memory : Memory) (entry : Entry) (run : Remembered) → IsTrue (is_task_path path) → new ≡ written_in path run old
+    → IsText path (said_of run) (record_text path run) → IsSaidOf run entry → Standing old.files memory → Standing new.files (remember memory path entry)
+put path old new memory entry run good written said of stood =
+    subst (λ (c : Contents). Standing c.files (remember memory path entry)) (sym written)
+    (remembered old.files (with_file old.files (record_place path) (record_text path run)) memory path entry (record_text path run) good stood
+    (elsewhere_left old.files path (Some (record_text path run))) (at_left old.files (record_place path) (Some (record_text path run)))
+    (subst (λ s. IsText path s (record_text path run)) of said))
+
+pub stands_in : (may_leave : Tearing) (path : Path) (old new : Contents) (fault : FolderFault) (memory : Memory) (entry : Entry) (run : Remembered)
+    → IsTrue (is_task_path path) → (fault ≢ folders.Device → new ≡ old)
+    → (fault ≡ folders.Device → LeftAt may_leave (record_place path) (Some (record_text path run)) old new) → TearsAreSeen IsText record_place may_leave
+    → IsText path (said_of run) (record_text path run) → IsSaidOf run entry → Standing old.files memory
+    → StandsWith path entry memory (Err (unwritten_for fault)) new.files
+stands_in may_leave path old new folders.OutOfMemory memory entry run good same torn seen said of stood = same_stands old new memory (same (λ e. cc)) stood
+stands_in may_leave path old new folders.Device memory entry run good same torn seen said of stood =
+    let t = torn refl in
+    subst (λ (c : Contents). Standing c.files memory ⊎ Standing c.files (remember memory path entry) ⊎ Standing c.files (forget memory path)) (sym t.2)
+    (torn_in may_leave old.files memory path entry (record_text path run) t.0 good seen (subst (λ s. IsText path s (record_text path run)) of said) t.1 stood)
+stands_in may_leave path old new folders.Missing memory entry run good same torn seen said of stood = inl (same_stands old new memory (same (λ e. cc)) stood)
+stands_in may_leave path old new folders.Blocked memory entry run good same torn seen said of stood = inl (same_stands old new memory (same (λ e. cc)) stood)
+stands_in may_leave path old new folders.TooLarge memory entry run good same torn seen said of stood = inl (same_stands old new memory (same (λ e. cc)) stood)
+stands_in may_leave path old new folders.BadFileName memory entry run good same torn seen said of stood = inl (same_stands old new memory (same (λ e. cc)) stood)
+
+-- ---- a read
+
+-- nothing stands at what is no place
+pub unplaced : (files : Files) (place : Place) → are_placed files ≡ true → is_place place ≡ false → file_at files place ≡ None
+unplaced [] place all bad = refl
+unplaced (file ∷ files) place all bad =
+    let parts = and_parts (is_place file.0) (list_all (λ (f : Place × Bytes). is_place f.0) files) all in
+    elim (eq_by_cmp byte_order place file.0) as (λ b. eq_by_cmp byte_order place file.0 ≡ b → cond b (Some file.1) (file_at files place) ≡ None) [
+      | true ↦ λ e. absurd (true≢false (sym parts.0 ∙ ap is_place (sym (same_place place file.0 e)) ∙ bad))
+      | false ↦ λ _. unplaced files place parts.1 bad
+    ] refl
+
+-- where nothing stands there is no record
+pub none_read : (files : Files) (path : Path) → file_at files (record_place path) ≡ None → IsReadAt files path None
+none_read files path none = subst (SaysNoRecord IsText path) (sym none) tt
+
+-- a file that is too large is the text of no record
+large_read : (files : Files) (path : Path) → IsSomeAnd (file_at files (record_place path)) (λ bytes. max_record < length bytes) → IsReadAt files path None
+large_read files path large = by (file_at files (record_place path)) large
+  where
+    by : (o : Option Bytes) → IsSomeAnd o (λ bytes. max_record < length bytes) → SaysNoRecord IsText path o
+    by None h = tt
+    by (Some bytes) h = λ said text. absurd (omega (arith, text.short, h))
+
+pub read_of : (files : Files) (path : Path) (place : Place) (fault : FolderFault) → IsFolder files
+    → (fault ≡ folders.Missing → file_at files (record_place path) ≡ None) → (fault ≡ folders.Blocked → is_blocked files (record_place path) ≡ true)
+    → (fault ≡ folders.TooLarge → IsSomeAnd (file_at files (record_place path)) (λ bytes. max_record < length bytes)) → fault ≢ folders.BadFileName
+    → IfOk (none_for place fault) (IsReadAt files path)
+read_of files path place folders.OutOfMemory sound missing blocked large named = tt
+read_of files path place folders.Device sound missing blocked large named = tt
+read_of files path place folders.Missing sound missing blocked large named = none_read files path (missing refl)
+read_of files path place folders.Blocked sound missing blocked large named = none_read files path (blocked_none files (record_place path) sound (blocked refl))
+read_of files path place folders.TooLarge sound missing blocked large named = large_read files path (large refl)
+read_of files path place folders.BadFileName sound missing blocked large named = absurd (named refl)
+
+-- one more pair of two lists is related
+all_zip_push : {X Y : Type 0} (R : X → Y → Type 0) (xs : List X) (ys : List Y) (x : X) (y : Y) → AllZip R xs ys → R x y → AllZip R (xs ++ x ∷ []) (ys ++ y ∷ [])
+all_zip_push R [] [] x y all here = (here, tt)
+all_zip_push R [] (b ∷ ys) x y all here = absurd all
+all_zip_push R (a ∷ xs) [] x y all here = absurd all
+all_zip_push R (a ∷ xs) (b ∷ ys) x y all here = (all.0, all_zip_push R xs ys x y all.1 here)
+
+-- one more task's record is read
+pub read_more : {X Y : Type 0} (R : X → Y → Type 0) (xs : List X) (i : ℕ) (x : X) (out more : List Y) (y : Y) → i < length xs → x ≡ get_or xs i x
+    → AllZip R (take i xs) out → R x y → more ≡ out ++ y ∷ [] → AllZip R (take (i + 1) xs) more
+read_more R xs i x out more y low at all here is = rw (take_more xs i x low, ← at, is) (all_zip_push R (take i xs) out x y all here)
+
+pub placeless_read : (files : Files) (path : Path) (fault : PlaceFault) (result : Result (Option Remembered) Fault) → are_placed files ≡ true
+    → (fault ≡ places.BadPlace → is_place (record_place path) ≡ false) → (fault ≡ places.BadPlace → result ≡ Ok None)
+    → (fault ≡ places.OutOfMemory → result ≡ Err faults.OutOfMemory) → IfOk result (IsReadAt files path)
+placeless_read files path places.BadPlace result all bad none out =
+    subst (λ r. IfOk r (IsReadAt files path)) (sym (none refl)) (none_read files path (unplaced files (record_place path) all (bad refl)))
+placeless_read files path places.OutOfMemory result all bad none out = subst (λ r. IfOk r (IsReadAt files path)) (sym (out refl)) tt

@@ -1,0 +1,5 @@
+use Rattle.gb_records.proofs.Told.{stands_elsewhere}
+use Rattle.gb_records.proofs.laws.stands_elsewhere.Goals as goal
+
+pub returns : goal.returns
+returns c = stands_elsewhere

@@ -1,0 +1,5 @@
+use Rattle.gb_records.proofs.Told.{stands_for_memory}
+use Rattle.gb_records.proofs.laws.stands_for_memory.Goals as goal
+
+pub returns : goal.returns
+returns c = stands_for_memory

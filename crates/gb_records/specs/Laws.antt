@@ -1,0 +1,52 @@
+-- What whole builds may take for granted of records and of where they stand.
+use Rattle.std.specs.Prelude.{◌≡◌, ◌≤◌, not, length, IsTrue}
+use Rattle.std.specs.List.{AllByRecursion}
+use Rattle.sha2.specs.Sha256.{sha256}
+use Rattle.gb_core.specs.Path.{is_task_path}
+use Rattle.gb_core.specs.Place.{is_beneath}
+use Rattle.gb_folder.specs.Files.{Place, Bytes, Files, Contents, DiffersOnlyAt, IsFolder, is_own}
+use Rattle.gb_plan.specs.Task.{Path}
+use Rattle.gb_history.specs.Remembered.{Remembered, IsRemembered}
+use Rattle.gb_history.specs.Places.{record_place}
+use Rattle.gb_meaning.specs.Events.{max_record}
+use Rattle.gb_meaning.specs.Kinds.{Kinds}
+use Rattle.gb_meaning.specs.Memory.{Memory}
+use Rattle.gb_meaning.specs.TrueRecord.{Record, RecordTexts, StandsFor, IsMade}
+use Rattle.gb_records.specs.Said.{IsText, said_of, text_of}
+use Rattle.gb_records.specs.Standing.{Standing}
+
+-- How records read, where each stands, and which text is written of one, as builds are to have it.
+pub record AreRecords (says : RecordTexts) (stands_at : Path → Place)
+    (written : Path → Record → Bytes) : Type 0 where
+  -- a text says one record of a task at most
+  pub one : (path : Path) (one other : Record) (bytes : Bytes) → says path one bytes → says path other bytes
+      → one ≡ other
+  -- none is above 64 MiB
+  pub short : (path : Path) (said : Record) (bytes : Bytes) → says path said bytes → length bytes ≤ max_record
+  -- what is written of a run says it
+  pub back : (path : Path) (run : Remembered) → IsTrue (is_task_path path) → IsRemembered run
+      → length (written path (said_of run)) ≤ max_record
+      → says path (said_of run) (written path (said_of run))
+  -- records stand where the tool keeps its own
+  pub own : (path : Path) → IsTrue (is_own (stands_at path))
+  -- two tasks' records do not stand at one place, nor one beneath another
+  pub apart : (one other : Path) → IsTrue (is_task_path one) → IsTrue (is_task_path other)
+      → stands_at one ≡ stands_at other → one ≡ other
+  pub none_beneath : (one other : Path) → IsTrue (is_task_path one) → IsTrue (is_task_path other)
+      → ¬ IsTrue (is_beneath (stands_at one) (stands_at other))
+
+abbrev pub TextsAreRecords : Type 0
+TextsAreRecords = AreRecords IsText record_place text_of
+
+-- where files differ outside of the tool's own alone, the same records stand
+abbrev pub StandsElsewhere : Type 0
+StandsElsewhere =
+    (old new : Files) (memory : Memory) → DiffersOnlyAt (λ place. not (is_own place)) old new
+    → Standing old memory → Standing new memory
+
+-- a folder whose files hold the records of a memory that is true stands for it
+abbrev pub StandsForMemory : Type 0
+StandsForMemory =
+    (kinds : Kinds) (folder : Contents) (memory : Memory) → IsFolder folder.files
+    → AllByRecursion (λ entry. IsMade kinds entry.1) memory → Standing folder.files memory
+    → StandsFor kinds sha256 IsText record_place folder memory

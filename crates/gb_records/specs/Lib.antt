@@ -1,0 +1,5 @@
+pub mod Faults
+pub mod Said
+pub mod Standing
+pub mod Laws
+pub mod Digests

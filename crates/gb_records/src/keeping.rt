@@ -1,0 +1,109 @@
+//! Records taken out and put in.
+ghost use Rattle.std.specs.Prelude.{◌≡◌, ◌≤◌, ℕ, List, Some, None, false, length, IsTrue, IfOk, IfErr, IsErrOf, OnOk};
+ghost use Rattle.gb_core.specs.Path.{is_task_path};
+ghost use Rattle.gb_core.specs.Place.{is_place};
+ghost use Rattle.gb_folder.specs.Files.{SameTearing};
+ghost use Rattle.gb_history.specs.Places.{record_place};
+ghost use Rattle.gb_history.specs.Text.{record_text};
+ghost use Rattle.gb_meaning.specs.Headline.{TearsAreSeen};
+ghost use Rattle.gb_meaning.specs.Memory.{Entry, Memory, recalled};
+ghost use Rattle.gb_records.specs.Faults.{removed_by};
+ghost use Rattle.gb_records.specs.Said.{IsText, IsSaidOf, said_of};
+ghost use Rattle.gb_records.specs.Standing.{ComesToNothing, Standing, StandsWithout, StandsWith, taken_out, written_in};
+
+use crate::fault::{Unwritten, unwritten_by};
+use crate::reading::MAX_RECORD;
+use gb_core::path::TaskPath;
+use gb_core::place::{Place, PlaceFault};
+use gb_folder::folder::{Folder, FolderFault};
+use gb_history::place::record_place;
+use gb_history::record::Record;
+use gb_history::text::record_text;
+use std::alloc::Global;
+
+/// Takes the record of a task away, where one was read.
+pub fn take_out<F: Folder>(
+    alloc: Global,
+    folder: &mut F,
+    path: &TaskPath,
+    was_read: bool,
+) -> Result<(), Unwritten>
+    ensures count { F.failures folder.old ≤ F.failures folder.new }
+    ensures tearing { SameTearing (F.may_leave folder.old) (F.may_leave folder.new) }
+    ensures unread { was_read ≡ false → folder.new ≡ folder.old }
+    ensures out { IsTrue F.tells → OnOk result
+        (F.contents folder.new ≡ taken_out was_read path.now (F.contents folder.old)) }
+    ensures err { IsTrue F.tells → IfErr result (λ fault. ComesToNothing (F.may_leave folder.old)
+        path.now None (F.failures folder.old) (F.failures folder.new) (F.contents folder.old) fault
+        (F.contents folder.new)) }
+    // Which records stand then.
+    ensures stands { IsTrue F.tells → TearsAreSeen IsText record_place (F.may_leave folder.old)
+        → (memory : Memory) → Standing (F.contents folder.old).files memory
+        → (was_read ≡ false → recalled memory path.now ≡ None)
+        → StandsWithout path.now memory result (F.contents folder.new).files }
+{
+    // Of paths of tasks alone something is said, which this shows to be one.
+    let _path = path.as_str();
+    if !was_read {
+        return Ok(());
+    }
+    let place = place_of(alloc, path)?;
+    match folder.remove(&place) {
+        Ok(()) => Ok(()),
+        Err(fault) => unless_missing(fault),
+    }
+}
+
+/// Why nothing was taken out, unless nothing stood there.
+fn unless_missing(fault: FolderFault) -> Result<(), Unwritten>
+    ensures { result ≡ removed_by fault }
+{
+    match fault {
+        FolderFault::Missing => Ok(()),
+        other => Err(unwritten_by(other)),
+    }
+}
+
+/// Puts the record of a task in its place, over another.
+pub fn put_in<F: Folder>(
+    alloc: Global,
+    folder: &mut F,
+    path: &TaskPath,
+    run: &Record,
+) -> Result<(), Unwritten>
+    ensures count { F.failures folder.old ≤ F.failures folder.new }
+    ensures tearing { SameTearing (F.may_leave folder.old) (F.may_leave folder.new) }
+    ensures written { IsTrue F.tells → OnOk result
+        (F.contents folder.new ≡ written_in path.now run.now (F.contents folder.old)) }
+    ensures said { OnOk result (IsText path.now (said_of run.now) (record_text path.now run.now)) }
+    ensures err { IsTrue F.tells → IfErr result (λ fault. ComesToNothing (F.may_leave folder.old) path.now
+        (Some (record_text path.now run.now)) (F.failures folder.old) (F.failures folder.new)
+        (F.contents folder.old) fault (F.contents folder.new)) }
+    // Which records stand then.
+    ensures stands { IsTrue F.tells → TearsAreSeen IsText record_place (F.may_leave folder.old)
+        → (memory : Memory) (entry : Entry) → Standing (F.contents folder.old).files memory → IsSaidOf run.now entry
+        → StandsWith path.now entry memory result (F.contents folder.new).files }
+{
+    let text = record_text(alloc, path, run)?;
+    if text.len() as u64 > MAX_RECORD {
+        return Err(Unwritten::NotWritten);
+    }
+    let place = place_of(alloc, path)?;
+    match folder.write(&place, text.as_slice(), MAX_RECORD) {
+        Ok(()) => Ok(()),
+        Err(fault) => Err(unwritten_by(fault)),
+    }
+}
+
+/// Where the record of a task stands.
+fn place_of(alloc: Global, path: &TaskPath) -> Result<Place, Unwritten>
+    ensures place { IfOk result (λ place. place ≡ record_place path.now) }
+    ensures path { OnOk result (IsTrue (is_task_path path.now)) }
+    ensures shut { IsErrOf result Unwritten.NotWritten → is_place (record_place path.now) ≡ false }
+{
+    match record_place(alloc, path) {
+        Ok(place) => Ok(place),
+        Err(PlaceFault::OutOfMemory) => Err(Unwritten::OutOfMemory),
+        Err(PlaceFault::BadPlace) => Err(Unwritten::NotWritten),
+    }
+}

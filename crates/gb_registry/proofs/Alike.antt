@@ -1,0 +1,98 @@
+-- Scripts that are checked one after another tell the first of all their faults.
+use Rattle.std.proofs.Common.{◌≡◌, ◌⊎◌, inl, inr, List, [], ◌∷◌, ◌++◌, append_assoc, refl, sym, ap, subst, ◌∙◌, Some}
+use Rattle.std.specs.Prelude.{filter_map}
+use Rattle.std.specs.List.{flat_map, list_any}
+use Rattle.std.proofs.lemmas.List.{append-nil}
+use Rattle.gb_core.specs.Lists.{first_of}
+use Rattle.gb_report.specs.declared.fault.Fault.{Fault}
+use Rattle.gb_script.specs.declared.script.Statement.{Statement}
+use Rattle.gb_registry.specs.declared.seen.Seen.{Seen}
+use Rattle.gb_registry.specs.Configure.{each_after, finalizes, statement_faults}
+use Rattle.gb_registry.specs.Faults.{IsFirstFault}
+use Rattle.gb_registry.specs.New.{AreNew}
+use Rattle.gb_registry.specs.Projects.{Path}
+use Rattle.gb_registry.specs.Said.{Said, declared_property, paths_of, said_by, script_of}
+use Rattle.gb_registry.specs.Seen.{begun, script_after, script_faults, scripts_after, scripts_faults, seen_after, seen_faults}
+use Rattle.gb_registry.specs.Tables.{Tables}
+use Rattle.gb_registry.proofs.Firsts.{first-append}
+use Rattle.gb_registry.proofs.Judged.{IsSeen, count_of, goes_on, judged}
+
+-- the same first fault, or no fault in both and more besides
+abbrev pub Alike : List Fault → List Fault → Type 0 → Type 0
+Alike xs ys More = ((fault : Fault) × (first_of xs ≡ Some fault) × (first_of ys ≡ Some fault)) ⊎ ((xs ≡ []) × (ys ≡ []) × More)
+
+none_first : (faults : List Fault) (fault : Fault) → faults ≡ [] → first_of faults ≡ Some fault → ⊥
+none_first faults fault none first = absurd (cc)
+
+pub more_if_none : (xs ys : List Fault) {More : Type 0} → Alike xs ys More → xs ≡ [] → More
+more_if_none xs ys (inl (fault, here, there)) none = absurd (none_first xs fault none here)
+more_if_none xs ys (inr (here, there, more)) none = more
+
+-- two lists alike, with more behind them
+both_alike : (xs ys : List Fault) (More : Type 0) (xs' ys' : List Fault) (More' : Type 0) → Alike xs ys More → (More → Alike xs' ys' More') → Alike (xs ++ xs') (ys ++ ys') More'
+both_alike xs ys More xs' ys' More' (inl (fault, here, there)) next = inl (fault, first-append xs xs' fault here, first-append ys ys' fault there)
+both_alike xs ys More xs' ys' More' (inr (here, there, more)) next =
+    subst (λ zs. Alike (zs ++ xs') (ys ++ ys') More') (sym here) (subst (λ zs. Alike xs' (zs ++ ys') More') (sym there) (next more))
+
+-- a list is alike itself
+same_alike : (xs ys : List Fault) (More : Type 0) → xs ≡ ys → (ys ≡ [] → More) → Alike xs ys More
+same_alike xs [] More same more = inr (same, refl, more refl)
+same_alike xs (fault ∷ ys) More same more = inl (fault, ap first_of same, refl)
+
+abbrev said : Path → Statement → Said
+said project statement = record { project = project; statement = statement }
+
+each_after-append : {A B : Type 0} (f : List A → A → List B) (before xs ys : List A) → each_after f before (xs ++ ys) ≡ each_after f before xs ++ each_after f (before ++ xs) ys
+each_after-append f before [] ys = ap (λ b. each_after f b ys) (sym (append-nil before))
+each_after-append f before (x ∷ xs) ys =
+    ap (λ l. f before x ++ l) (each_after-append f (before ++ x ∷ []) xs ys)
+    ∙ sym (append_assoc (f before x) (each_after f (before ++ x ∷ []) xs) _)
+    ∙ ap (λ b. f before x ++ each_after f (before ++ x ∷ []) xs ++ each_after f b ys) (append_assoc before (x ∷ []) xs)
+
+module _ {M F Z S A : Type 0} (tables : Tables M F Z S A) where
+  script_alike : (project : Path) (script : List Statement) (before : List Said) (seen : Seen) → IsSeen before project seen
+      → Alike (script_faults tables project seen script) (each_after (statement_faults tables) before (said_by (project, script))) (IsSeen (before ++ said_by (project, script)) project (script_after project seen script))
+  script_alike project [] before seen is = inr (refl, refl, subst (λ b. IsSeen b project seen) (sym (append-nil before)) is)
+  script_alike project (statement ∷ script) before seen is =
+      both_alike (seen_faults tables project seen statement) (statement_faults tables before (said project statement)) (IsSeen (before ++ said project statement ∷ []) project (seen_after project seen statement)) _ _ _
+      (same_alike _ _ _ (judged tables before project seen is statement) (goes_on tables before project seen is statement))
+      (λ next. subst (λ b. Alike (script_faults tables project (seen_after project seen statement) script) (each_after (statement_faults tables) (before ++ said project statement ∷ []) (said_by (project, script))) (IsSeen b project (script_after project (seen_after project seen statement) script)))
+      (append_assoc before (said project statement ∷ []) (said_by (project, script)))
+      (script_alike project script (before ++ said project statement ∷ []) (seen_after project seen statement) next))
+
+-- the tasks and the count of properties are those of these statements
+pub record IsBefore (before : List Said) (seen : Seen) : Type 0 where
+  pub tasks : seen.tasks ≡ paths_of before
+  pub count : seen.count ≡ count_of before
+
+begins : (before : List Said) (project : Path) (seen : Seen) → IsBefore before seen → script_of before project ≡ [] → IsSeen before project (begun seen)
+begins before project seen is new = record {
+  tasks = is.tasks;
+  properties = sym (ap (filter_map declared_property) new);
+  finals = λ name. sym (ap (list_any (finalizes name)) new);
+  count = is.count;
+}
+
+module _ {M F Z S A : Type 0} (tables : Tables M F Z S A) where
+  pub scripts_alike : (scripts : List (Path × List Statement)) (before : List Said) (seen : Seen) → IsBefore before seen → AreNew before scripts
+      → Alike (scripts_faults tables seen scripts) (each_after (statement_faults tables) before (flat_map said_by scripts)) (IsBefore (before ++ flat_map said_by scripts) (scripts_after seen scripts))
+  scripts_alike [] before seen is new = inr (refl, refl, subst (λ b. IsBefore b seen) (sym (append-nil before)) is)
+  scripts_alike (script ∷ scripts) before seen is new =
+      let after = script_after script.0 (begun seen) script.1 in
+      let said_more = before ++ said_by script in
+      subst (λ faults. Alike (scripts_faults tables seen (script ∷ scripts)) faults (IsBefore (before ++ (said_by script ++ flat_map said_by scripts)) (scripts_after after scripts)))
+      (sym (each_after-append (statement_faults tables) before (said_by script) (flat_map said_by scripts)))
+      (both_alike (script_faults tables script.0 (begun seen) script.1) (each_after (statement_faults tables) before (said_by script)) (IsSeen said_more script.0 after) _ _ _
+      (script_alike tables script.0 script.1 before (begun seen) (begins before script.0 seen is new.0))
+      (λ next. subst (λ b. Alike (scripts_faults tables after scripts) (each_after (statement_faults tables) said_more (flat_map said_by scripts)) (IsBefore b (scripts_after after scripts)))
+      (append_assoc before (said_by script) (flat_map said_by scripts))
+      (scripts_alike scripts said_more after (record { tasks = next.tasks; count = next.count }) new.1)))
+
+pub none_other : (xs ys : List Fault) {More : Type 0} → Alike xs ys More → xs ≡ [] → ys ≡ []
+none_other xs ys (inl (fault, here, there)) none = absurd (none_first xs fault none here)
+none_other xs ys (inr (here, there, more)) none = there
+
+pub first_other : (xs ys : List Fault) {More : Type 0} (told : Fault) → Alike xs ys More → IsFirstFault xs told → IsFirstFault ys told
+first_other xs ys told alike (inl memory) = inl memory
+first_other xs ys told (inl (fault, here, there)) (inr first) = inr (there ∙ sym here ∙ first)
+first_other xs ys told (inr (here, there, more)) (inr first) = absurd (none_first xs told here first)

@@ -1,0 +1,14 @@
+pub mod Alike
+pub mod Among
+pub mod Apart
+pub mod Firsts
+pub mod Folders
+pub mod Judged
+pub mod Lineages
+pub mod Lookups
+pub mod Sample
+pub mod Rows
+pub mod OnceLemmas
+pub mod Own
+pub mod Placed
+pub mod Sizes

@@ -1,0 +1,13 @@
+use Rattle.std.proofs.Common.{◌≡◌, drop}
+use Rattle.gb_registry.specs.Seen.{scripts_after, scripts_faults, scripts_in}
+use Rattle.gb_registry.specs.Tables.{tables_of}
+use Rattle.gb_registry.proofs.checking.check_scripts.Given as goal
+
+abbrev pub invariant-loop-scripted : goal.invariant-loop-scripted
+invariant-loop-scripted g l =
+    let tables = tables_of g.T.Transforms.meanings g.A.Actions.meanings l.tables in
+    let left = scripts_in (drop l.scripted-index l.scripts) in
+    record {
+      seen : scripts_after l.fn.seen (scripts_in l.scripts) ≡ scripts_after l.seen left;
+      faults : scripts_faults tables l.fn.seen (scripts_in l.scripts) ≡ scripts_faults tables l.seen left;
+    }

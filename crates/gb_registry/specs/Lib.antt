@@ -1,0 +1,12 @@
+pub mod Projects
+pub mod Said
+pub mod References
+pub mod Source
+pub mod Faults
+pub mod Tables
+pub mod Wrong
+pub mod Configure
+pub mod Seen
+pub mod Select
+pub mod New
+pub mod Once

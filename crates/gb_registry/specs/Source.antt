@@ -1,0 +1,18 @@
+-- What is read: settings, one script for each project, and what the command line gives.
+use Rattle.std.specs.Prelude.{ℕ, List}
+use Rattle.gb_script.specs.declared.script.Statement.{Statement}
+use Rattle.gb_registry.specs.Projects.{project_paths}
+use Rattle.gb_registry.specs.References.{Names}
+use Rattle.gb_registry.specs.Said.{Said, all_said, paths_of}
+
+-- The names of projects and tasks, all statements, and values by the names of properties.
+pub record Source : Type 0 where
+  pub names : Names
+  pub said : List Said
+  pub given : List (List ℕ × List ℕ)
+
+abbrev pub source_of : List (List (List ℕ)) → List (List Statement) → List (List ℕ × List ℕ) → Source
+source_of settings scripts given =
+    let projects = project_paths settings in
+    let said = all_said projects scripts in
+    record { names = record { projects = projects; tasks = paths_of said }; said = said; given = given }

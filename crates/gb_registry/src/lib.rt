@@ -1,0 +1,18 @@
+//! What the scripts of a build register: projects, properties and tasks, their expressions not yet evaluated.
+#![tactic(auto)]
+
+pub mod checking;
+pub mod configure;
+pub mod laws;
+pub mod missing;
+pub mod names;
+pub mod paths;
+pub mod project;
+pub mod projects;
+pub mod registry;
+pub mod seen;
+pub mod tables;
+pub mod tasks;
+pub mod texts;
+pub mod walk;
+pub mod wrong;

@@ -1,0 +1,35 @@
+//! Tasks that expressions name, and that are not there.
+use crate::names::Names;
+use crate::project::Project;
+use crate::walk::Look;
+use gb_report::fault::Fault;
+use gb_script::expression::{Source, Step};
+use std::alloc::Global;
+
+/// Looks up the tasks that an expression of a project names.
+#[derive(Drop)]
+pub struct Missing<'a> {
+    pub names: &'a Names<'a>,
+    pub project: &'a Project,
+}
+
+impl<'a> Look for Missing<'a> {
+    ghost use Rattle.gb_registry.specs.Configure.{missing_at_link, missing_at_root};
+
+    ghost at_root = { λ m. missing_at_root m.names.now m.project.now };
+
+    ghost at_link = { λ m. missing_at_link };
+
+    fn source(&self, alloc: Global, source: &Source) -> Result<(), Fault> {
+        match source {
+            Source::Task(text) => self
+                .names
+                .look_up(alloc, self.project.path().as_str(), text),
+            _ => Ok(()),
+        }
+    }
+
+    fn step(&self, _alloc: Global, _step: &Step) -> Result<(), Fault> {
+        Ok(())
+    }
+}

@@ -1,0 +1,17 @@
+use Rattle.std.proofs.Common.{◌≡◌, rules, ap, refl}
+use Rattle.std.proofs.Output.{has_written_append, has_written_of_eq}
+use Rattle.gb_report.specs.Fault.{row_text}
+use Rattle.gb_report.proofs.Row.{one_more, whole_row}
+use Rattle.gb_report.proofs.fault.NamesDisplay.fmt.Goals as goal
+
+pub loop-name-preserved : goal.loop-name-preserved
+loop-name-preserved g c plain =
+    let front = c.loop-name.invariant plain in
+    has_written_of_eq _ _ _ _ _ (one_more c.in-Some.others.now c.loop-name.name-index c.name-item.result (search rules) (search rules))
+    (has_written_append _ _ _ _ _ _ front (c.in_ok-write-2.ensures.writes front.plain refl))
+
+pub returns-clause-writes : goal.returns-clause-writes
+returns-clause-writes g c plain is =
+    let first = c.in_ok-write.ensures.writes plain refl in
+    has_written_of_eq _ _ _ _ _ (whole_row c.args.self.now.names.now c.in-Some.first.now c.in-Some.others.now c.loop-name.name-index (search rules) (search rules))
+    (has_written_append _ _ _ _ _ _ first (c.loop-name.invariant first.plain))

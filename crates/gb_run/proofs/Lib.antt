@@ -1,0 +1,13 @@
+pub mod ByText
+pub mod Placed
+pub mod Beside
+pub mod Room
+pub mod Written
+pub mod Endings
+pub mod Agreed
+pub mod AtOutputs
+pub mod Stepped
+pub mod Running
+pub mod Invented
+pub mod FailedRuns
+pub mod CutEmptying

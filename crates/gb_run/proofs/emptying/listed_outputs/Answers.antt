@@ -1,0 +1,97 @@
+use Rattle.std.proofs.Common.{arith, Bool, ◌<◌, ◌++◌, [], false, append_assoc, get_or, length, ◌≡◌, ◌⊎◌, ℕ, List, true, cond, map, IfErr, Some, refl, sym, ap, ◌∙◌, inl, inr, drop, ◌∷◌, ◌+◌}
+use Rattle.std.proofs.lemmas.Result.{err_from_is_err_and}
+use Rattle.std.proofs.lemmas.Bool.{and_from, and_parts}
+use Rattle.std.proofs.lemmas.List.Folds.{list_all-append}
+use Rattle.std.proofs.lemmas.List.Sums.{list_all-from_AllPass}
+use Rattle.std.specs.List.{filter, list_all}
+use Rattle.gb_core.specs.Place.{is_under}
+use Rattle.gb_core.specs.Lists.{first_of}
+use Rattle.gb_folder.specs.Files.{Contents, is_odd_under, places_under}
+use Rattle.gb_folder.proofs.Changes.{SameTearing-chain}
+use Rattle.gb_plan.specs.declared.task.Output.{Output}
+use Rattle.gb_report.specs.declared.fault.Fault.{Fault}
+use Rattle.gb_report.specs.declared.fault.Fault.TheVariants as faults
+use Rattle.gb_tree.specs.declared.fault.TreeFault.TheVariants as trees
+use Rattle.gb_store.specs.Faults.{IsOfMachine}
+use Rattle.gb_store.proofs.Machine.{at_err, machine_before}
+use Rattle.gb_store.proofs.Loops.{any_here, step_here}
+use Rattle.gb_meaning.specs.Tree.{told_of_tree}
+use Rattle.gb_run.specs.Emptying.{is_at_output, odd_faults, places_at}
+use Rattle.gb_run.proofs.emptying.listed_outputs.Goals as goal
+
+-- the faults at an output and at others, by whether something odd stands at it
+odd_by : (output : Output) (outputs : List Output) (folder : Contents) (is : Bool) → is_odd_under folder output.place ≡ is
+    → odd_faults (output ∷ outputs) folder ≡ cond is (faults.BadFileName output.place ∷ odd_faults outputs folder) (odd_faults outputs folder)
+odd_by output outputs folder is same =
+    ap (λ b. map told_of_tree (map trees.BadFileName (cond b (output.place ∷ filter (is_odd_under folder) (map (λ (o : Output). o.place) outputs)) (filter (is_odd_under folder) (map (λ (o : Output). o.place) outputs))))) same
+    ∙ by_test is
+  where
+    by_test : (b : Bool) → map told_of_tree (map trees.BadFileName (cond b (output.place ∷ filter (is_odd_under folder) (map (λ (o : Output). o.place) outputs)) (filter (is_odd_under folder) (map (λ (o : Output). o.place) outputs))))
+        ≡ cond b (faults.BadFileName output.place ∷ odd_faults outputs folder) (odd_faults outputs folder)
+    by_test true = refl
+    by_test false = refl
+
+pub returns-in_err-listed-clause-odd : goal.returns-in_err-listed-clause-odd
+returns-in_err-listed-clause-odd g c = λ tells.
+    let p = err_from_is_err_and c.from_residual.result c.from_residual.ensures.1 in
+    let old = g.F.Folder.contents c.args.folder.now in
+    let outputs = c.args.outputs.now in
+    let IsFault : Fault → Type 0 = λ fault. IsOfMachine (g.F.Folder.failures c.args.folder.now) (g.F.Folder.failures c.listed_at.new.folder) fault
+    ⊎ (first_of (odd_faults outputs old) ≡ Some fault) in
+    at_err (λ r. IfErr r IsFault) c.from_residual.result p.0 c.in_err-listed.field-0.0 p.1 p.2 (elim (c.in_err-listed.ensures.odd tells) [
+      | inl machine ↦ inl (machine_before _ _ _ _ c.loop-output.invariant.count c.listed_at.ensures.count machine)
+      | inr odd ↦ inr (
+          ap first_of (sym (c.loop-output.invariant.odd tells)
+          ∙ step_here (λ os. odd_faults os old) outputs c.loop-output.output-index c.output-item.result c.loop-output-test.true c.output-item.is
+          ∙ odd_by c.output-item.result (drop (c.loop-output.output-index + 1) outputs) old true (ap (λ folder. is_odd_under folder c.output-item.result.place) (sym (c.loop-output.invariant.same tells)) ∙ odd.0))
+          ∙ ap Some (sym odd.1))
+    ])
+
+pub returns-in_err-listed-clause-tearing : goal.returns-in_err-listed-clause-tearing
+returns-in_err-listed-clause-tearing g c = SameTearing-chain _ _ _ c.loop-output.invariant.tearing c.listed_at.ensures.tearing
+
+pub returns-in_err-append-clause-tearing : goal.returns-in_err-append-clause-tearing
+returns-in_err-append-clause-tearing g c = SameTearing-chain _ _ _ c.loop-output.invariant.tearing c.listed_at.ensures.tearing
+
+pub returns-clause-tearing : goal.returns-clause-tearing
+returns-clause-tearing g c = c.loop-output.invariant.tearing
+
+-- what stands beneath an output stands at the outputs
+at_outputs : (outputs : List Output) (i : ℕ) (output : Output) → i < length outputs → output ≡ get_or outputs i output → (places : List (List ℕ))
+    → list_all (λ at. is_under at output.place) places ≡ true → list_all (is_at_output outputs) places ≡ true
+at_outputs outputs i output within is [] all = refl
+at_outputs outputs i output within is (place ∷ places) all =
+    let parts = and_parts (is_under place output.place) (list_all (λ at. is_under at output.place) places) all in
+    and_from _ _ (any_here (λ (o : Output). is_under place o.place) outputs i output within is parts.0) (at_outputs outputs i output within is places parts.1)
+
+pub loop-output-preserved : goal.loop-output-preserved
+loop-output-preserved g c =
+    let F = g.F.Folder in
+    let outputs = c.args.outputs.now in
+    let old = F.contents c.args.folder.now in
+    let i = c.loop-output.output-index in
+    let output = c.output-item.result in
+    let so_far = c.loop-output.invariant in
+    let items : c.append.new.self.items ≡ c.loop-output.places.items ++ c.in_ok-listed.listed.items = c.in_ok-append.ensures.items in
+    let under : list_all (is_at_output outputs) c.in_ok-listed.listed.items ≡ true =
+    at_outputs outputs i output c.loop-output-test.true c.output-item.is _ (list_all-from_AllPass (λ at. is_under at output.place) c.in_ok-listed.listed.items c.in_ok-listed.ensures.under) in
+    record {
+      count = omega (arith, so_far.count, c.listed_at.ensures.count);
+      tearing = SameTearing-chain _ _ _ so_far.tearing c.listed_at.ensures.tearing;
+      under =
+          ap (list_all (is_at_output outputs)) items ∙ list_all-append (is_at_output outputs) c.loop-output.places.items c.in_ok-listed.listed.items
+          ∙ and_from _ _ so_far.under under;
+      same = λ tells. c.listed_at.ensures.same tells ∙ so_far.same tells;
+      listed = λ tells.
+          let here : c.in_ok-listed.listed.items ≡ places_under old.files output.place = c.in_ok-listed.ensures.listed tells ∙ ap (λ (folder : Contents). places_under folder.files output.place) (so_far.same tells) in
+          let rest = places_at (drop (i + 1) outputs) old.files in
+          ap (λ (found : List (List ℕ)). found ++ rest) (items ∙ ap (λ (more : List (List ℕ)). c.loop-output.places.items ++ more) here)
+          ∙ append_assoc c.loop-output.places.items (places_under old.files output.place) rest
+          ∙ ap (λ (more : List (List ℕ)). c.loop-output.places.items ++ more) (sym (step_here (λ os. places_at os old.files) outputs i output c.loop-output-test.true c.output-item.is))
+          ∙ so_far.listed tells;
+      odd = λ tells.
+          let none : is_odd_under old output.place ≡ false = ap (λ folder. is_odd_under folder output.place) (sym (so_far.same tells)) ∙ c.in_ok-listed.ensures.none_odd tells in
+          sym (odd_by output (drop (i + 1) outputs) old false none)
+          ∙ sym (step_here (λ os. odd_faults os old) outputs i output c.loop-output-test.true c.output-item.is)
+          ∙ so_far.odd tells;
+    }

@@ -1,0 +1,17 @@
+use Rattle.std.proofs.Common.{◌≡◌, ◌≤◌, ◌++◌, IsTrue, drop}
+use Rattle.std.specs.List.{list_all}
+use Rattle.gb_folder.specs.Files.{SameTearing}
+use Rattle.gb_run.specs.Emptying.{is_at_output, odd_faults, places_at}
+use Rattle.gb_run.proofs.emptying.listed_outputs.Given as goal
+
+abbrev pub invariant-loop-output : goal.invariant-loop-output
+invariant-loop-output g l =
+    let old = g.F.Folder.contents l.fn.folder in
+    record {
+      count : g.F.Folder.failures l.fn.folder ≤ g.F.Folder.failures l.folder;
+      tearing : SameTearing (g.F.Folder.may_leave l.fn.folder) (g.F.Folder.may_leave l.folder);
+      under : IsTrue (list_all (is_at_output l.outputs) l.places.items);
+      same : IsTrue g.F.Folder.tells → g.F.Folder.contents l.folder ≡ old;
+      listed : IsTrue g.F.Folder.tells → l.places.items ++ places_at (drop l.output-index l.outputs) old.files ≡ places_at l.outputs old.files;
+      odd : IsTrue g.F.Folder.tells → odd_faults (drop l.output-index l.outputs) old ≡ odd_faults l.outputs old;
+    }

@@ -1,0 +1,59 @@
+use Rattle.std.proofs.Common.{arith, ◌≤◌, IfErr, length, ap, subst, ◌∙◌}
+use Rattle.std.proofs.lemmas.Result.{err_from_is_err_and}
+use Rattle.std.proofs.lemmas.List.{take_all}
+use Rattle.gb_folder.specs.Limits.{max_file}
+use Rattle.gb_folder.proofs.Changes.{SameTearing-chain}
+use Rattle.gb_report.specs.declared.fault.Fault.{Fault}
+use Rattle.gb_store.specs.Changes.{is_at, shown}
+use Rattle.gb_store.proofs.Loops.{all_here, any_here}
+use Rattle.gb_store.proofs.Machine.{at_err, handed_on}
+use Rattle.gb_meaning.specs.Run.{has_room}
+use Rattle.gb_run.specs.Writing.{IsCutShort, with_all}
+use Rattle.gb_run.proofs.Written.{cut_at, put_more, room_more}
+use Rattle.gb_run.proofs.writing.write_files.Goals as goal
+
+pub loop-file-preserved : goal.loop-file-preserved
+loop-file-preserved g c =
+    let files = c.args.files.now in
+    let index = c.loop-file.file-index in
+    let item = c.file-item.result in
+    record {
+      count = omega arith;
+      tearing = SameTearing-chain _ _ _ c.loop-file.invariant.tearing c.write_file.ensures.tearing;
+      small = (all_here (λ file. length file.1.now ≤ max_file) files index item c.loop-file-test.true c.file-item.is c.loop-file.invariant.small).1;
+      put = λ tells. put_more files index item c.loop-file-test.true c.file-item.is _ _ _ (c.loop-file.invariant.put tells) (c.in_ok-write_file.ensures.ok tells);
+      room = λ tells. room_more files index item c.loop-file-test.true c.file-item.is _ _ (c.loop-file.invariant.put tells) (c.loop-file.invariant.room tells) (c.in_ok-write_file.ensures.free tells);
+    }
+
+pub write_file-requires : goal.write_file-requires
+write_file-requires g c = record {
+  small = (all_here (λ file. length file.1.now ≤ max_file) c.args.files.now c.loop-file.file-index c.file-item.result c.loop-file-test.true c.file-item.is c.loop-file.invariant.small).0;
+}
+
+pub returns-in_err-write_file-clause-tearing : goal.returns-in_err-write_file-clause-tearing
+returns-in_err-write_file-clause-tearing g c = SameTearing-chain _ _ _ c.loop-file.invariant.tearing c.write_file.ensures.tearing
+
+pub returns-in_err-write_file-clause-blamed : goal.returns-in_err-write_file-clause-blamed
+returns-in_err-write_file-clause-blamed g c = λ place device.
+    let p = err_from_is_err_and c.from_residual.result c.from_residual.ensures.1 in
+    any_here (λ file. is_at file.0 place) c.args.files.now c.loop-file.file-index c.file-item.result c.loop-file-test.true c.file-item.is
+    (c.write_file.ensures.blamed place (handed_on c.from_residual.result c.write_file.result p.0 c.in_err-write_file.field-0.0 place p.1 p.2 c.in_err-write_file.was device))
+
+pub returns-in_err-write_file-clause-cut : goal.returns-in_err-write_file-clause-cut
+returns-in_err-write_file-clause-cut g c = λ tells.
+    let p = err_from_is_err_and c.from_residual.result c.from_residual.ensures.1 in
+    let F = g.F.Folder in
+    let IsFault : Fault → Type 0 = λ fault. IsCutShort (F.may_leave c.args.folder.now) (shown c.args.files.now) (F.contents c.args.folder.now) fault (F.contents c.write_file.new.folder) in
+    at_err (λ r. IfErr r IsFault) c.from_residual.result p.0 c.in_err-write_file.field-0.0 p.1 p.2
+    (cut_at c.args.files.now c.loop-file.file-index c.file-item.result c.loop-file-test.true c.file-item.is _ _ _ _ _ _ c.loop-file.invariant.tearing (c.loop-file.invariant.put tells) (c.loop-file.invariant.room tells) (c.in_err-write_file.ensures.stopped tells))
+
+pub returns-clause-tearing : goal.returns-clause-tearing
+returns-clause-tearing g c = c.loop-file.invariant.tearing
+
+pub returns-clause-ok : goal.returns-clause-ok
+returns-clause-ok g c = λ tells.
+    c.loop-file.invariant.put tells ∙ ap (λ files. with_all (g.F.Folder.contents c.args.folder.now) (shown files)) (take_all c.loop-file.file-index c.args.files.now c.loop-file-test.false)
+
+pub returns-clause-room : goal.returns-clause-room
+returns-clause-room g c = λ tells.
+    subst (λ files. has_room (g.F.Folder.contents c.args.folder.now).files (shown files)) (take_all c.loop-file.file-index c.args.files.now c.loop-file-test.false) (c.loop-file.invariant.room tells)

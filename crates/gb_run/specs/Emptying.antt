@@ -1,0 +1,33 @@
+-- Output places, listed and emptied.
+use Rattle.std.specs.Prelude.{ℕ, ◌≡◌, ◌⊎◌, Bool, List, map, Some}
+use Rattle.std.specs.List.{flat_map, list_any}
+use Rattle.gb_core.specs.Lists.{first_of}
+use Rattle.gb_core.specs.Place.{is_under}
+use Rattle.gb_folder.specs.Files.{Place, Contents, Files, Tearing, places_under}
+use Rattle.gb_report.specs.declared.fault.Fault.{Fault}
+use Rattle.gb_tree.specs.Tree.{odd_roots}
+use Rattle.gb_plan.specs.declared.task.Output.{Output}
+use Rattle.gb_plan.specs.declared.task.TaskDeclaration.{TaskDeclaration as Task}
+use Rattle.gb_store.specs.Changes.{IsCutShort}
+use Rattle.gb_store.specs.Faults.{IsOfMachine}
+use Rattle.gb_meaning.specs.Tree.{listing_faults, told_of_tree}
+
+-- the place lies at or beneath one of these outputs
+abbrev pub is_at_output : List Output → Place → Bool
+is_at_output outputs place = list_any (λ output. is_under place output.place) outputs
+
+-- the places of the files at these outputs, output by output
+abbrev pub places_at : List Output → Files → List Place
+places_at outputs files = flat_map (λ output. places_under files output.place) outputs
+
+-- what hinders listing them: things there that no place can name
+abbrev pub odd_faults : List Output → Contents → List Fault
+odd_faults outputs folder = map told_of_tree (odd_roots folder (map (λ output. output.place) outputs))
+
+-- The outputs of a task are not emptied: an odd thing stands there and nothing has changed; or the machine
+-- failed, before the first removal or at one, where a front of the files is gone.
+abbrev pub CannotEmpty : Task → Tearing → ℕ → Contents → Fault → ℕ → Contents → Type 0
+CannotEmpty task may_leave before old fault after new =
+    ((first_of (listing_faults task old) ≡ Some fault) × (new ≡ old))
+    ⊎ (IsOfMachine before after fault
+    × ((new ≡ old) ⊎ IsCutShort may_leave (places_at task.outputs old.files) old fault new))

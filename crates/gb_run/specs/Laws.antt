@@ -1,0 +1,80 @@
+-- What follows for a task's turn from how the run of its actions ends.
+use Rattle.std.specs.Prelude.{ℕ, ◌≡◌, ◌⊎◌, false, true, List, Some, Ok, take}
+use Rattle.gb_folder.specs.Files.{Place, Bytes, Contents, Files, file_at}
+use Rattle.gb_report.specs.declared.fault.Fault.{Fault}
+use Rattle.gb_report.specs.declared.fault.Fault.TheVariants as faults
+use Rattle.gb_action.specs.Changes.{Changes}
+use Rattle.gb_plan.specs.Task.{Text, is_output_of}
+use Rattle.gb_plan.specs.declared.task.TaskDeclaration.{TaskDeclaration as Task}
+use Rattle.gb_meaning.specs.Kinds.{Kinds}
+use Rattle.gb_meaning.specs.Tree.{has_no_source, trees_of}
+use Rattle.gb_meaning.specs.Made.{made_of, rest_of, with_outputs}
+use Rattle.gb_meaning.specs.Label.{run_of}
+use Rattle.gb_meaning.specs.Turn.{IsWritten, lines_of}
+use Rattle.gb_meaning.specs.Events.{IsTornInRun, Setting, StandsInRun}
+use Rattle.gb_run.specs.Course.{Course, EndsWell, Fails, course_of}
+use Rattle.gb_run.specs.Emptying.{CannotEmpty}
+
+-- the course of a task's run over these files, once those at its outputs are gone
+abbrev pub course_in : Kinds → Task → List Changes → Files → Course
+course_in kinds task changes files = course_of kinds task (trees_of task files) changes (rest_of task files)
+
+-- A run that ended well leaves what the actions make, in the emptied output places.
+abbrev pub EndedRunsAreMade : Type 0
+EndedRunsAreMade =
+    (kinds : Kinds) (task : Task) (changes : List Changes) (old : Files) (lines : List Text) (new : Files)
+    → EndsWell (course_in kinds task changes old) lines new →
+    (files : Files) × (made_of kinds task.actions task.values (trees_of task old) task.outputs ≡ Ok files)
+    × (new ≡ with_outputs task old files)
+
+-- How a task's run fails.
+pub record Failure (setting : Setting) (task : Task) (changes : List Changes) (old : Files) (fault : Fault)
+    (lines : List Text) (new : Files) : Type 0 where
+  pub before : ℕ
+  pub after : ℕ
+  pub fails : Fails (course_in setting.kinds task changes old) setting.may_leave before fault lines after new
+
+-- It prints the lines of some first actions of those that end.
+abbrev pub FailedRunsPrintFronts : Setting → Type 0
+FailedRunsPrintFronts setting =
+    (task : Task) (changes : List Changes) (old : Files) (fault : Fault)
+    (lines : List Text) (new : Files)
+    → Failure setting task changes old fault lines new →
+    (count : ℕ) × (lines ≡ lines_of setting.kinds task (trees_of task old) changes
+    (take count (run_of setting.kinds task old).done))
+
+-- Each file at the outputs is one that an action writes which the run came to, but where the device failed.
+abbrev pub FailedRunsInventNothing : Setting → Type 0
+FailedRunsInventNothing setting =
+    (task : Task) (changes : List Changes) (old : Files) (fault : Fault)
+    (lines : List Text) (new : Files)
+    → has_no_source task old ≡ false → Failure setting task changes old fault lines new →
+    (place : Place) (bytes : Bytes) → is_output_of task place ≡ true → file_at new place ≡ Some bytes →
+    IsWritten setting.kinds task old place bytes ⊎ (fault ≡ faults.Device place)
+
+-- Where the device failed there stands what it may leave of what stood in the run and what was to stand.
+abbrev pub TornPlacesAreOfTheRun : Setting → Type 0
+TornPlacesAreOfTheRun setting =
+    (task : Task) (changes : List Changes) (old : Files) (place : Place)
+    (lines : List Text) (new : Files)
+    → has_no_source task old ≡ false → is_output_of task place ≡ true
+    → Failure setting task changes old (faults.Device place) lines new →
+    IsTornInRun setting task old place (file_at new place)
+
+-- ---- Emptied outputs
+
+-- Where the outputs could not be emptied, each file stood there before, but where the device failed.
+abbrev pub CutEmptyingsInventNothing : Setting → Type 0
+CutEmptyingsInventNothing setting =
+    (task : Task) (before : ℕ) (old : Contents) (fault : Fault) (after : ℕ) (new : Contents)
+    → CannotEmpty task setting.may_leave before old fault after new →
+    (place : Place) (bytes : Bytes) → file_at new.files place ≡ Some bytes →
+    (file_at old.files place ≡ Some bytes) ⊎ (fault ≡ faults.Device place)
+
+-- Where the device failed then, there stands what stood there, or is torn.
+abbrev pub TornPlacesAreOfTheEmptying : Setting → Type 0
+TornPlacesAreOfTheEmptying setting =
+    (task : Task) (before : ℕ) (old : Contents) (place : Place) (after : ℕ) (new : Contents)
+    → CannotEmpty task setting.may_leave before old (faults.Device place) after new →
+    StandsInRun setting.kinds task old.files place (file_at new.files place)
+    ⊎ IsTornInRun setting task old.files place (file_at new.files place)

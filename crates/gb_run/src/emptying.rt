@@ -1,0 +1,71 @@
+//! The output places of a task, listed and emptied.
+ghost use Rattle.std.specs.Prelude.{◌≡◌, ◌≤◌, ◌⊎◌, [], Some, IsTrue, IfOk, IfErr, OnOk};
+ghost use Rattle.std.specs.List.{list_all};
+ghost use Rattle.gb_core.specs.Lists.{first_of};
+ghost use Rattle.gb_folder.specs.Files.{SameTearing};
+ghost use Rattle.gb_store.specs.Changes.{ChangesOnly};
+ghost use Rattle.gb_store.specs.Faults.{Blames, BlamesOnly, IsOfMachine};
+ghost use Rattle.gb_plan.specs.Task.{is_output_of};
+ghost use Rattle.gb_meaning.specs.Made.{rest_of};
+ghost use Rattle.gb_meaning.specs.Tree.{listing_faults};
+ghost use Rattle.gb_run.specs.Emptying.{CannotEmpty, is_at_output, odd_faults, places_at};
+
+use gb_core::place::Place;
+use gb_folder::folder::Folder;
+use gb_plan::task::{Output, TaskDeclaration};
+use gb_report::fault::Fault;
+use gb_store::listing::listed_at;
+use gb_store::removal::remove_all;
+use std::alloc::Global;
+
+/// Takes the files at the outputs of a task away. An error is the first odd thing there (14), before
+/// anything is removed, or the machine's (3, 10), which leaves a front of the files gone.
+pub fn empty_outputs<F: Folder>(
+    alloc: Global,
+    folder: &mut F,
+    task: &TaskDeclaration,
+) -> Result<(), Fault>
+    ensures count { F.failures folder.old ≤ F.failures folder.new }
+    ensures blame { Blames result (F.failures folder.old) (F.failures folder.new) }
+    ensures blamed { BlamesOnly (is_output_of task.now) result }
+    ensures tearing { SameTearing (F.may_leave folder.old) (F.may_leave folder.new) }
+    ensures changes { IsTrue F.tells
+        → ChangesOnly (is_output_of task.now) (F.contents folder.old) (F.contents folder.new) }
+    ensures ok { IsTrue F.tells → OnOk result
+        ((F.contents folder.new).files ≡ rest_of task.now (F.contents folder.old).files) }
+    ensures none_odd { IsTrue F.tells → OnOk result (listing_faults task.now (F.contents folder.old) ≡ []) }
+    ensures err { IsTrue F.tells → IfErr result (λ fault.
+        CannotEmpty task.now (F.may_leave folder.old) (F.failures folder.old) (F.contents folder.old) fault
+        (F.failures folder.new) (F.contents folder.new)) }
+{
+    let places = listed_outputs(alloc, folder, task.outputs.as_slice())?;
+    remove_all(folder, places.as_slice())
+}
+
+/// The places of the files at these outputs, output by output. An error is the first odd thing there
+/// (14), or the machine's (3, 10).
+pub fn listed_outputs<F: Folder>(
+    alloc: Global,
+    folder: &mut F,
+    outputs: &[Output],
+) -> Result<Vec<Place>, Fault>
+    ensures count { F.failures folder.old ≤ F.failures folder.new }
+    ensures blame { Blames result (F.failures folder.old) (F.failures folder.new) }
+    ensures blamed { BlamesOnly (is_at_output outputs.now) result }
+    ensures tearing { SameTearing (F.may_leave folder.old) (F.may_leave folder.new) }
+    ensures under { IfOk result (λ places. IsTrue (list_all (is_at_output outputs.now) places.items)) }
+    ensures same { IsTrue F.tells → F.contents folder.new ≡ F.contents folder.old }
+    ensures listed { IsTrue F.tells → IfOk result
+        (λ places. places.items ≡ places_at outputs.now (F.contents folder.old).files) }
+    ensures none_odd { IsTrue F.tells → OnOk result (odd_faults outputs.now (F.contents folder.old) ≡ []) }
+    ensures odd { IsTrue F.tells → IfErr result
+        (λ fault. IsOfMachine (F.failures folder.old) (F.failures folder.new) fault
+        ⊎ (first_of (odd_faults outputs.now (F.contents folder.old)) ≡ Some fault)) }
+{
+    let mut places = Vec::new(alloc);
+    for output in outputs.iter() {
+        let mut listed = listed_at(alloc, folder, &output.place)?;
+        places.append(&mut listed)?;
+    }
+    Ok(places)
+}

@@ -1,0 +1,497 @@
+//! Texts from outside, and what they are told as.
+//!
+//! Each case is a function that answers whether it holds, so that no assertion stands where values live.
+use gb_script::expression::{Expression, Source};
+use gb_script::fault::ScriptFault;
+use gb_script::script::{Clause, Statement};
+use gb_script::{read_script, read_settings};
+use std::alloc::{AllocError, Global};
+use std::test::Fail;
+
+/// What `Debug` writes around the parts of a script that tests look at.
+const WRAPPINGS: [&str; 12] = [
+    " ",
+    "{",
+    "}",
+    "Nametext:Texttext:",
+    "Texttext:",
+    "Textstexts:",
+    "Expressionsitems:",
+    "Expressionsource:",
+    "Blockclauses:",
+    "Scriptstatements:",
+    "Settingsincludes:",
+    ",steps:[]",
+];
+
+fn without(alloc: Global, text: &str, part: &str) -> Result<String, AllocError> {
+    let mut out = String::new(alloc);
+    for piece in text.split(part) {
+        out.push_str(piece)?;
+    }
+    Ok(out)
+}
+
+fn unwrapped(alloc: Global, text: String) -> Result<String, AllocError> {
+    let mut out = text;
+    for wrapping in WRAPPINGS {
+        out = without(alloc, &out, wrapping)?;
+    }
+    Ok(out)
+}
+
+/// What the bytes are read as: a script, or the fault's number and text.
+fn told(alloc: Global, bytes: &[u8]) -> Result<String, AllocError> {
+    match read_script(alloc, bytes) {
+        Ok(script) => unwrapped(alloc, format!(in alloc; "{script:?}")?),
+        Err(fault) => format!(in alloc; "{} {fault}", fault.number()),
+    }
+}
+
+/// What the bytes are read as: settings, or the fault's number and text.
+fn told_settings(alloc: Global, bytes: &[u8]) -> Result<String, AllocError> {
+    match read_settings(alloc, bytes) {
+        Ok(settings) => unwrapped(alloc, format!(in alloc; "{settings:?}")?),
+        Err(fault) => format!(in alloc; "{} {fault}", fault.number()),
+    }
+}
+
+fn is_told(alloc: Global, bytes: &[u8], want: &str) -> Result<bool, AllocError> {
+    Ok(told(alloc, bytes)?.as_str() == want)
+}
+
+fn is_told_of_settings(alloc: Global, bytes: &[u8], want: &str) -> Result<bool, AllocError> {
+    Ok(told_settings(alloc, bytes)?.as_str() == want)
+}
+
+fn is_read(alloc: Global, text: &str) -> bool {
+    read_script(alloc, text.as_bytes()).is_ok()
+}
+
+/// A text, and what it is told as.
+type Case = (&'static str, &'static str);
+
+/// A front and a back.
+type Pair = [&'static str; 2];
+
+fn between(alloc: Global, around: &Pair, text: &str) -> Result<String, AllocError> {
+    repeated(alloc, around[0], text, 1, around[1])
+}
+
+fn is_told_between(
+    alloc: Global,
+    around: &Pair,
+    around_told: &Pair,
+    case: &Case,
+) -> Result<bool, AllocError> {
+    let text = between(alloc, around, case.0)?;
+    let want = between(alloc, around_told, case.1)?;
+    is_told(alloc, text.as_bytes(), want.as_str())
+}
+
+/// Whether each text between the first two is told as its own between the last two; if not, which is not.
+fn are_told(alloc: Global, around: Pair, around_told: Pair, cases: &[Case]) -> Result<(), Fail> {
+    for case in cases {
+        if is_told_between(alloc, &around, &around_told, case) != Ok(true) {
+            return Err(Fail::new(case.0));
+        }
+    }
+    Ok(())
+}
+
+const NONE: Pair = ["", ""];
+
+/// This many times the part, between a front and a back.
+fn repeated(
+    alloc: Global,
+    front: &str,
+    part: &str,
+    count: usize,
+    back: &str,
+) -> Result<String, AllocError> {
+    let mut out = String::from_str(alloc, front)?;
+    for _ in 0..count {
+        out.push_str(part)?;
+    }
+    out.push_str(back)?;
+    Ok(out)
+}
+
+const STATEMENTS: [Case; 12] = [
+    ("", "[]"),
+    (" \t\r\n// nothing", "[]"),
+    ("defaultTasks \"a\", \"b\"", "[DefaultTasks([\"a\",\"b\"])]"),
+    ("property a", "[Property(\"a\")]"),
+    (
+        "set a = \"x\"",
+        "[Set(Assignmentname:\"a\",value:Text(\"x\"))]",
+    ),
+    (
+        "convention a = b",
+        "[Convention(Assignmentname:\"a\",value:Property(\"b\"))]",
+    ),
+    ("unset a", "[Unset(\"a\")]"),
+    ("disallowChanges a", "[DisallowChanges(\"a\")]"),
+    (
+        "register a{}",
+        "[Register(Registrationname:\"a\",action:None,block:[])]",
+    ),
+    (
+        "register a : k(\"x\", y) {}",
+        "[Register(Registrationname:\"a\",action:Some(Callname:\"k\",arguments:[Text(\"x\"),Property(\"y\")]),block:[])]",
+    ),
+    (
+        "named a { enabled true }",
+        "[Named(Configurationname:\"a\",block:[Enabled(Flag(true))])]",
+    ),
+    (
+        "property set property x9-_Y//c \" {\nunset register// at the end",
+        "[Property(\"set\"),Property(\"x9-_Y\"),Unset(\"register\")]",
+    ),
+];
+
+#[test]
+fn reads_each_statement(rt: HostRuntime) -> Result<(), Fail> {
+    are_told(rt.alloc(), NONE, NONE, &STATEMENTS)
+}
+
+const CLAUSES: [Case; 14] = [
+    ("", ""),
+    (
+        "input a = false",
+        "Input(Assignmentname:\"a\",value:Flag(false))",
+    ),
+    (
+        "inputFiles src from dir(\"a\")",
+        "InputFiles(InputFilesname:\"src\",incremental:false,skip_when_empty:false,name_only:false,from:[Dir(\"a\")],include:[],exclude:[])",
+    ),
+    (
+        "inputFiles src incremental skipWhenEmpty nameOnly from a, b include \"x\", \"y\" exclude \"z\"",
+        "InputFiles(InputFilesname:\"src\",incremental:true,skip_when_empty:true,name_only:true,from:[Property(\"a\"),Property(\"b\")],include:[\"x\",\"y\"],exclude:[\"z\"])",
+    ),
+    (
+        "inputFiles from skipWhenEmpty from from exclude \"z\"",
+        "InputFiles(InputFilesname:\"from\",incremental:false,skip_when_empty:true,name_only:false,from:[Property(\"from\")],include:[],exclude:[\"z\"])",
+    ),
+    (
+        "outputFile out = file(\"a/b\")",
+        "OutputFile(Assignmentname:\"out\",value:File(\"a/b\"))",
+    ),
+    (
+        "outputDir out = buildDir",
+        "OutputDir(Assignmentname:\"out\",value:BuildDir)",
+    ),
+    ("dependsOn \"a\", \"b\"", "DependsOn([\"a\",\"b\"])"),
+    ("mustRunAfter \"a\"", "MustRunAfter([\"a\"])"),
+    ("finalizedBy \"a\"", "FinalizedBy([\"a\"])"),
+    (
+        "doFirst f doLast g(\"x\") doFirst doLast",
+        "DoFirst(Callname:\"f\",arguments:[]),DoLast(Callname:\"g\",arguments:[Text(\"x\")]),DoFirst(Callname:\"doLast\",arguments:[])",
+    ),
+    (
+        "onlyIf is is isTrue",
+        "OnlyIf(Conditionvalue:Property(\"is\"),test:Functionname:\"isTrue\",arguments:[])",
+    ),
+    (
+        "upToDateWhen a is f(\"x\", \"y\")",
+        "UpToDateWhen(Conditionvalue:Property(\"a\"),test:Functionname:\"f\",arguments:[\"x\",\"y\"])",
+    ),
+    ("enabled true", "Enabled(Flag(true))"),
+];
+
+#[test]
+fn reads_each_clause(rt: HostRuntime) -> Result<(), Fail> {
+    are_told(
+        rt.alloc(),
+        ["named t {\n", "\n}"],
+        ["[Named(Configurationname:\"t\",block:[", "])]"],
+        &CLAUSES,
+    )
+}
+
+const VALUES: [Case; 7] = [
+    ("\"\"", "Text(\"\")"),
+    ("[]", "List([])"),
+    (
+        "[\"a\", [true], b]",
+        "List([Text(\"a\"),List([Flag(true)]),Property(\"b\")])",
+    ),
+    ("gradleProperty(\"p\")", "GradleProperty(\"p\")"),
+    ("task(\":a:b\")", "Task(\":a:b\")"),
+    (
+        "a.map(f).flatMap(g(\"x\")).zip(b, h).orElse(\"y\")",
+        "Property(\"a\"),steps:[Map(Functionname:\"f\",arguments:[]),FlatMap(Functionname:\"g\",arguments:[\"x\"]),Zip(Property(\"b\"),Functionname:\"h\",arguments:[]),OrElse(Text(\"y\"))]",
+    ),
+    (
+        "map.zip([a.orElse(b)], f).orElse([])",
+        "Property(\"map\"),steps:[Zip(List([Property(\"a\"),steps:[OrElse(Property(\"b\"))]]),Functionname:\"f\",arguments:[]),OrElse(List([]))]",
+    ),
+];
+
+#[test]
+fn reads_each_value(rt: HostRuntime) -> Result<(), Fail> {
+    are_told(
+        rt.alloc(),
+        ["set p = ", ""],
+        ["[Set(Assignmentname:\"p\",value:", ")]"],
+        &VALUES,
+    )
+}
+
+const RESERVED: [&str; 7] = [
+    "true",
+    "false",
+    "dir",
+    "file",
+    "buildDir",
+    "gradleProperty",
+    "task",
+];
+
+fn is_a_name(alloc: Global, word: &str) -> Result<bool, AllocError> {
+    let text = format!(in alloc;
+        "register {word} : {word}({word}s) {{ input {word} = a doLast {word} onlyIf a is {word} }}"
+    )?;
+    Ok(is_read(alloc, text.as_str()))
+}
+
+fn is_refused_behind(alloc: Global, statement: &str, word: &str) -> Result<bool, AllocError> {
+    let text = format!(in alloc; "\n{statement} {word} = \"a\"")?;
+    is_told(alloc, text.as_bytes(), "20 syntax error in line 2")
+}
+
+#[test]
+fn knows_reserved_words_as_names(rt: HostRuntime) -> Result<(), Fail> {
+    for word in RESERVED {
+        let is_name = is_a_name(rt.alloc(), word)?;
+        assert!(rt; is_name, "naming {word}");
+    }
+    Ok(())
+}
+
+#[test]
+fn reserved_words_are_no_properties(rt: HostRuntime) -> Result<(), Fail> {
+    for statement in ["property", "unset", "disallowChanges", "set"] {
+        for word in RESERVED {
+            let is_refused = is_refused_behind(rt.alloc(), statement, word)?;
+            assert!(rt; is_refused, "{statement} {word}");
+        }
+    }
+    Ok(())
+}
+
+/// A text, and the line of its fault.
+const LINES: [Case; 22] = [
+    ("register {", "1"),
+    ("\n\nregister x", "3"),
+    ("register x\n\n", "3"),
+    ("register x {\r\n  doLast k\r\n", "3"),
+    ("register x {\n}\n)", "3"),
+    ("register x : k() {}", "1"),
+    ("register x : k(\"a\",\n) {}", "2"),
+    ("set a = [b,\n]", "2"),
+    ("set a = b.\nmap()", "2"),
+    ("set a = b.map(f(\n))", "2"),
+    ("set a = b\n.true", "2"),
+    ("defaultTasks \"a\",\n", "2"),
+    ("set a = \"b\nc\"", "1"),
+    ("set a =\n\"b\\x\"", "2"),
+    ("set a =\n\"open", "2"),
+    ("set a =\n\"open\\", "2"),
+    ("register 1x {}", "1"),
+    ("register x\n/ comment {}", "2"),
+    ("register x {}\né", "2"),
+    ("named x {\ninputFiles a nameOnly incremental from b }", "2"),
+    ("named x {\nonlyIf a }", "2"),
+    ("include\n\"a\"", "1"),
+];
+
+#[test]
+fn tells_the_line_of_a_fault(rt: HostRuntime) -> Result<(), Fail> {
+    are_told(rt.alloc(), NONE, ["20 syntax error in line ", ""], &LINES)
+}
+
+/// Whether the one statement sets a property to this text, in so many steps.
+fn sets_to(statements: &[Statement], want: &str) -> bool {
+    match statements {
+        [Statement::Set(assignment)] => match assignment.value.source() {
+            Source::Text(text) => text.as_str() == want && assignment.value.steps().is_empty(),
+            _ => false,
+        },
+        _ => false,
+    }
+}
+
+fn is_read_as_set(alloc: Global, text: &str, want: &str) -> Result<bool, ScriptFault> {
+    let script = read_script(alloc, text.as_bytes())?;
+    Ok(sets_to(script.statements(), want))
+}
+
+#[test]
+fn reads_escapes(rt: HostRuntime) -> Result<(), Fail> {
+    let text = "set a = \"q\\\"b\\\\n\\n\\t//é\u{7f}\"";
+    let is_set = is_read_as_set(rt.alloc(), text, "q\"b\\n\n\t//é\u{7f}")?;
+    assert!(rt; is_set);
+    Ok(())
+}
+
+fn is_a_word_of(alloc: Global, count: usize) -> Result<bool, AllocError> {
+    let text = repeated(alloc, "property ", "w", count, "")?;
+    Ok(is_read(alloc, text.as_str()))
+}
+
+fn is_told_behind_a_word_of(alloc: Global, count: usize, want: &str) -> Result<bool, AllocError> {
+    let text = repeated(alloc, "\nproperty ", "w", count, "")?;
+    is_told(alloc, text.as_bytes(), want)
+}
+
+#[test]
+fn takes_words_of_64_bytes(rt: HostRuntime) -> Result<(), Fail> {
+    let is_word = is_a_word_of(rt.alloc(), 64)?;
+    assert!(rt; is_word);
+    let is_refused = is_told_behind_a_word_of(rt.alloc(), 65, "20 syntax error in line 2")?;
+    assert!(rt; is_refused);
+    Ok(())
+}
+
+/// Whether 64 open brackets and then this are told so.
+fn is_told_behind_64_brackets(alloc: Global, then: &str, want: &str) -> Result<bool, AllocError> {
+    let text = repeated(alloc, "set a = ", "[", 64, then)?;
+    is_told(alloc, text.as_bytes(), want)
+}
+
+/// Whether 64 brackets that close and then this are told so.
+fn is_told_behind_closed_brackets(
+    alloc: Global,
+    then: &str,
+    want: &str,
+) -> Result<bool, AllocError> {
+    let close = repeated(alloc, "", "]", 64, then)?;
+    is_told_behind_64_brackets(alloc, close.as_str(), want)
+}
+
+fn are_64_brackets_read(alloc: Global) -> Result<bool, AllocError> {
+    let close = repeated(alloc, "", "]", 64, "")?;
+    let text = repeated(alloc, "set a = ", "[", 64, close.as_str())?;
+    Ok(is_read(alloc, text.as_str()))
+}
+
+/// Whether 64 steps that are open and one more in the next line are told so.
+fn is_told_of_nested_steps(alloc: Global, want: &str) -> Result<bool, AllocError> {
+    let text = repeated(alloc, "set a = ", "a.orElse(", 64, "a.map\n(f)")?;
+    is_told(alloc, text.as_bytes(), want)
+}
+
+#[test]
+fn takes_64_brackets(rt: HostRuntime) -> Result<(), Fail> {
+    let alloc = rt.alloc();
+    assert!(rt; are_64_brackets_read(alloc)?);
+    // A bracket that closes makes room again.
+    let again = "\nproperty b.orElse(a)";
+    assert!(rt; is_told_behind_closed_brackets(alloc, again, "20 syntax error in line 2")?);
+    assert!(rt; is_told_behind_64_brackets(alloc, "\n[", "22 too deep in line 2")?);
+    // At one token it is an error of the syntax.
+    assert!(rt; is_told_behind_64_brackets(alloc, "\n(", "20 syntax error in line 2")?);
+    assert!(rt; is_told_of_nested_steps(alloc, "22 too deep in line 2")?);
+    Ok(())
+}
+
+/// Whether 64 steps between these are told so.
+fn is_told_of_64_steps(alloc: Global, around: &Pair, want: &str) -> Result<bool, AllocError> {
+    let text = repeated(alloc, around[0], ".map(f)", 64, around[1])?;
+    is_told(alloc, text.as_bytes(), want)
+}
+
+fn are_64_steps_read(alloc: Global, around: &Pair) -> Result<bool, AllocError> {
+    let text = repeated(alloc, around[0], ".map(f)", 64, around[1])?;
+    Ok(is_read(alloc, text.as_str()))
+}
+
+#[test]
+fn takes_64_steps(rt: HostRuntime) -> Result<(), Fail> {
+    let alloc = rt.alloc();
+    assert!(rt; are_64_steps_read(alloc, &["set a = a", ""])?);
+    assert!(rt; is_told_of_64_steps(alloc, &["set a = a", "\n.map(f)"], "22 too deep in line 2")?);
+    // Each chain counts its own.
+    assert!(rt; are_64_steps_read(alloc, &["set a = [b.map(f), a", "].map(f)"])?);
+    Ok(())
+}
+
+/// Whether a mebibyte of spaces and then these bytes are told so, as a script or as settings.
+fn is_told_of_a_mebibyte(alloc: Global, then: &[u8], want: &str) -> Result<bool, AllocError> {
+    let mut bytes = vec![in alloc; b' '; 1_048_576]?;
+    bytes.extend_from_slice(then)?;
+    Ok(is_told(alloc, &bytes, want)? && is_told_of_settings(alloc, &bytes, want)?)
+}
+
+#[test]
+fn takes_a_mebibyte_of_text(rt: HostRuntime) -> Result<(), Fail> {
+    let alloc = rt.alloc();
+    assert!(rt; is_told_of_a_mebibyte(alloc, b"", "[]")?);
+    assert!(rt; is_told_of_a_mebibyte(alloc, b" ", "21 too long")?);
+    assert!(rt; is_told_of_a_mebibyte(alloc, b" \xff", "21 too long")?);
+    assert!(rt; is_told(alloc, b"\xff", "23 not UTF-8")?);
+    assert_eq!(rt; ScriptFault::OutOfMemory.number(), 3);
+    Ok(())
+}
+
+const SETTINGS: [Case; 5] = [
+    ("", "[]"),
+    ("include \"lib\", \":a:b\"", "[[\"lib\",\":a:b\"]]"),
+    ("include \"a\" // b\ninclude \"c\"", "[[\"a\"],[\"c\"]]"),
+    ("include", "20 syntax error in line 1"),
+    ("include \"a\"\nproperty b", "20 syntax error in line 2"),
+];
+
+#[test]
+fn reads_settings(rt: HostRuntime) -> Result<(), Fail> {
+    for (text, want) in SETTINGS {
+        let is_told = is_told_of_settings(rt.alloc(), text.as_bytes(), want)?;
+        assert!(rt; is_told, "reading {text}");
+    }
+    Ok(())
+}
+
+/// Whether the one configuration has these clauses: a list of one element, and a call with two arguments.
+fn has_both_clauses(clauses: &[Clause]) -> bool {
+    match clauses {
+        [Clause::Enabled(value), Clause::DoLast(call)] => {
+            is_list_of_one(value) && call.arguments.as_slice().len() == 2
+        }
+        _ => false,
+    }
+}
+
+fn is_list_of_one(value: &Expression) -> bool {
+    match value.source() {
+        Source::List(elements) => elements.len() == 1,
+        _ => false,
+    }
+}
+
+fn is_read_as_configuration(alloc: Global, bytes: &[u8]) -> Result<bool, ScriptFault> {
+    let script = read_script(alloc, bytes)?;
+    Ok(match script.statements() {
+        [Statement::Named(configuration)] => has_both_clauses(configuration.block.clauses()),
+        _ => false,
+    })
+}
+
+fn is_made_of_its_source(alloc: Global) -> bool {
+    let made = Expression::new(Source::Flag(true), Vec::new(alloc));
+    matches!(made.source(), Source::Flag(true))
+}
+
+fn has_one_include(alloc: Global, bytes: &[u8]) -> Result<bool, ScriptFault> {
+    let settings = read_settings(alloc, bytes)?;
+    Ok(settings.includes().len() == 1)
+}
+
+#[test]
+fn gives_what_it_is_made_from(rt: HostRuntime) -> Result<(), Fail> {
+    let alloc = rt.alloc();
+    assert!(rt; is_read_as_configuration(alloc, b"named a { enabled [true] doLast k(b, c) }")?);
+    assert!(rt; is_made_of_its_source(alloc));
+    assert!(rt; has_one_include(alloc, b"include \"a\"")?);
+    Ok(())
+}

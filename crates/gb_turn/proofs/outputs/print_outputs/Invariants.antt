@@ -1,0 +1,18 @@
+use Rattle.std.proofs.Common.{◌≡◌, ◌≤◌, [], take, map, IsTrue}
+use Rattle.std.specs.List.{flat_map}
+use Rattle.gb_folder.specs.Files.{SameTearing}
+use Rattle.gb_history.specs.Remembered.{prints_in}
+use Rattle.gb_turn.specs.Reading.{print_faults, recorded_of}
+use Rattle.gb_turn.proofs.outputs.print_outputs.Given as goal
+
+abbrev pub invariant-loop-output : goal.invariant-loop-output
+invariant-loop-output g l =
+    let contents = g.F.Folder.contents in
+    record {
+      count : g.F.Folder.failures l.fn.folder ≤ g.F.Folder.failures l.folder;
+      tearing : SameTearing (g.F.Folder.may_leave l.fn.folder) (g.F.Folder.may_leave l.folder);
+      same : IsTrue g.F.Folder.tells → contents l.folder ≡ contents l.fn.folder;
+      named : map (λ found. found.0) (prints_in l.made.items) ≡ map (λ output. output.name) (take l.output-index l.task.outputs);
+      prints : IsTrue g.F.Folder.tells → l.made.items ≡ map (recorded_of (contents l.fn.folder).files) (take l.output-index l.task.outputs);
+      fit : IsTrue g.F.Folder.tells → flat_map (print_faults (contents l.fn.folder)) (take l.output-index l.task.outputs) ≡ [];
+    }
