@@ -10,7 +10,7 @@ use Rattle.gb_plan.specs.declared.task.FileProperty.{FileProperty}
 use Rattle.gb_plan.specs.declared.task.TaskDeclaration.{TaskDeclaration as Task}
 use Rattle.gb_tree.specs.Prints.{digests_of}
 use Rattle.gb_turn.specs.Reading.{digests_in}
-use Rattle.gb_label.specs.Looking.{is_no_reason, lacks_source}
+use Rattle.gb_label.specs.Looking.{gives_no_source, lacks_source}
 
 -- one pair more passes
 pub all_one_more : {X Y : Type 0} (t : X × Y → Bool) (xs : List X) (ys : List Y) (i : ℕ) (x : X) (y : Y) → i < length xs → i < length ys
@@ -58,11 +58,11 @@ empty_digests (file ∷ tree) = refl
 
 -- of the digests of trees it is told as of the trees themselves
 same_reasons : (properties : List FileProperty) (files : Files)
-    → list_all is_no_reason (zip properties (digests_in (map (λ property. (property.name, tree_of property files)) properties)))
+    → list_all gives_no_source (zip properties (digests_in (map (λ property. (property.name, tree_of property files)) properties)))
     ≡ list_all (λ property. is_empty (tree_of property files)) (filter (λ property. property.skip_when_empty) properties)
 same_reasons [] files = refl
 same_reasons (property ∷ properties) files =
-    ap (λ b. (not property.skip_when_empty || b) && list_all is_no_reason (zip properties (digests_in (map (λ p. (p.name, tree_of p files)) properties)))) (empty_digests (tree_of property files))
+    ap (λ b. (not property.skip_when_empty || b) && list_all gives_no_source (zip properties (digests_in (map (λ p. (p.name, tree_of p files)) properties)))) (empty_digests (tree_of property files))
     ∙ ap (λ b. (not property.skip_when_empty || is_empty (tree_of property files)) && b) (same_reasons properties files)
     ∙ by_test property.skip_when_empty
   where

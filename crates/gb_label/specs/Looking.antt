@@ -14,14 +14,14 @@ use Rattle.gb_turn.specs.Reading.{digests_in}
 use Rattle.gb_label.specs.declared.look.Look.{Look}
 use Rattle.gb_label.specs.declared.look.Look.TheVariants as looks
 
--- the property does not skip the task, since it need not or is not empty by its prints
-abbrev pub is_no_reason : FileProperty × Prints → Bool
-is_no_reason pair = not pair.0.skip_when_empty || is_empty pair.1.1
+-- the property gives its task no source: it does not skip it when empty, or is empty by its prints
+abbrev pub gives_no_source : FileProperty × Prints → Bool
+gives_no_source pair = not pair.0.skip_when_empty || is_empty pair.1.1
 
 -- there are properties that skip the task when empty, and all of them are empty by their prints
 abbrev pub lacks_source : List FileProperty → List Prints → Bool
 lacks_source properties inputs =
-    list_any (λ property. property.skip_when_empty) properties && list_all is_no_reason (zip properties inputs)
+    list_any (λ property. property.skip_when_empty) properties && list_all gives_no_source (zip properties inputs)
 
 -- what is found is the task's case; and where it is none, the digests of its inputs
 abbrev pub IsCase : Task → Contents → Look → Type 0

@@ -2,7 +2,7 @@
 ghost use Rattle.std.specs.Prelude.{◌≡◌, ◌≤◌, ◌||◌, true, false, length, IsTrue, IfOk, IfErr, OnErr};
 ghost use Rattle.std.specs.List.{list_all, list_any, zip};
 ghost use Rattle.gb_folder.specs.Files.{SameTearing, is_empty};
-ghost use Rattle.gb_label.specs.Looking.{IsCase, IsHindered, MayBe, is_no_reason, lacks_source};
+ghost use Rattle.gb_label.specs.Looking.{IsCase, IsHindered, MayBe, gives_no_source, lacks_source};
 ghost use Rattle.gb_plan.specs.Task.{is_output_of};
 ghost use Rattle.gb_store.specs.Faults.{Blames, BlamesOnly};
 ghost use Rattle.gb_turn.specs.Reading.{is_input_of};
@@ -34,9 +34,9 @@ fn may_skip(properties: &[FileProperty]) -> bool
     properties.iter().any(|property| property.skip_when_empty)
 }
 
-/// Whether the property does not skip its task.
-fn is_no_reason(property: &FileProperty, found: &Prints) -> bool
-    ensures { result ≡ is_no_reason (property.now, found.now) }
+/// Whether the property gives its task no source: it does not skip it when empty, or is empty.
+fn gives_no_source(property: &FileProperty, found: &Prints) -> bool
+    ensures { result ≡ gives_no_source (property.now, found.now) }
 {
     !property.skip_when_empty || found.as_slice().is_empty()
 }
@@ -44,10 +44,10 @@ fn is_no_reason(property: &FileProperty, found: &Prints) -> bool
 /// Whether all properties that skip a task when empty are empty.
 fn are_empty(properties: &[FileProperty], inputs: &[Prints]) -> bool
     requires { length properties.now ≡ length inputs.now }
-    ensures { result ≡ list_all is_no_reason (zip properties.now inputs.now) }
+    ensures { result ≡ list_all gives_no_source (zip properties.now inputs.now) }
 {
     for (at, property) in properties.iter().enumerate() {
-        if !is_no_reason(property, &inputs[at]) {
+        if !gives_no_source(property, &inputs[at]) {
             return false;
         }
     }
