@@ -5,11 +5,11 @@
 use std::alloc::{AllocError, Global};
 
 /// How many tasks there are.
-pub const COUNT: usize = 4;
+const COUNT: usize = 4;
 
 /// How a task is bound to another.
 #[derive(Clone, Copy, PartialEq, Eq)]
-pub enum Bond {
+enum Bond {
     Needs,
     Follows,
     IsFinalizedBy,
@@ -19,11 +19,11 @@ pub enum Bond {
 /// A graph of tasks, and what is asked for.
 #[derive(Clone, Copy)]
 pub struct Case {
-    pub digits: u64,
-    pub reads: u64,
-    pub first: usize,
-    pub second: usize,
-    pub excluded: usize,
+    digits: u64,
+    reads: u64,
+    first: usize,
+    second: usize,
+    excluded: usize,
 }
 
 /// The case of a number. In a third of them no task is left out.
@@ -64,7 +64,7 @@ fn digit(digits: u64, task: usize, other: usize) -> u64 {
 }
 
 /// How the first task is bound to the second.
-pub fn bond_of(case: &Case, task: usize, other: usize) -> Bond {
+fn bond_of(case: &Case, task: usize, other: usize) -> Bond {
     match digit(case.digits, task, other) {
         1 => Bond::Needs,
         2 => Bond::Follows,
@@ -74,26 +74,12 @@ pub fn bond_of(case: &Case, task: usize, other: usize) -> Bond {
 }
 
 /// Whether the first task reads the file of the second; seldom its own.
-pub fn reads(case: &Case, task: usize, other: usize) -> bool {
+fn reads(case: &Case, task: usize, other: usize) -> bool {
     digit(case.reads, task, other) == 5 && (task != other || digit(case.digits, task, task) > 4)
 }
 
-/// Whether the first task brings the second with it.
-pub fn brings(case: &Case, task: usize, other: usize) -> bool {
-    matches!(
-        bond_of(case, task, other),
-        Bond::Needs | Bond::IsFinalizedBy
-    )
-}
-
-/// Whether the first task comes after the second, where both are scheduled.
-pub fn comes_after(case: &Case, task: usize, other: usize) -> bool {
-    matches!(bond_of(case, task, other), Bond::Needs | Bond::Follows)
-        || matches!(bond_of(case, other, task), Bond::IsFinalizedBy)
-}
-
 /// The name of a task.
-pub fn name_of(task: usize) -> &'static str {
+fn name_of(task: usize) -> &'static str {
     match task {
         0 => "a",
         1 => "b",
@@ -126,8 +112,18 @@ pub fn line_of(alloc: Global, case: &Case) -> Result<String, AllocError> {
 }
 
 fn add_files(line: &mut String, case: &Case, task: usize) -> Result<(), AllocError> {
+    add_files_behind(line, case, task, task)
+}
+
+/// What a task makes, the file of this one, and what it reads.
+fn add_files_behind(
+    line: &mut String,
+    case: &Case,
+    task: usize,
+    made: usize,
+) -> Result<(), AllocError> {
     line.push_str(" = build/")?;
-    line.push_str(name_of(task))?;
+    line.push_str(name_of(made))?;
     for other in 0..COUNT {
         if reads(case, task, other) {
             line.push_str(" < build/")?;
@@ -146,6 +142,41 @@ fn add_bonds(line: &mut String, case: &Case, task: usize) -> Result<(), AllocErr
         }
     }
     Ok(())
+}
+
+/// The task whose file a task makes in a wild case: now and then that of the first.
+fn made(case: &Case, task: usize) -> usize {
+    if digit(case.reads, task, 3) == 0 {
+        0
+    } else {
+        task
+    }
+}
+
+/// The tasks of a wild case: files may be shared, and now and then a task needs one that is not there.
+pub fn wild_line_of(alloc: Global, case: &Case) -> Result<String, AllocError> {
+    let mut line = String::new(alloc);
+    for task in 0..COUNT {
+        if task > 0 {
+            line.push_str("; ")?;
+        }
+        line.push_str(name_of(task))?;
+        add_bonds(&mut line, case, task)?;
+        if digit(case.digits, task, 3) == 7 && digit(case.reads, 0, task) > 5 {
+            line.push_str(" > zz")?;
+        }
+        add_files_behind(&mut line, case, task, made(case, task))?;
+    }
+    Ok(line)
+}
+
+/// What is asked for in a wild case: now and then also a task that is not there.
+pub fn wild_asked_of(alloc: Global, case: &Case) -> Result<String, AllocError> {
+    let mut asked = asked_of(alloc, case)?;
+    if digit(case.reads, 1, 2) == 6 && digit(case.digits, 0, 0) > 3 {
+        asked.push_str(" zz")?;
+    }
+    Ok(asked)
 }
 
 /// What is asked for.

@@ -1,45 +1,48 @@
-//! What is answered for drawn tasks, against a plain search.
-use crate::drawn::{Case, asked_of, case_of, line_of};
+//! What is answered for drawn tasks, held against plain checks whose contracts are the definitions.
+use crate::drawn::{Case, asked_of, case_of, line_of, wild_asked_of, wild_line_of};
 use crate::reading::{answer, is_answered_right};
-use crate::search::searched;
 use std::alloc::Global;
 use std::test::Fail;
 
-fn told(alloc: Global, case: &Case) -> Result<String, Fail> {
+const KINDS: [&str; 3] = ["60", "62", "63"];
+
+const WILD_KINDS: [&str; 6] = ["52", "55", "60", "61", "62", "63"];
+
+/// The index of the fault that is told among these, or behind them where none is.
+fn kind_of(told: &str, kinds: &[&str]) -> usize {
+    for index in 0..kinds.len() {
+        if told.starts_with(kinds[index]) {
+            return index;
+        }
+    }
+    kinds.len()
+}
+
+/// The kind of the answer, if it is right.
+fn right_kind(
+    alloc: Global,
+    line: &str,
+    asked: &str,
+    kinds: &[&str],
+) -> Result<Option<usize>, Fail> {
+    if !is_answered_right(alloc, line, asked)? {
+        return Ok(None);
+    }
+    let told = answer(alloc, line, asked)?;
+    Ok(Some(kind_of(told.as_str(), kinds)))
+}
+
+fn kind(alloc: Global, case: &Case) -> Result<Option<usize>, Fail> {
     let line = line_of(alloc, case)?;
     let asked = asked_of(alloc, case)?;
-    answer(alloc, line.as_str(), asked.as_str())
-}
-
-/// What kind of answer it is: a cycle, an undeclared read, an own read or an order.
-fn kind_of(told: &str) -> usize {
-    if told.starts_with("60") {
-        0
-    } else if told.starts_with("62") {
-        1
-    } else if told.starts_with("63") {
-        2
-    } else {
-        3
-    }
-}
-
-/// The kind of the answer, if it is what the search finds.
-fn compared(alloc: Global, case: &Case) -> Result<Option<usize>, Fail> {
-    let told = told(alloc, case)?;
-    let searched = searched(alloc, case)?;
-    if told.as_str() == searched.as_str() {
-        Ok(Some(kind_of(told.as_str())))
-    } else {
-        Ok(None)
-    }
+    right_kind(alloc, line.as_str(), asked.as_str(), &KINDS)
 }
 
 #[test]
-fn answers_are_what_a_search_finds(rt: HostRuntime) -> Result<(), Fail> {
+fn answers_are_right(rt: HostRuntime) -> Result<(), Fail> {
     let mut counts = [0u64; 4];
     for number in 0..2048 {
-        let kind = compared(rt.alloc(), &case_of(number))?;
+        let kind = kind(rt.alloc(), &case_of(number))?;
         assert!(rt; kind.is_some(), "case {number}");
         if let Some(count) = counts.get_mut(kind.unwrap_or(0)) {
             *count = count.saturating_add(1);
@@ -52,16 +55,25 @@ fn answers_are_what_a_search_finds(rt: HostRuntime) -> Result<(), Fail> {
     Ok(())
 }
 
-fn is_right(alloc: Global, case: &Case) -> Result<bool, Fail> {
-    let line = line_of(alloc, case)?;
-    let asked = asked_of(alloc, case)?;
-    is_answered_right(alloc, line.as_str(), asked.as_str())
+fn wild_kind(alloc: Global, case: &Case) -> Result<Option<usize>, Fail> {
+    let line = wild_line_of(alloc, case)?;
+    let asked = wild_asked_of(alloc, case)?;
+    right_kind(alloc, line.as_str(), asked.as_str(), &WILD_KINDS)
 }
 
 #[test]
-fn plans_are_right(rt: HostRuntime) -> Result<(), Fail> {
-    for number in 0..2048 {
-        assert!(rt; is_right(rt.alloc(), &case_of(number))?, "case {number}");
+fn wild_answers_are_right(rt: HostRuntime) -> Result<(), Fail> {
+    let mut counts = [0u64; 7];
+    for number in 0..1024 {
+        let kind = wild_kind(rt.alloc(), &case_of(number))?;
+        assert!(rt; kind.is_some(), "case {number}");
+        if let Some(count) = counts.get_mut(kind.unwrap_or(0)) {
+            *count = count.saturating_add(1);
+        }
+    }
+    // Each kind of fault occurs, and so do plans.
+    for count in counts {
+        assert!(rt; count > 9, "{count} of a kind");
     }
     Ok(())
 }

@@ -13,6 +13,4 @@ mod generated;
 #[cfg(test)]
 mod reading;
 #[cfg(test)]
-mod search;
-#[cfg(test)]
 mod sound_cases;

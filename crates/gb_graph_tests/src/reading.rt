@@ -5,13 +5,13 @@
 //! (`<`), and the files (`=`) and folders (`/`) that it makes. What is asked for is told by words, as
 //! `a b -c`, of which those behind a hyphen are left out.
 use gb_action::output::Form;
+use gb_checked::answer::{is_planned, is_refused};
 use gb_core::name::Name;
 use gb_core::path::TaskPath;
 use gb_core::place::Place;
 use gb_core::tasks::TaskPaths;
 use gb_core::text::{Text, Texts};
 use gb_graph::plan::plan;
-use gb_listed::checking::{all_get_ready, outputs_overlap, reads_output_of, stands_in_order};
 use gb_listed::listed::Listed;
 use gb_listed::recipe::Recipe;
 use gb_plan::plan::{Plan, Planned};
@@ -92,7 +92,7 @@ fn told(
     }
 }
 
-/// Whether the plan of what is asked for, if there is one, is right as a plain check finds it.
+/// Whether what is answered, a plan or a fault, is right as plain checks find it.
 pub fn is_answered_right(alloc: Global, line: &str, asked: &str) -> Result<bool, Fail> {
     let mut tasks = listed(alloc, line)?;
     is_right_for(alloc, &mut tasks, asked)
@@ -111,19 +111,48 @@ fn is_right_without(
 ) -> Result<bool, Fail> {
     let excluded = words(alloc, asked, true)?;
     match planned(alloc, tasks, requested, excluded.as_slice()) {
-        Ok(plan) => Ok(is_right(plan.as_slice())),
-        Err(_) => Ok(true),
+        Ok(plan) => is_plan_right(
+            alloc,
+            tasks,
+            requested,
+            excluded.as_slice(),
+            plan.as_slice(),
+        ),
+        Err(fault) => is_fault_right(alloc, tasks, requested, excluded.as_slice(), &fault),
     }
 }
 
-/// Whether a plan stands in order to its end, its outputs lie apart, and no task reads its own.
-fn is_right(plan: &[Planned]) -> bool {
-    stands_in_order(plan) && all_get_ready(plan) && !outputs_overlap(plan) && !some_own_read(plan)
+/// Whether a fault is that of what is asked for.
+fn is_fault_right(
+    alloc: Global,
+    tasks: &Listed,
+    requested: &[Text],
+    excluded: &[Text],
+    fault: &Fault,
+) -> Result<bool, Fail> {
+    match is_refused(alloc, tasks, requested, excluded, fault) {
+        Ok(is) => Ok(is),
+        Err(other) => {
+            drop(other);
+            Ok(false)
+        }
+    }
 }
 
-fn some_own_read(plan: &[Planned]) -> bool {
-    plan.iter()
-        .any(|planned| reads_output_of(&planned.task, &planned.task))
+fn is_plan_right(
+    alloc: Global,
+    tasks: &Listed,
+    requested: &[Text],
+    excluded: &[Text],
+    plan: &[Planned],
+) -> Result<bool, Fail> {
+    match is_planned(alloc, tasks, requested, excluded, plan) {
+        Ok(is) => Ok(is),
+        Err(fault) => {
+            drop(fault);
+            Ok(false)
+        }
+    }
 }
 
 fn fault_text(alloc: Global, fault: &Fault) -> Result<String, Fail> {

@@ -99,3 +99,7 @@ all_both P Q (x ∷ xs) p q = ((p.0, q.0), all_both P Q xs p.1 q.1)
 pub result_same : {A E : Type 0} (r : Result A E) (a : A) (Q : E → Type 0) → r ≡ Ok a → MatchResult r (λ got. got ≡ a) Q
 result_same (Ok b) a Q e = let same : b ≡ a = cc in same
 result_same (Err e) a Q h = absurd (cc)
+
+pub all_weaker : {X : Type 0} (P Q : X → Type 0) → ((x : X) → P x → Q x) → (xs : List X) → AllByRecursion P xs → AllByRecursion Q xs
+all_weaker P Q f [] all = tt
+all_weaker P Q f (x ∷ xs) all = (f x all.0, all_weaker P Q f xs all.1)

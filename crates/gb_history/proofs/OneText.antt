@@ -1,4 +1,4 @@
--- A text is that of one record at most.
+-- A text is that of one history at most, and of one record.
 use Rattle.std.proofs.Common.{◌≡◌, ℕ, ◌-◌, false, List, [], ◌∷◌, length, take, map, codes, Some, Ok, IsUtf8, refl, sym, ap, ap₂, ◌∙◌, subst, arith, true≢false}
 use Rattle.std.specs.Prelude.{bytes_eq}
 use Rattle.std.specs.List.{AllByRecursion}
@@ -17,10 +17,10 @@ use Rattle.gb_plan.specs.declared.task.Action.{Action}
 use Rattle.gb_history.specs.declared.record.OutputRecord.{OutputRecord}
 use Rattle.gb_history.specs.declared.record.Edition.{Edition}
 use Rattle.gb_history.specs.declared.record.Edition.TheVariants as editions
-use Rattle.gb_history.specs.Remembered.{Prints, Remembered, IsAction, IsPrint, ArePrints, IsOutput, IsRemembered}
-use Rattle.gb_history.specs.Text.{value_json, input_json, action_json, print_json, prints_json, shape_text, output_json, run_json, record_json, edition_number, text_in, FitsEdition, IsActionIn, IsTextOf}
+use Rattle.gb_history.specs.Remembered.{Prints, Remembered, IsAction, IsPrint, ArePrints, IsOutput, IsRemembered, IsSaid, AreHeld}
+use Rattle.gb_history.specs.Text.{value_json, input_json, action_json, print_json, prints_json, shape_text, output_json, run_json, entry_json, history_json, edition_number, history_text_in, FitsEdition, IsActionIn, EntryFits, IsTextOf, IsHistoryText}
 use Rattle.gb_history.proofs.Lists.{IsBytes-all, all_both, items_of_inj}
-use Rattle.gb_history.proofs.Records.{read-record, take-sealed}
+use Rattle.gb_history.proofs.Records.{are_said, read-history, take-sealed}
 
 same₃ : {A B C D : Type 0} (f : A → B → C → D) {a x : A} {b y : B} {c z : C} → a ≡ x → b ≡ y → c ≡ z → f a b c ≡ f x y z
 same₃ f p q r = cc
@@ -179,16 +179,43 @@ run_back edition path a b p q f g e =
 some_back : (a b : Data) → Some a ≡ Some b → a ≡ b
 some_back a b e = cc
 
-text_back : (path : List ℕ) (ea eb : Edition) (a b : Remembered) → text_in ea path a ≡ text_in eb path b → compact_text (record_json ea path a) ≡ compact_text (record_json eb path b)
-unfolding text_in
-text_back path ea eb a b e = sym (take-sealed (compact_text (record_json ea path a))) ∙ ap (λ t. take (length t - 66) t) e ∙ take-sealed (compact_text (record_json eb path b))
+text_back : (ea eb : Edition) (a b : List (List ℕ × Remembered)) → history_text_in ea a ≡ history_text_in eb b
+    → compact_text (history_json ea a) ≡ compact_text (history_json eb b)
+unfolding history_text_in
+text_back ea eb a b e = sym (take-sealed (compact_text (history_json ea a))) ∙ ap (λ t. take (length t - 66) t) e ∙ take-sealed (compact_text (history_json eb b))
+
+-- it can be said, in this edition
+abbrev IsSaidIn : Edition → List ℕ × Remembered → Type 0
+IsSaidIn edition entry = IsSaid entry × EntryFits edition entry
+
+entry_back : (edition : Edition) (a b : List ℕ × Remembered) → IsSaidIn edition a → IsSaidIn edition b → entry_json edition a ≡ entry_json edition b → a ≡ b
+entry_back edition a b p q e =
+    let path : a.0 ≡ b.0 = cc in
+    let runs : run_json edition b.0 a.1 ≡ run_json edition b.0 b.1 = ap (λ x. run_json edition x a.1) (sym path) ∙ e in
+    ap₂ (λ (x : List ℕ) (y : Remembered). (x, y)) path (run_back edition b.0 a.1 b.1 p.0.1 q.0.1 p.1 q.1 runs)
+
+entries_back : (ea eb : Edition) (a b : List (List ℕ × Remembered)) → AllByRecursion IsSaid a → AllByRecursion IsSaid b → AllByRecursion (EntryFits ea) a
+    → AllByRecursion (EntryFits eb) b → history_text_in ea a ≡ history_text_in eb b → a ≡ b
+entries_back ea eb a b p q f g e =
+    let same : history_json ea a ≡ history_json eb b =
+    some_back _ _ (sym (read-history ea a p) ∙ ap read (text_back ea eb a b e) ∙ read-history eb b q) in
+    let numbers : edition_number ea ≡ edition_number eb = cc in
+    let editions_same : ea ≡ eb = edition_back ea eb numbers in
+    let told : items_of (map (entry_json ea) a) ≡ items_of (map (entry_json eb) b) = cc in
+    map_back (entry_json eb) (IsSaidIn eb) (entry_back eb) a b
+    (all_both IsSaid (EntryFits eb) a p (subst (λ x. AllByRecursion (EntryFits x) a) editions_same f)) (all_both IsSaid (EntryFits eb) b q g)
+    (ap (λ x. items_of (map (entry_json x) a)) (sym editions_same) ∙ told)
+
+pub one_history : (a b : List (List ℕ × Remembered)) (text : List ℕ) → AreHeld a → AreHeld b → IsHistoryText a text → IsHistoryText b text → a ≡ b
+one_history a b text p q of on =
+    entries_back of.edition on.edition a b (are_said a p.each) (are_said b q.each) of.fits on.fits (sym of.same ∙ on.same)
+
+-- the first record
+abbrev first_run : Remembered → List (List ℕ × Remembered) → Remembered
+first_run run [] = run
+first_run run (entry ∷ entries) = entry.1
 
 pub one_text : (path : List ℕ) (a b : Remembered) (text : List ℕ) → IsUtf8 path → IsRemembered a → IsRemembered b → IsTextOf path a text → IsTextOf path b text → a ≡ b
 one_text path a b text u p q of on =
-    let same : record_json of.edition path a ≡ record_json on.edition path b =
-    some_back _ _ (sym (read-record of.edition path u a p) ∙ ap read (text_back path of.edition on.edition a b (sym of.same ∙ on.same)) ∙ read-record on.edition path u b q) in
-    let numbers : edition_number of.edition ≡ edition_number on.edition = cc in
-    let editions_same : of.edition ≡ on.edition = edition_back of.edition on.edition numbers in
-    let runs : run_json of.edition path a ≡ run_json on.edition path b = cc in
-    run_back on.edition path a b p q (subst (λ x. AllByRecursion (FitsEdition x) a.actions) editions_same of.fits) on.fits
-    (ap (λ x. run_json x path a) (sym editions_same) ∙ runs)
+    ap (first_run a)
+    (entries_back of.edition on.edition ((path, a) ∷ []) ((path, b) ∷ []) ((u, p), tt) ((u, q), tt) (of.fits, tt) (on.fits, tt) (sym of.same ∙ on.same))

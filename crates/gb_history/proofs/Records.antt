@@ -1,4 +1,4 @@
--- The JSON of a record is ordinary, so its text is UTF-8 and reads back; and where its seal stands.
+-- The JSON of records is ordinary, so its text is UTF-8 and reads back; and where its seal stands.
 use Rattle.std.proofs.Common.{◌≡◌, ℕ, suc, ◌+◌, ◌-◌, ◌<◌, ◌≤◌, List, [], ◌∷◌, ◌++◌, length, take, map, Some, true, nat_lt, zero, ltb-true, IsUtf8, refl, arith, length-append}
 use Rattle.std.specs.List.{AllByRecursion}
 use Rattle.std.specs.Str.{IsAscii}
@@ -22,8 +22,9 @@ use Rattle.gb_plan.specs.declared.task.Action.{Action}
 use Rattle.gb_history.specs.declared.record.Edition.{Edition}
 use Rattle.gb_history.specs.declared.record.Edition.TheVariants as editions
 use Rattle.gb_history.specs.declared.record.OutputRecord.{OutputRecord}
-use Rattle.gb_history.specs.Remembered.{Prints, Remembered, IsArgument, IsInput, IsAction, IsPrint, ArePrints, IsOutput, IsRemembered}
-use Rattle.gb_history.specs.Text.{value_json, input_json, action_json, print_json, prints_json, shape_text, output_json, run_json, edition_number, record_json, sealed}
+use Rattle.gb_history.specs.Remembered.{Prints, Remembered, IsArgument, IsInput, IsAction, IsPrint, ArePrints, IsOutput, IsRemembered, IsSaid, IsEntry}
+use Rattle.gb_history.specs.Text.{value_json, input_json, action_json, print_json, prints_json, shape_text, output_json, run_json, edition_number, entry_json, history_json, sealed}
+use Rattle.gb_history.proofs.Lists.{all_weaker}
 use Rattle.gb_history.proofs.Ordinary.{IsOrdinary, AreOrdinary, read-compact_text, IsUtf8-compact_text}
 
 are_ordinary : {X : Type 0} (f : X → Data) (P : X → Type 0) → ((x : X) → P x → IsOrdinary (f x)) → (xs : List X) → AllByRecursion P xs → AreOrdinary (items_of (map f xs))
@@ -128,9 +129,18 @@ small_number : (edition : Edition) → edition_number edition < 4294967296
 small_number editions.First = omega arith
 small_number editions.Second = omega arith
 
-pub ordinary_record : (edition : Edition) (path : List ℕ) → IsUtf8 path → (run : Remembered) → IsRemembered run → IsOrdinary (record_json edition path run)
-ordinary_record edition path u run h =
-    (refl, (IsUtf8-are_ascii _ refl, small_number edition, (IsUtf8-are_ascii _ refl, (ordinary_run edition path u run h, tt), tt)))
+ordinary_entry : (edition : Edition) (entry : List ℕ × Remembered) → IsSaid entry → IsOrdinary (entry_json edition entry)
+ordinary_entry edition entry h = ordinary_run edition entry.0 h.0 entry.1 h.1
+
+pub ordinary_history : (edition : Edition) (entries : List (List ℕ × Remembered)) → AllByRecursion IsSaid entries → IsOrdinary (history_json edition entries)
+ordinary_history edition entries said = (
+  refl,
+  (
+    IsUtf8-are_ascii _ refl,
+    small_number edition,
+    (IsUtf8-are_ascii _ refl, are_ordinary (entry_json edition) IsSaid (ordinary_entry edition) entries said, tt),
+  ),
+)
 
 depth_value : (v : Value) → depth (value_json v) ≤ 2
 depth_value (values.Text t) = omega arith
@@ -161,16 +171,23 @@ depth_run edition path run = omega (
   shallow input_json 3 depth_input run.values,
 )
 
-depth_record : (edition : Edition) (path : List ℕ) (run : Remembered) → depth (record_json edition path run) ≤ max_depth
-depth_record edition path run = omega (arith, depth_run edition path run)
+depth_history : (edition : Edition) (entries : List (List ℕ × Remembered)) → depth (history_json edition entries) ≤ max_depth
+depth_history edition entries =
+    omega (arith, shallow (entry_json edition) 6 (λ entry. depth_run edition entry.0 entry.1) entries)
 
--- ---- the text of a record
+-- ---- the text of records
 
-pub IsUtf8-record : (edition : Edition) (path : List ℕ) → IsUtf8 path → (run : Remembered) → IsRemembered run → IsUtf8 (compact_text (record_json edition path run))
-IsUtf8-record edition path u run h = IsUtf8-compact_text (record_json edition path run) (ordinary_record edition path u run h)
+pub IsUtf8-history : (edition : Edition) (entries : List (List ℕ × Remembered)) → AllByRecursion IsSaid entries → IsUtf8 (compact_text (history_json edition entries))
+IsUtf8-history edition entries said = IsUtf8-compact_text (history_json edition entries) (ordinary_history edition entries said)
 
-pub read-record : (edition : Edition) (path : List ℕ) → IsUtf8 path → (run : Remembered) → IsRemembered run → read (compact_text (record_json edition path run)) ≡ Some (record_json edition path run)
-read-record edition path u run h = read-compact_text (record_json edition path run) (ordinary_record edition path u run h) (depth_record edition path run)
+pub read-history : (edition : Edition) (entries : List (List ℕ × Remembered)) → AllByRecursion IsSaid entries
+    → read (compact_text (history_json edition entries)) ≡ Some (history_json edition entries)
+read-history edition entries said =
+    read-compact_text (history_json edition entries) (ordinary_history edition entries said) (depth_history edition entries)
+
+-- what a history holds can be said
+pub are_said : (entries : List (List ℕ × Remembered)) → AllByRecursion IsEntry entries → AllByRecursion IsSaid entries
+are_said entries each = all_weaker IsEntry IsSaid (λ entry h. h.1) entries each
 
 length_seal : (json : List ℕ) → length (encode_lower (sha256 json)) ≡ 64
 length_seal json = omega (arith, length-encode_with lower_digits (sha256 json), length-sha256 json)

@@ -69,3 +69,15 @@ pub record IsRemembered (run : Remembered) : Type 0 where
   pub inputs : AllByRecursion ArePrints run.inputs
   pub outputs : AllByRecursion IsOutput run.outputs
   pub in_order : AreInOrder run
+
+-- a path and a record, as far as a text can say them
+abbrev pub IsSaid : List ℕ × Remembered → Type 0
+IsSaid entry = IsUtf8 entry.0 × IsRemembered entry.1
+
+abbrev pub IsEntry : List ℕ × Remembered → Type 0
+IsEntry entry = IsTrue (is_task_path entry.0) × IsSaid entry
+
+-- what a history holds: records of tasks, by strictly rising paths
+pub record AreHeld (entries : List (List ℕ × Remembered)) : Type 0 where
+  pub each : AllByRecursion IsEntry entries
+  pub in_order : IsTrue (is_sorted byte_order entries)

@@ -1,4 +1,4 @@
--- The text of a record: its JSON, a line feed, the digest of the JSON, a line feed.
+-- The text of a history, and of one record: its JSON, a line feed, the digest of the JSON, a line feed.
 use Rattle.std.specs.Prelude.{ℕ, ◌≡◌, ⊤, List, [], ◌∷◌, ◌++◌, map, codes}
 use Rattle.std.specs.List.{AllByRecursion}
 use Rattle.std.specs.Str.{IsUtf8}
@@ -15,7 +15,7 @@ use Rattle.gb_plan.specs.declared.task.Action.{Action}
 use Rattle.gb_history.specs.declared.record.OutputRecord.{OutputRecord}
 use Rattle.gb_history.specs.declared.record.Edition.{Edition}
 use Rattle.gb_history.specs.declared.record.Edition.TheVariants as editions
-use Rattle.gb_history.specs.Remembered.{Remembered, Prints, IsAction, IsRemembered}
+use Rattle.gb_history.specs.Remembered.{Remembered, Prints, IsAction, IsRemembered, IsEntry, AreHeld}
 
 abbrev pub value_json : Value → Data
 value_json (values.Text text) = object (member (codes "text") (string text) no_members)
@@ -85,20 +85,34 @@ abbrev pub edition_number : Edition → ℕ
 edition_number editions.First = 1
 edition_number editions.Second = 2
 
+-- the record of a task
+abbrev pub entry_json : Edition → List ℕ × Remembered → Data
+entry_json edition entry = run_json edition entry.0 entry.1
+
+-- a list of these records
+abbrev pub history_json : Edition → List (List ℕ × Remembered) → Data
+history_json edition entries = object
+    (member (codes "form") (number (unsigned (edition_number edition)))
+    (member (codes "tasks") (array (items_of (map (entry_json edition) entries))) no_members))
+
 -- a list of that record alone
 abbrev pub record_json : Edition → List ℕ → Remembered → Data
-record_json edition path run = object
-    (member (codes "form") (number (unsigned (edition_number edition)))
-    (member (codes "tasks") (array (items_of (run_json edition path run ∷ []))) no_members))
+record_json edition path run = history_json edition ((path, run) ∷ [])
 
 -- a text and its seal
 abbrev pub sealed : List ℕ → List ℕ
 sealed json = json ++ 10 ∷ (encode_lower (sha256 json) ++ 10 ∷ [])
 
-unfoldable pub text_in : Edition → List ℕ → Remembered → List ℕ
-text_in edition path run = sealed (compact_text (record_json edition path run))
+unfoldable pub history_text_in : Edition → List (List ℕ × Remembered) → List ℕ
+history_text_in edition entries = sealed (compact_text (history_json edition entries))
 
--- the text that is written: that of the second edition
+abbrev pub text_in : Edition → List ℕ → Remembered → List ℕ
+text_in edition path run = history_text_in edition ((path, run) ∷ [])
+
+-- the texts that are written: those of the second edition
+abbrev pub history_text : List (List ℕ × Remembered) → List ℕ
+history_text = history_text_in editions.Second
+
 abbrev pub record_text : List ℕ → Remembered → List ℕ
 record_text = text_in editions.Second
 
@@ -110,6 +124,13 @@ FitsEdition editions.Second action = ⊤
 abbrev pub IsActionIn : Edition → Action → Type 0
 IsActionIn edition action = IsAction action × FitsEdition edition action
 
+-- the edition can tell all versions of the record
+abbrev pub EntryFits : Edition → List ℕ × Remembered → Type 0
+EntryFits edition entry = AllByRecursion (FitsEdition edition) entry.1.actions
+
+abbrev pub IsEntryIn : Edition → List ℕ × Remembered → Type 0
+IsEntryIn edition entry = IsEntry entry × EntryFits edition entry
+
 -- The text is that of the record in an edition that can tell its versions.
 pub record IsTextOf (path : List ℕ) (run : Remembered) (text : List ℕ) : Type 0 where
   pub edition : Edition
@@ -120,3 +141,14 @@ abbrev pub TextsSayOneRecord : Type 0
 TextsSayOneRecord =
     (path : List ℕ) (one other : Remembered) (text : List ℕ) → IsUtf8 path → IsRemembered one
     → IsRemembered other → IsTextOf path one text → IsTextOf path other text → one ≡ other
+
+-- The text is that of the records in an edition that can tell their versions.
+pub record IsHistoryText (entries : List (List ℕ × Remembered)) (text : List ℕ) : Type 0 where
+  pub edition : Edition
+  pub fits : AllByRecursion (EntryFits edition) entries
+  pub same : text ≡ history_text_in edition entries
+
+abbrev pub TextsSayOneHistory : Type 0
+TextsSayOneHistory =
+    (one other : List (List ℕ × Remembered)) (text : List ℕ) → AreHeld one → AreHeld other
+    → IsHistoryText one text → IsHistoryText other text → one ≡ other

@@ -1,11 +1,21 @@
 //! What is remembered of each task.
-ghost use Rattle.std.specs.Prelude.{◌≡◌, [], OnOk, OnErr};
+ghost use Rattle.std.specs.Prelude.{◌≡◌, [], List, ℕ, IfOk, MatchResult, OnOk, OnErr};
+ghost use Rattle.std.specs.List.{AllByRecursion};
 ghost use Rattle.std.specs.Option.{option_copied};
 ghost use Rattle.std.specs.BTreeMap.{insert_entry, is_at};
 ghost use Rattle.std.specs.Map.{lookup, remove_entry};
+ghost use Rattle.serde_json.specs.Written.{compact_text};
 ghost use Rattle.gb_core.specs.Lists.{byte_order};
+ghost use Rattle.gb_history.specs.Remembered.{Remembered, AreHeld};
+ghost use Rattle.gb_history.specs.Text.{history_json, history_text_in, history_text, EntryFits, IsHistoryText};
+ghost use Rattle.gb_history.specs.declared.record.Edition.{Edition as Written};
+ghost use Rattle.gb_history.specs.declared.fault.RecordFault.TheVariants.{OutOfMemory};
 
-use crate::record::Record;
+use crate::fault::RecordFault;
+use crate::reading::history_from;
+use crate::record::{Edition, Record};
+use crate::text::{before_seal, is_same, json_in, sealed_json};
+use crate::writing::history_json;
 use gb_core::path::TaskPath;
 use std::alloc::{AllocError, Global};
 use std::collections::BTreeMap;
@@ -58,4 +68,61 @@ impl History {
     {
         self.records.remove(task);
     }
+
+    /// All records, by the paths of their tasks.
+    pub fn text(&self, alloc: Global) -> Result<Vec<u8>, AllocError>
+        ensures text { IfOk result (λ text. text.items ≡ history_text self.now) }
+        ensures held { OnOk result (AreHeld self.now) }
+    {
+        self.text_in(alloc, Edition::Second)
+    }
+
+    fn text_in(&self, alloc: Global, edition: Edition) -> Result<Vec<u8>, AllocError>
+        ensures text { IfOk result (λ text. text.items ≡ history_text_in edition self.now) }
+        ensures held { OnOk result (AreHeld self.now) }
+    {
+        let json = history_json(alloc, edition, &self.records)?;
+        sealed_json(alloc, &json)
+    }
+
+    /// The history that has this text, in either edition; any other text is 80.
+    pub fn read(alloc: Global, bytes: &[u8]) -> Result<History, RecordFault>
+        // What is read has the text.
+        ensures exact { IfOk result (λ history. IsHistoryText history bytes.now) }
+        ensures held { IfOk result AreHeld }
+        // The text of a history is read as that history.
+        ensures back { (entries : List (List ℕ × Remembered)) → AreHeld entries
+            → IsHistoryText entries bytes.now
+            → MatchResult result (λ got. got ≡ entries) (λ e. e ≡ OutOfMemory) }
+    {
+        let Some(json) = before_seal(bytes) else {
+            return Err(RecordFault::NotARecord);
+        };
+        let (edition, found) = parsed(alloc, json)?;
+        let text = found.text_in(alloc, edition)?;
+        if !is_same(text.as_slice(), bytes) {
+            return Err(RecordFault::NotARecord);
+        }
+        Ok(found)
+    }
+
+    /// A history that went through its text is the same history.
+    pub fn through_text(&self, alloc: Global) -> Result<History, RecordFault>
+        ensures { MatchResult result (λ got. got ≡ self.now) (λ e. e ≡ OutOfMemory) }
+    {
+        let text = self.text(alloc)?;
+        History::read(alloc, text.as_slice())
+    }
+}
+
+/// The edition and the history that a JSON text says.
+fn parsed(alloc: Global, json: &[u8]) -> Result<(Edition, History), RecordFault>
+    ensures read { (edition : Written) (entries : List (List ℕ × Remembered)) → AreHeld entries
+        → AllByRecursion (EntryFits edition) entries → json.now ≡ compact_text (history_json edition entries)
+        → MatchResult result (λ got. (got.0 ≡ edition) × (got.1 ≡ entries)) (λ e. e ≡ OutOfMemory) }
+    ensures fits { IfOk result (λ got. AllByRecursion (EntryFits got.0) got.1) }
+{
+    let said = json_in(alloc, json)?;
+    let found = history_from(alloc, said.0, &said.1)?;
+    Ok((said.0, found))
 }

@@ -2,6 +2,8 @@
 ghost use Rattle.std.specs.Prelude.{codes, ◌≡◌, ◌<◌, ◌∷◌, [], List, ℕ, Ok, Some, map, length, IsTrue, IfOk, MatchResult, IsSomeAnd};
 ghost use Rattle.std.specs.List.{AllByRecursion};
 ghost use Rattle.std.specs.Str.{IsUtf8};
+ghost use Rattle.std.specs.FinMap.Entries.{is_sorted};
+ghost use Rattle.gb_core.specs.Lists.{byte_order};
 ghost use Rattle.gb_core.specs.Name.{is_name};
 ghost use Rattle.gb_core.specs.Path.{is_task_path};
 ghost use Rattle.gb_core.specs.Place.{is_place, is_rel_path};
@@ -14,12 +16,13 @@ ghost use Rattle.serde_json.specs.Find.{get};
 ghost use Rattle.serde_json.specs.Read.{read};
 ghost use Rattle.serde_json.specs.View.{view, items_of};
 ghost use Rattle.gb_history.specs.Remembered.{Remembered, Prints as Printed, IsName, IsArgument, IsInput, IsAction, IsPrint, ArePrints, IsOutput, AreInOrder, IsRemembered};
-ghost use Rattle.gb_history.specs.Text.{value_json, input_json, action_json, print_json, prints_json, output_json, shape_text, run_json, record_json, FitsEdition, IsActionIn};
+ghost use Rattle.gb_history.specs.Text.{value_json, input_json, action_json, print_json, prints_json, output_json, shape_text, run_json, record_json, entry_json, history_json, FitsEdition, IsActionIn, EntryFits, IsEntryIn};
 ghost use Rattle.gb_history.specs.declared.record.Edition.{Edition as Written};
 ghost use Rattle.gb_history.specs.declared.record.OutputRecord.{OutputRecord as Output};
 ghost use Rattle.gb_history.specs.declared.fault.RecordFault.TheVariants.{OutOfMemory};
 
 use crate::fault::RecordFault;
+use crate::history::History;
 use crate::order::{digests_rise, inputs_rise, outputs_rise, values_rise};
 use crate::record::{Edition, OutputRecord, Record};
 use gb_action::output::Form;
@@ -437,7 +440,8 @@ fn only_of(json: &Json) -> Option<&Json>
 
 /// The edition that a JSON value says it is written in.
 pub fn edition_from(json: &Json) -> Option<Edition>
-    ensures { (edition : Written) (path : List ℕ) (run : Remembered) → view json.now ≡ record_json edition path run
+    ensures { (edition : Written) (entries : List (List ℕ × Remembered))
+        → view json.now ≡ history_json edition entries
         → result ≡ Some edition }
 {
     match json.get("form")?.as_u64()? {
@@ -461,4 +465,58 @@ pub fn record_from(alloc: Global, edition: Edition, json: &Json) -> Result<Recor
         return Err(RecordFault::NotARecord);
     };
     run_from(alloc, edition, run)
+}
+
+fn task_at(alloc: Global, json: &Json) -> Result<TaskPath, RecordFault>
+    ensures { (task : List ℕ) → IsTrue (is_task_path task)
+        → get (codes "task") (view json.now) ≡ Some (string task)
+        → MatchResult result (λ path. path ≡ task) (λ e. e ≡ OutOfMemory) }
+{
+    let Some(text) = text_at(json, "task") else {
+        return Err(RecordFault::NotARecord);
+    };
+    task_from(alloc, text)
+}
+
+/// A task and its record.
+fn entry_from(
+    alloc: Global,
+    edition: Edition,
+    json: &Json,
+) -> Result<(TaskPath, Record), RecordFault>
+    ensures read { (entry : List ℕ × Remembered) → IsEntryIn edition entry
+        → view json.now ≡ entry_json edition entry
+        → MatchResult result (λ got. got ≡ entry) (λ e. e ≡ OutOfMemory) }
+    ensures fits { IfOk result (EntryFits edition) }
+{
+    let path = task_at(alloc, json)?;
+    Ok((path, run_from(alloc, edition, json)?))
+}
+
+/// The records in a list, by the paths of their tasks: of a path that stands twice the last.
+fn entries_from(alloc: Global, edition: Edition, items: &[Json]) -> Result<History, RecordFault>
+    ensures read { (entries : List (List ℕ × Remembered)) → AllByRecursion (IsEntryIn edition) entries
+        → IsTrue (is_sorted byte_order entries) → map view items.now ≡ map (entry_json edition) entries
+        → MatchResult result (λ got. got ≡ entries) (λ e. e ≡ OutOfMemory) }
+    ensures fits { IfOk result (AllByRecursion (EntryFits edition)) }
+{
+    let mut history = History::new(alloc);
+    for item in items {
+        let entry = entry_from(alloc, edition, item)?;
+        history.put(entry.0, entry.1)?;
+    }
+    Ok(history)
+}
+
+/// The records of a list of any length.
+pub fn history_from(alloc: Global, edition: Edition, json: &Json) -> Result<History, RecordFault>
+    ensures read { (entries : List (List ℕ × Remembered)) → AllByRecursion (IsEntryIn edition) entries
+        → IsTrue (is_sorted byte_order entries) → view json.now ≡ history_json edition entries
+        → MatchResult result (λ got. got ≡ entries) (λ e. e ≡ OutOfMemory) }
+    ensures fits { IfOk result (AllByRecursion (EntryFits edition)) }
+{
+    let Some(items) = list_at(json, "tasks") else {
+        return Err(RecordFault::NotARecord);
+    };
+    entries_from(alloc, edition, items.as_slice())
 }

@@ -1,10 +1,11 @@
-//! The text of a record, and the record that has a text.
+//! The text of a record, and the record that has a text; and what this shares with a whole history.
 ghost use Rattle.std.specs.Prelude.{◌≡◌, List, ℕ, IfOk, OnOk, IsTrue, IsSomeAnd, MatchResult, ◌↔◌};
 ghost use Rattle.std.specs.List.{AllByRecursion};
 ghost use Rattle.std.specs.Str.{IsUtf8};
+ghost use Rattle.serde_json.specs.View.{view};
 ghost use Rattle.serde_json.specs.Written.{compact_text};
-ghost use Rattle.gb_history.specs.Remembered.{Remembered, IsRemembered};
-ghost use Rattle.gb_history.specs.Text.{record_json, record_text, text_in, sealed, FitsEdition, IsTextOf, TextsSayOneRecord};
+ghost use Rattle.gb_history.specs.Remembered.{Remembered, IsRemembered, IsSaid};
+ghost use Rattle.gb_history.specs.Text.{history_json, record_json, record_text, text_in, history_text_in, sealed, FitsEdition, IsTextOf, TextsSayOneRecord, TextsSayOneHistory};
 ghost use Rattle.gb_history.specs.declared.record.Edition.{Edition as Written};
 ghost use Rattle.gb_history.specs.declared.fault.RecordFault.TheVariants.{OutOfMemory};
 
@@ -13,6 +14,7 @@ use crate::reading::{edition_from, json_from, record_from};
 use crate::record::{Edition, Record};
 use crate::writing::record_json;
 use gb_core::path::TaskPath;
+use serde_json::Value as Json;
 use sha2::{Digest, Sha256};
 use std::alloc::{AllocError, Global};
 
@@ -29,6 +31,15 @@ fn sealed_text(alloc: Global, json: &[u8]) -> Result<Vec<u8>, AllocError>
     Ok(text)
 }
 
+/// The sealed text of records as JSON.
+pub fn sealed_json(alloc: Global, json: &Json) -> Result<Vec<u8>, AllocError>
+    ensures { (edition : Written) (entries : List (List ℕ × Remembered)) → AllByRecursion IsSaid entries
+        → view json.now ≡ history_json edition entries
+        → IfOk result (λ text. text.items ≡ history_text_in edition entries) }
+{
+    sealed_text(alloc, json.to_vec(alloc)?.as_slice())
+}
+
 /// The text of the record of a task in an edition.
 fn text_in(
     alloc: Global,
@@ -41,7 +52,7 @@ fn text_in(
     ensures utf8 { OnOk result (IsUtf8 path.now) }
 {
     let json = record_json(alloc, edition, path, run)?;
-    sealed_text(alloc, json.to_vec(alloc)?.as_slice())
+    sealed_json(alloc, &json)
 }
 
 /// The text of the record of a task.
@@ -53,20 +64,34 @@ pub fn record_text(alloc: Global, path: &TaskPath, run: &Record) -> Result<Vec<u
     text_in(alloc, Edition::Second, path, run)
 }
 
-fn is_same(left: &[u8], right: &[u8]) -> bool
+pub fn is_same(left: &[u8], right: &[u8]) -> bool
     ensures { IsTrue result ↔ (left.now ≡ right.now) }
 {
     left == right
 }
 
 /// The bytes before the seal, where there is room for one.
-fn before_seal(bytes: &[u8]) -> Option<&[u8]>
+pub fn before_seal(bytes: &[u8]) -> Option<&[u8]>
     ensures { (json : List ℕ) → bytes.now ≡ sealed json → IsSomeAnd result (λ text. text.now ≡ json) }
 {
     if bytes.len() < 66 {
         return None;
     }
     Some(&bytes[..bytes.len() - 66])
+}
+
+/// A JSON text, and the edition that it says it is written in.
+pub fn json_in(alloc: Global, json: &[u8]) -> Result<(Edition, Json), RecordFault>
+    ensures { (edition : Written) (entries : List (List ℕ × Remembered)) → AllByRecursion IsSaid entries
+        → json.now ≡ compact_text (history_json edition entries)
+        → MatchResult result (λ got. (got.0 ≡ edition) × (view got.1 ≡ history_json edition entries))
+        (λ e. e ≡ OutOfMemory) }
+{
+    let json = json_from(alloc, json)?;
+    let Some(edition) = edition_from(&json) else {
+        return Err(RecordFault::NotARecord);
+    };
+    Ok((edition, json))
 }
 
 /// The edition and the record that a JSON text says.
@@ -76,12 +101,9 @@ fn parsed(alloc: Global, json: &[u8]) -> Result<(Edition, Record), RecordFault>
         → MatchResult result (λ got. (got.0 ≡ edition) × (got.1 ≡ run)) (λ e. e ≡ OutOfMemory) }
     ensures fits { IfOk result (λ got. AllByRecursion (FitsEdition got.0) got.1.actions) }
 {
-    let json = json_from(alloc, json)?;
-    let Some(edition) = edition_from(&json) else {
-        return Err(RecordFault::NotARecord);
-    };
-    let found = record_from(alloc, edition, &json)?;
-    Ok((edition, found))
+    let said = json_in(alloc, json)?;
+    let found = record_from(alloc, said.0, &said.1)?;
+    Ok((said.0, found))
 }
 
 /// The record of a task that has this text, in either edition; any other text is 80.
@@ -116,4 +138,9 @@ pub fn through_text(alloc: Global, path: &TaskPath, run: &Record) -> Result<Reco
 /// A text is that of one record of a task at most.
 pub fn texts_say_one_record()
     ensures { TextsSayOneRecord }
+{}
+
+/// A text is that of one history at most.
+pub fn texts_say_one_history()
+    ensures { TextsSayOneHistory }
 {}

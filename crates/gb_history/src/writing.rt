@@ -1,11 +1,12 @@
 //! Records as JSON.
-ghost use Rattle.std.specs.Prelude.{◌≡◌, List, ℕ, map, IfOk, OnOk};
+ghost use Rattle.std.specs.Prelude.{◌≡◌, List, ℕ, map, IfOk, IsTrue, OnOk};
 ghost use Rattle.std.specs.List.{AllByRecursion};
 ghost use Rattle.std.specs.Str.{IsUtf8};
+ghost use Rattle.gb_core.specs.Path.{is_task_path};
 ghost use Rattle.serde_json.specs.Data.{string, array};
 ghost use Rattle.serde_json.specs.View.{view, items_of};
-ghost use Rattle.gb_history.specs.Remembered.{IsArgument, IsInput, IsAction, IsPrint, ArePrints, IsOutput, IsRemembered};
-ghost use Rattle.gb_history.specs.Text.{value_json, input_json, action_json, print_json, prints_json, output_json, shape_text, plain_object, versioned_object, run_object, run_json, edition_number, record_json};
+ghost use Rattle.gb_history.specs.Remembered.{IsArgument, IsInput, IsAction, IsPrint, ArePrints, IsOutput, IsRemembered, AreHeld};
+ghost use Rattle.gb_history.specs.Text.{value_json, input_json, action_json, print_json, prints_json, output_json, shape_text, plain_object, versioned_object, run_object, run_json, edition_number, record_json, entry_json, history_json};
 
 use crate::record::{Edition, OutputRecord, Record};
 use gb_action::output::Form;
@@ -18,6 +19,7 @@ use gb_plan::task::Action;
 use gb_tree::prints::Prints;
 use serde_json::{Value as Json, json};
 use std::alloc::{AllocError, Global};
+use std::collections::BTreeMap;
 
 fn texts_list(alloc: Global, texts: &[Text]) -> Result<Json, AllocError>
     ensures json { IfOk result (λ v. view v ≡ array (items_of (map string texts.now))) }
@@ -207,6 +209,7 @@ fn run_json(
     ensures json { IfOk result (λ v. view v ≡ run_json edition path.now run.now) }
     ensures held { OnOk result (IsRemembered run.now) }
     ensures utf8 { OnOk result (IsUtf8 path.now) }
+    ensures task { OnOk result (IsTrue (is_task_path path.now)) }
 {
     let path = path.as_str();
     let actions = actions_list(alloc, edition, run.actions())?;
@@ -226,7 +229,7 @@ fn edition_number(edition: Edition) -> u64
     }
 }
 
-/// The record as JSON.
+/// The record as JSON, in a list of one.
 pub fn record_json(
     alloc: Global,
     edition: Edition,
@@ -240,4 +243,35 @@ pub fn record_json(
     let run = run_json(alloc, edition, path, run)?;
     let form = edition_number(edition);
     json!(in alloc; {"form": form, "tasks": [run]})
+}
+
+/// Records in the order of the paths of their tasks.
+fn entries_list(
+    alloc: Global,
+    edition: Edition,
+    records: &BTreeMap<TaskPath, Record>,
+) -> Result<Json, AllocError>
+    ensures json { IfOk result
+        (λ v. view v ≡ array (items_of (map (entry_json edition) records.now.entries))) }
+    ensures held { OnOk result (AreHeld records.now.entries) }
+{
+    let mut items = Vec::new(alloc);
+    for (path, run) in records.iter() {
+        items.push(run_json(alloc, edition, path, run)?)?;
+    }
+    Ok(Json::Array(items))
+}
+
+/// All records as JSON.
+pub fn history_json(
+    alloc: Global,
+    edition: Edition,
+    records: &BTreeMap<TaskPath, Record>,
+) -> Result<Json, AllocError>
+    ensures json { IfOk result (λ v. view v ≡ history_json edition records.now.entries) }
+    ensures held { OnOk result (AreHeld records.now.entries) }
+{
+    let tasks = entries_list(alloc, edition, records)?;
+    let form = edition_number(edition);
+    json!(in alloc; {"form": form, "tasks": tasks})
 }

@@ -4,4 +4,8 @@
 #[cfg(test)]
 mod deciding;
 #[cfg(test)]
+mod histories;
+#[cfg(test)]
+mod sample;
+#[cfg(test)]
 mod tests;

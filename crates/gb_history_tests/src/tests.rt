@@ -1,17 +1,8 @@
 //! The text of a worked record, and texts of no record.
-use gb_action::output::Form;
-use gb_action::values::{Arguments, NamedValues};
-use gb_core::name::Name;
+use crate::sample::{task, worked};
 use gb_core::path::TaskPath;
-use gb_core::place::{Place, RelPath};
-use gb_core::text::Text;
-use gb_core::value::Value;
 use gb_history::fault::RecordFault;
-use gb_history::record::{OutputRecord, Record};
 use gb_history::text::{read_record, record_text};
-use gb_plan::task::Action;
-use gb_tree::prints::Prints;
-use sha2::{Digest, Sha256};
 use std::alloc::Global;
 use std::test::Fail;
 
@@ -26,41 +17,6 @@ const STORED_FIRST: &str =
     r#"{"form":1,"tasks":[{"actions":[{"args":[{"text":"abc"}],"kind":"writeText"}],"files":[],"outputs":[{"name":"out","place":"build/a.txt","prints":[["","ba7816bf8f01cfea414140de5dae2223b00361a396177a9cb410ff61f20015ad"]],"shape":"file"}],"task":":gen","values":[]}]}
 d075510cbf1b60d97c23d1462bc14617e7d32f2285ef1b385b1956761cf96c72
 "#;
-
-fn name(alloc: Global, text: &str) -> Result<Name, Fail> {
-    Name::read(alloc, text).map_err(|_| Fail::from("a name"))
-}
-
-fn task(alloc: Global, text: &str) -> Result<TaskPath, Fail> {
-    TaskPath::read(alloc, text).map_err(|_| Fail::from("a path"))
-}
-
-fn written(alloc: Global) -> Result<Action, Fail> {
-    let mut args = Arguments::new(alloc);
-    args.push(Value::Text(Text::from_str(alloc, "abc")?))?;
-    Ok(Action {
-        kind: name(alloc, "writeText")?,
-        version: 1,
-        args,
-    })
-}
-
-fn output(alloc: Global) -> Result<OutputRecord, Fail> {
-    let path = RelPath::read(alloc, "").map_err(|_| Fail::from("a path"))?;
-    let place = Place::read(alloc, "build/a.txt").map_err(|_| Fail::from("a place"))?;
-    let digests = vec![in alloc; (path, Sha256::digest("abc"))]?;
-    Ok(OutputRecord {
-        form: Form::File,
-        place,
-        prints: Prints::new(name(alloc, "out")?, digests),
-    })
-}
-
-fn worked(alloc: Global) -> Result<Record, Fail> {
-    let actions = vec![in alloc; written(alloc)?]?;
-    let outputs = vec![in alloc; output(alloc)?]?;
-    Ok(Record::new(actions, NamedValues::new(alloc), Vec::new(alloc), outputs))
-}
 
 fn is_written(alloc: Global) -> Result<bool, Fail> {
     let text = record_text(alloc, &task(alloc, ":gen")?, &worked(alloc)?)?;

@@ -1,4 +1,4 @@
-mod Cases
+pub mod Cases
 mod Growth
 mod Names
 mod Sources

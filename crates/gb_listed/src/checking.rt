@@ -21,7 +21,7 @@ fn has_path(paths: &TaskPaths, path: &TaskPath) -> bool
 }
 
 /// Whether a task of the plan has the path.
-fn is_scheduled(plan: &[Planned], path: &TaskPath) -> bool
+pub fn is_scheduled(plan: &[Planned], path: &TaskPath) -> bool
     ensures { result ≡ is_scheduled_in plan.now path.now }
 {
     plan.iter().any(|planned| *path == planned.task.path)
@@ -47,7 +47,7 @@ fn finalized_stand(plan: &[Planned], standing: &[Planned], path: &TaskPath) -> b
 }
 
 /// Whether all that a task comes after stands.
-fn is_ready(plan: &[Planned], standing: &[Planned], task: &TaskDeclaration) -> bool
+pub fn is_ready(plan: &[Planned], standing: &[Planned], task: &TaskDeclaration) -> bool
     ensures { result ≡ is_ready plan.now (order standing.now) task.now }
 {
     let needs = scheduled_stand(plan, standing, &task.needs);
@@ -57,7 +57,7 @@ fn is_ready(plan: &[Planned], standing: &[Planned], task: &TaskDeclaration) -> b
 }
 
 /// Whether a task comes first of two that are ready.
-fn precedes(a: &Planned, b: &Planned) -> bool
+pub fn precedes(a: &Planned, b: &Planned) -> bool
     ensures { result ≡ precedes a.now b.now }
 {
     a.word < b.word || (a.word == b.word && a.task.path.cmp(&b.task.path) == Ordering::Less)

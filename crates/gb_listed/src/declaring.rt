@@ -13,6 +13,7 @@ use gb_core::tasks::TaskPaths;
 use gb_plan::task::TaskDeclaration;
 use gb_report::fault::Fault;
 use std::alloc::{AllocError, Global};
+use std::collections::BTreeMap;
 
 /// The declaration of a recipe. Refused where it is not in order (55).
 pub fn realised(
@@ -33,9 +34,10 @@ pub fn realised(
     }
 }
 
-fn is_in_order(
+/// Whether what a recipe brings is listed, and its outputs lie where they may.
+pub fn is_in_order(
     alloc: Global,
-    recipes: &Recipes,
+    recipes: &BTreeMap<TaskPath, Recipe>,
     path: &TaskPath,
     recipe: &Recipe,
 ) -> Result<bool, AllocError>

@@ -2,7 +2,7 @@
 #![tactic(auto)]
 
 pub mod checking;
-mod declaring;
+pub mod declaring;
 mod folder;
 pub mod listed;
 pub mod recipe;

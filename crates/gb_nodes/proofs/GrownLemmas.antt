@@ -1,9 +1,10 @@
 -- What is made for an expression of the scripts stands in the whole table.
-use Rattle.std.proofs.Common.{◌≡◌, ℕ, ◌<◌, ◌≤◌, true, List, [], ◌∷◌, ◌++◌, length, map, refl, sym, ap, subst, ◌∙◌, arith, append_assoc, length-append}
+use Rattle.std.proofs.Common.{◌≡◌, ℕ, zero, suc, ◌<◌, ◌≤◌, true, false, List, [], ◌∷◌, ◌++◌, length, map, refl, sym, ap, subst, ◌∙◌, arith, append_assoc, length-append}
 use Rattle.std.proofs.lemmas.List.{append-nil}
 use Rattle.std.proofs.lemmas.List.Elements.{All-from_recursion}
-use Rattle.std.proofs.lemmas.Bool.{lt-ltb, le-ltb}
-use Rattle.std.specs.Prelude.{Option, Some, None, slice_get, if◌then◌else◌, reverse}
+use Rattle.std.proofs.lemmas.Bool.{lt-ltb, le-ltb, ltb-true, ltb-false}
+use Rattle.std.proofs.lemmas.Option.{slice_get_within}
+use Rattle.std.specs.Prelude.{Option, Some, None, slice_get, nat_lt, if◌then◌else◌, reverse}
 use Rattle.std.specs.List.{AllByRecursion, flat_map}
 use Rattle.std.specs.FinMap.Entries.{find}
 use Rattle.gb_core.specs.Lists.{byte_order}
@@ -15,7 +16,6 @@ use Rattle.gb_provider.specs.declared.expression.Expression.{Expression}
 use Rattle.gb_provider.specs.declared.expression.Expression.TheVariants.{Constant, OfProperty, OfOutput, Listed, Mapped, FlatMapped, Zipped, OrElse}
 use Rattle.gb_provider.specs.declared.expression.Node.{Node}
 use Rattle.gb_provider.specs.declared.fault.Chosen.{Chosen}
-use Rattle.gb_provider.specs.Indexed.{IsNoOutput}
 use Rattle.gb_registry.specs.Projects.{Path}
 use Rattle.gb_registry.specs.Source.{Source}
 use Rattle.gb_registry.specs.Tables.{Tables}
@@ -23,42 +23,75 @@ use Rattle.gb_registry.specs.Wrong.{found_in, found_at, found_in_all, found_alon
 use Rattle.gb_script.specs.Tree.{Tree, Chain, Root, TextOf, FlagOf, ListOf, PropertyOf, DirOf, FileOf, TheBuildDir, GradlePropertyOf, TaskOf, Link, MapBy, FlatMapBy, ZipBy, Else, Trees, NoTree, AndTree, trees_of, Links, NoLink, AndLink}
 use Rattle.gb_script.specs.declared.function.Function.{Function}
 use Rattle.gb_report.specs.declared.fault.Fault.{Fault}
+use Rattle.gb_project.specs.Circles.{is_named}
 use Rattle.gb_project.specs.Growing.{extended}
 use Rattle.gb_project.specs.Partly.{IsPartOf, renamed}
 use Rattle.gb_project.specs.Spots.{Spot, Written, spot_of, parts, root_parts, trees_parts, links_parts, link_parts, onto}
 use Rattle.gb_project.specs.Whole.{number_of, numbers_of, given_value, if_found}
 use Rattle.gb_project.proofs.GrowLemmas.{part_grows}
 use Rattle.gb_nodes.specs.Site.{Site, property_node}
-use Rattle.gb_nodes.specs.Grown.{Stands, IsRight, IsGrown, IsRowGrown, TreesGrow, RowsGrow}
+use Rattle.gb_nodes.specs.Grown.{IsPlain, Stands, IsRight, IsGrown, IsRowGrown, TreesGrow, RowsGrow}
 use Rattle.gb_nodes.specs.Nodes.{Made, added, as_text, constant_of, number_in, zip_made, else_made, tree_made, root_made, trees_made, links_made, link_made, behind}
 use Rattle.gb_nodes.specs.Wrong.{root_faults, link_faults, known_faults}
 
-nil_front : {X : Type 0} (xs ys : List X) → xs ++ ys ≡ [] → xs ≡ []
+pub nil_front : {X : Type 0} (xs ys : List X) → xs ++ ys ≡ [] → xs ≡ []
 nil_front [] ys e = refl
 nil_front (x ∷ xs) ys e = absurd (cc)
 
-nil_back : {X : Type 0} (xs ys : List X) → xs ++ ys ≡ [] → ys ≡ []
+pub nil_back : {X : Type 0} (xs ys : List X) → xs ++ ys ≡ [] → ys ≡ []
 nil_back [] ys e = e
 nil_back (x ∷ xs) ys e = absurd (cc)
 
-all_front : {X : Type 0} (P : X → Type 0) (xs ys : List X) → AllByRecursion P (xs ++ ys) → AllByRecursion P xs
+pub all_front : {X : Type 0} (P : X → Type 0) (xs ys : List X) → AllByRecursion P (xs ++ ys) → AllByRecursion P xs
 all_front P [] ys all = tt
 all_front P (x ∷ xs) ys all = (all.0, all_front P xs ys all.1)
 
-all_back : {X : Type 0} (P : X → Type 0) (xs ys : List X) → AllByRecursion P (xs ++ ys) → AllByRecursion P ys
+pub all_back : {X : Type 0} (P : X → Type 0) (xs ys : List X) → AllByRecursion P (xs ++ ys) → AllByRecursion P ys
 all_back P [] ys all = all
 all_back P (x ∷ xs) ys all = all_back P xs ys all.1
 
 module _ {M F Z : Type 0} where
-  no_output : (e : Expression M F Z) (chosen : Chosen) → IsNoOutput e → is_output chosen e ≡ true → ⊥
+  no_output : (e : Expression M F Z) (chosen : Chosen) → is_named (Some e) ≡ false → is_output chosen e ≡ true → ⊥
   no_output (Constant value) chosen plain is = absurd (cc)
   no_output (OfProperty property) chosen plain is = absurd (cc)
-  no_output (OfOutput output) chosen plain is = plain
+  no_output (OfOutput output) chosen plain is = absurd (cc)
   no_output (Listed operands) chosen plain is = absurd (cc)
   no_output (Mapped from call) chosen plain is = absurd (cc)
   no_output (FlatMapped from call) chosen plain is = absurd (cc)
   no_output (Zipped left right call) chosen plain is = absurd (cc)
   no_output (OrElse left right) chosen plain is = absurd (cc)
+
+  -- ---- Expressions behind others
+
+  pub at_front : (xs ys : List (Expression M F Z)) (i : ℕ) → i < length xs → slice_get (xs ++ ys) i ≡ slice_get xs i
+  at_front [] ys i below = absurd (omega (arith, below))
+  at_front (x ∷ xs) ys zero below = refl
+  at_front (x ∷ xs) ys (suc i) below = at_front xs ys i (omega (arith, below))
+
+  pub at_last : (xs : List (Expression M F Z)) (y z : Expression M F Z) (i : ℕ) → length xs ≤ i → slice_get (xs ++ y ∷ []) i ≡ Some z → (i ≡ length xs) × (y ≡ z)
+  at_last [] y z zero past is = let same : y ≡ z = cc in (refl, same)
+  at_last [] y z (suc i) past is = absurd (cc)
+  at_last (x ∷ xs) y z zero past is = absurd (omega (arith, past))
+  at_last (x ∷ xs) y z (suc i) past is = let more = at_last xs y z i (omega (arith, past)) is in let at = more.0 in (omega (arith, at), more.1)
+
+  -- those from one number on have no names, and come after their operands
+  abbrev pub ArePlain : ℕ → List (Expression M F Z) → Type 0
+  ArePlain n nodes = (x : ℕ) (e : Expression M F Z) → n ≤ x → slice_get nodes x ≡ Some e → IsPlain x e
+
+  none_plain : (nodes : List (Expression M F Z)) → ArePlain (length nodes) nodes
+  none_plain nodes x e past is = let below = slice_get_within nodes x e is in absurd (omega (arith, past, below))
+
+  one_plain : (nodes : List (Expression M F Z)) (e : Expression M F Z) → is_named (Some e) ≡ false → OperandsWithin (length nodes) e → ArePlain (length nodes) (nodes ++ e ∷ [])
+  one_plain nodes e unnamed within x y past is =
+      let last = at_last nodes e y x past is in
+      subst (λ n. IsPlain n y) (sym last.0) (subst (IsPlain (length nodes)) last.1 (unnamed, within))
+
+  plain_on : (n : ℕ) (more most : List (Expression M F Z)) → (rest : List (Expression M F Z)) × (most ≡ more ++ rest) → ArePlain n more → ArePlain (length more) most → ArePlain n most
+  plain_on n more most front first second x e past is =
+      elim (nat_lt x (length more)) as (λ b. nat_lt x (length more) ≡ b → IsPlain x e) [
+        | true ↦ λ here. first x e past (sym (ap (λ nodes. slice_get nodes x) front.1 ∙ at_front more front.0 x (ltb-true x (length more) here)) ∙ is)
+        | false ↦ λ there. second x e (ltb-false x (length more) there) is
+      ] refl
 
   -- ---- A step whose function is found or not
 
@@ -67,9 +100,9 @@ module _ {M F Z : Type 0} where
     found_within n all f (Some x) = all (record { name = f.name; function = x; arguments = f.arguments })
     found_within n all f None = tt
 
-    found_plain : ((c : Called X) → IsNoOutput (step c)) → (f : Function) (o : Option X) → IsNoOutput (if_found step f o)
+    found_plain : ((c : Called X) → is_named (Some (step c)) ≡ false) → (f : Function) (o : Option X) → is_named (Some (if_found step f o)) ≡ false
     found_plain all f (Some x) = all (record { name = f.name; function = x; arguments = f.arguments })
-    found_plain all f None = tt
+    found_plain all f None = refl
 
     found_renamed : (number : ℕ → ℕ) (other : Called X → Expression M F Z) → ((c : Called X) → renamed number (step c) ≡ other c)
         → (f : Function) (o : Option X) → renamed number (if_found step f o) ≡ if_found other f o
@@ -97,16 +130,35 @@ map_last number (i ∷ row) last = ap (λ ks. number i ∷ ks) (map_last number 
 -- ---- Growing
 
 module _ {M F Z : Type 0} (whole : List (Expression M F Z)) where
-  pub one_grown : (number : ℕ → ℕ) (nodes : List (Expression M F Z)) (e : Expression M F Z) (target : ℕ) → IsPartOf number nodes whole → OperandsWithin (length nodes) e → IsNoOutput e
-      → slice_get whole target ≡ Some (renamed number e) → IsGrown whole number nodes target (added nodes e)
-  one_grown number nodes e target part within plain stands = record {
+  -- one expression more, by numbers that agree on those before
+  pub record IsMore (number : ℕ → ℕ) (nodes : List (Expression M F Z)) (e : Expression M F Z) (target : ℕ) : Type 0 where
+    pub numbers : ℕ → ℕ
+    pub part : IsPartOf numbers (nodes ++ e ∷ []) whole
+    pub agrees : (i : ℕ) → i < length nodes → numbers i ≡ number i
+    pub stands : numbers (length nodes) ≡ target
+
+  pub one_more : (number : ℕ → ℕ) (nodes : List (Expression M F Z)) (e : Expression M F Z) (target : ℕ) → IsPartOf number nodes whole → OperandsWithin (length nodes) e
+      → ((chosen : Chosen) → is_output chosen e ≡ true → ⊥) → slice_get whole target ≡ Some (renamed number e) → IsMore number nodes e target
+  one_more number nodes e target part within none stands = record {
     numbers = extended number (length nodes) target;
-    part = part_grows number nodes whole part e target within stands (λ chosen is. absurd (no_output e chosen plain is));
+    part = part_grows number nodes whole part e target within stands (λ chosen is. absurd (none chosen is));
     agrees = λ i below. ap (λ b. if b then number i else target) (lt-ltb i (length nodes) below);
-    front = (e ∷ [], refl);
-    within = omega (arith, length-append nodes (e ∷ []));
     stands = ap (λ b. if b then number (length nodes) else target) (le-ltb (length nodes) (length nodes) (omega arith));
   }
+
+  one_grown : (number : ℕ → ℕ) (nodes : List (Expression M F Z)) (e : Expression M F Z) (target : ℕ) → IsPartOf number nodes whole → OperandsWithin (length nodes) e → is_named (Some e) ≡ false
+      → slice_get whole target ≡ Some (renamed number e) → IsGrown whole number nodes target (added nodes e)
+  one_grown number nodes e target part within unnamed stands =
+      let more = one_more number nodes e target part within (λ chosen is. no_output e chosen unnamed is) stands in
+      record {
+        numbers = more.numbers;
+        part = more.part;
+        agrees = more.agrees;
+        front = (e ∷ [], refl);
+        within = omega (arith, length-append nodes (e ∷ []));
+        stands = more.stands;
+        plain = one_plain nodes e unnamed within;
+      }
 
   -- nothing is made
   pub none_grown : (number : ℕ → ℕ) (nodes : List (Expression M F Z)) (place target : ℕ) → IsPartOf number nodes whole → place < length nodes → number place ≡ target
@@ -118,6 +170,7 @@ module _ {M F Z : Type 0} (whole : List (Expression M F Z)) where
     front = ([], sym (append-nil nodes));
     within = within;
     stands = stands;
+    plain = none_plain nodes;
   }
 
   longer : (nodes more rest : List (Expression M F Z)) → more ≡ nodes ++ rest → length nodes ≤ length more
@@ -139,6 +192,7 @@ module _ {M F Z : Type 0} (whole : List (Expression M F Z)) where
       front = front_on nodes made.nodes made'.nodes first.front second.front;
       within = second.within;
       stands = second.stands;
+      plain = plain_on (length nodes) made.nodes made'.nodes second.front first.plain second.plain;
     }
 
     then_row : (targets : List ℕ) (made' : Made M F Z (List ℕ)) → IsRowGrown whole first.numbers made.nodes targets made' → IsRowGrown whole number nodes targets made'
@@ -149,6 +203,7 @@ module _ {M F Z : Type 0} (whole : List (Expression M F Z)) where
       front = front_on nodes made.nodes made'.nodes first.front second.front;
       within = second.within;
       stands = second.stands;
+      plain = plain_on (length nodes) made.nodes made'.nodes second.front first.plain second.plain;
     }
 
 module _ {M F Z S A : Type 0} (tables : Tables M F Z S A) (source : Source) (all : List Spot) (whole : List (Expression M F Z)) (site : Site) where
@@ -205,7 +260,7 @@ module _ {M F Z S A : Type 0} (tables : Tables M F Z S A) (source : Source) (all
         let row : Made M F Z (List ℕ) = record { nodes = nodes; place = [] } in
         let made = trees_made tables.functions site row trees in
         let grown = trees_grow number row trees [] part right tt refl spots good in
-        let last = one_grown whole grown.numbers made.nodes (Listed made.place) (place_of (written (ListOf trees) [])) grown.part (All-from_recursion (λ i. i < length made.nodes) made.place grown.within) tt
+        let last = one_grown whole grown.numbers made.nodes (Listed made.place) (place_of (written (ListOf trees) [])) grown.part (All-from_recursion (λ i. i < length made.nodes) made.place grown.within) refl
         (spot refl ∙ ap (λ ns. Some (Listed ns)) (sym grown.stands)) in
         record {
           numbers = last.numbers;
@@ -214,18 +269,19 @@ module _ {M F Z S A : Type 0} (tables : Tables M F Z S A) (source : Source) (all
           front = front_on whole nodes made.nodes (made.nodes ++ Listed made.place ∷ []) grown.front last.front;
           within = last.within;
           stands = last.stands;
+          plain = plain_on (length nodes) made.nodes (made.nodes ++ Listed made.place ∷ []) last.front grown.plain last.plain;
         }
     root_grows number nodes (PropertyOf w) part right spot spots good = property_grows number nodes w (property_node site w) refl good part right
-    root_grows number nodes (TextOf t) part right spot spots good = one_grown whole number nodes (Constant (Some (values.Text t))) (place_of (written (TextOf t) [])) part tt tt (spot refl)
-    root_grows number nodes (FlagOf b) part right spot spots good = one_grown whole number nodes (Constant (Some (values.Flag b))) (place_of (written (FlagOf b) [])) part tt tt (spot refl)
-    root_grows number nodes (DirOf t) part right spot spots good = one_grown whole number nodes (Constant (constant_of site (DirOf t))) (place_of (written (DirOf t) [])) part tt tt (spot refl)
-    root_grows number nodes (FileOf t) part right spot spots good = one_grown whole number nodes (Constant (constant_of site (FileOf t))) (place_of (written (FileOf t) [])) part tt tt (spot refl)
+    root_grows number nodes (TextOf t) part right spot spots good = one_grown whole number nodes (Constant (Some (values.Text t))) (place_of (written (TextOf t) [])) part tt refl (spot refl)
+    root_grows number nodes (FlagOf b) part right spot spots good = one_grown whole number nodes (Constant (Some (values.Flag b))) (place_of (written (FlagOf b) [])) part tt refl (spot refl)
+    root_grows number nodes (DirOf t) part right spot spots good = one_grown whole number nodes (Constant (constant_of site (DirOf t))) (place_of (written (DirOf t) [])) part tt refl (spot refl)
+    root_grows number nodes (FileOf t) part right spot spots good = one_grown whole number nodes (Constant (constant_of site (FileOf t))) (place_of (written (FileOf t) [])) part tt refl (spot refl)
     root_grows number nodes TheBuildDir part right spot spots good =
-        one_grown whole number nodes (Constant (constant_of site TheBuildDir)) (place_of (written TheBuildDir [])) part tt tt (spot refl ∙ ap (λ b. Some (Constant (Some (values.Place b)))) (sym right.build))
+        one_grown whole number nodes (Constant (constant_of site TheBuildDir)) (place_of (written TheBuildDir [])) part tt refl (spot refl ∙ ap (λ b. Some (Constant (Some (values.Place b)))) (sym right.build))
     root_grows number nodes (GradlePropertyOf t) part right spot spots good =
-        one_grown whole number nodes (Constant (constant_of site (GradlePropertyOf t))) (place_of (written (GradlePropertyOf t) [])) part tt tt
+        one_grown whole number nodes (Constant (constant_of site (GradlePropertyOf t))) (place_of (written (GradlePropertyOf t) [])) part tt refl
         (spot refl ∙ ap Some (given_same (find byte_order t (reverse source.given))) ∙ ap (λ o. Some (Constant (as_text o))) (sym (right.given t)))
-    root_grows number nodes (TaskOf t) part right spot spots good = one_grown whole number nodes (Constant (constant_of site (TaskOf t))) (place_of (written (TaskOf t) [])) part tt tt (spot refl)
+    root_grows number nodes (TaskOf t) part right spot spots good = one_grown whole number nodes (Constant (constant_of site (TaskOf t))) (place_of (written (TaskOf t) [])) part tt refl (spot refl)
 
     pub trees_grow : (number : ℕ → ℕ) (row : Made M F Z (List ℕ)) (trees : Trees) (targets : List ℕ) → IsPartOf number row.nodes whole → Right number row.nodes
         → AllByRecursion (λ i. i < length row.nodes) row.place → map number row.place ≡ targets → Spots (trees_parts site.project trees) → found_in_all at_root at_link trees ≡ []
@@ -237,6 +293,7 @@ module _ {M F Z S A : Type 0} (tables : Tables M F Z S A) (source : Source) (all
       front = ([], sym (append-nil row.nodes));
       within = within;
       stands = stands ∙ sym (append-nil targets);
+      plain = none_plain row.nodes;
     }
     trees_grow number row (AndTree tree trees) targets part right within stands spots good =
         let made = tree_made tables.functions site row.nodes tree in
@@ -268,11 +325,11 @@ module _ {M F Z S A : Type 0} (tables : Tables M F Z S A) (source : Source) (all
         → IsGrown whole number nodes (place_of (written root (link ∷ before))) (link_made tables.functions site nodes place link)
     link_grows number nodes place root before (MapBy f) part right within stands spot spots good =
         let o = map_named tables.functions f.name in
-        one_grown whole number nodes (if_found (Mapped place) f o) (place_of (written root (MapBy f ∷ before))) part (found_within (Mapped place) (length nodes) (λ c. within) f o) (found_plain (Mapped place) (λ c. tt) f o)
+        one_grown whole number nodes (if_found (Mapped place) f o) (place_of (written root (MapBy f ∷ before))) part (found_within (Mapped place) (length nodes) (λ c. within) f o) (found_plain (Mapped place) (λ c. refl) f o)
         (spot refl ∙ ap (λ k. Some (if_found (Mapped k) f o)) (sym stands) ∙ ap Some (sym (found_renamed (Mapped place) number (Mapped (number place)) (λ c. refl) f o)))
     link_grows number nodes place root before (FlatMapBy f) part right within stands spot spots good =
         let o = flat_map_named tables.functions f.name in
-        one_grown whole number nodes (if_found (FlatMapped place) f o) (place_of (written root (FlatMapBy f ∷ before))) part (found_within (FlatMapped place) (length nodes) (λ c. within) f o) (found_plain (FlatMapped place) (λ c. tt) f o)
+        one_grown whole number nodes (if_found (FlatMapped place) f o) (place_of (written root (FlatMapBy f ∷ before))) part (found_within (FlatMapped place) (length nodes) (λ c. within) f o) (found_plain (FlatMapped place) (λ c. refl) f o)
         (spot refl ∙ ap (λ k. Some (if_found (FlatMapped k) f o)) (sym stands) ∙ ap Some (sym (found_renamed (FlatMapped place) number (FlatMapped (number place)) (λ c. refl) f o)))
     link_grows number nodes place root before (ZipBy tree f) part right within stands spot spots good =
         let o = zip_named tables.functions f.name in
@@ -284,7 +341,7 @@ module _ {M F Z S A : Type 0} (tables : Tables M F Z S A) (source : Source) (all
         let both : (place < length made.nodes) × (made.place < length made.nodes) = (omega (arith, within, le), operand.within) in
         then_grown whole number nodes target made operand (place_of (written root (ZipBy tree f ∷ before))) (zip_made tables.functions place f made)
         (one_grown whole operand.numbers made.nodes (if_found (Zipped place made.place) f o) (place_of (written root (ZipBy tree f ∷ before))) operand.part
-        (found_within (Zipped place made.place) (length made.nodes) (λ c. both) f o) (found_plain (Zipped place made.place) (λ c. tt) f o)
+        (found_within (Zipped place made.place) (length made.nodes) (λ c. both) f o) (found_plain (Zipped place made.place) (λ c. refl) f o)
         (spot refl ∙ ap (λ k. Some (if_found (Zipped k target) f o)) (sym left) ∙ ap (λ k. Some (if_found (Zipped (operand.numbers place) k) f o)) (sym operand.stands)
         ∙ ap Some (sym (found_renamed (Zipped place made.place) operand.numbers (Zipped (operand.numbers place) (operand.numbers made.place)) (λ c. refl) f o))))
     link_grows number nodes place root before (Else tree) part right within stands spot spots good =
@@ -294,7 +351,7 @@ module _ {M F Z S A : Type 0} (tables : Tables M F Z S A) (source : Source) (all
         let le = longer whole nodes made.nodes operand.front.0 operand.front.1 in
         let left : operand.numbers place ≡ place_of (written root before) = operand.agrees place within ∙ stands in
         then_grown whole number nodes target made operand (place_of (written root (Else tree ∷ before))) (else_made tables.functions place made)
-        (one_grown whole operand.numbers made.nodes (OrElse place made.place) (place_of (written root (Else tree ∷ before))) operand.part (omega (arith, within, le), operand.within) tt
+        (one_grown whole operand.numbers made.nodes (OrElse place made.place) (place_of (written root (Else tree ∷ before))) operand.part (omega (arith, within, le), operand.within) refl
         (spot refl ∙ ap (λ k. Some (OrElse k target)) (sym left) ∙ ap (λ k. Some (OrElse (operand.numbers place) k)) (sym operand.stands)))
 
 pub trees_grow_so : {M F Z S A : Type 0} (tables : Tables M F Z S A) (source : Source) (all : List Spot) (whole : List (Expression M F Z)) → TreesGrow tables source all whole

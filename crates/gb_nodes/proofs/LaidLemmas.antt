@@ -23,7 +23,7 @@ use Rattle.gb_project.specs.Spots.{Spot, Written}
 use Rattle.gb_project.specs.Whole.{number_of}
 use Rattle.gb_nodes.specs.Laid.{AreUnset, ScriptsAreLaid}
 use Rattle.gb_nodes.specs.Statements.{named_from, properties_made, unset_property}
-use Rattle.gb_nodes.proofs.GrownLemmas.{one_grown}
+use Rattle.gb_nodes.proofs.GrownLemmas.{one_more}
 
 -- ---- Which node is found under a name
 
@@ -56,7 +56,7 @@ module _ (P : List ℕ → Node → Type 0) where
         | false ↦ λ at found. found_is there name node all.1 found
       ] refl is
 
-at_place : {X : Type 0} (front : List X) (x : X) (rest : List X) (i : ℕ) → i ≡ length front → slice_get (front ++ x ∷ rest) i ≡ Some x
+pub at_place : {X : Type 0} (front : List X) (x : X) (rest : List X) (i : ℕ) → i ≡ length front → slice_get (front ++ x ∷ rest) i ≡ Some x
 at_place [] x rest zero is = refl
 at_place [] x rest (suc i) is = absurd (omega (arith, is))
 at_place (y ∷ front) x rest zero is = absurd (omega (arith, is))
@@ -115,7 +115,7 @@ module _ {M F Z S A : Type 0} (tables : Tables M F Z S A) (source : Source) (all
       }
   names_grow number nodes (name ∷ names) new is part unset =
       let e : Expression M F Z = unset_property project name in
-      let one = one_grown whole number nodes e (target name) part (tt, tt) tt (unset 0 name refl) in
+      let one = one_more whole number nodes e (target name) part (tt, tt) (λ chosen is. absurd (cc)) (unset 0 name refl) in
       let longer : length (nodes ++ e ∷ []) ≡ length nodes + 1 = length-append nodes (e ∷ []) in
       let rest = names_grow one.numbers (nodes ++ e ∷ []) names new (is ∙ sym (append_assoc nodes (e ∷ []) (map (unset_property project) names))) one.part (λ k other at. unset (suc k) other at) in
       record {

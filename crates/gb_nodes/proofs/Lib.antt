@@ -4,3 +4,12 @@ pub mod PropertyLemmas
 pub mod ChangeLemmas
 pub mod LaidLemmas
 pub mod GivenLemmas
+pub mod PlacedLemmas
+pub mod KeyLemmas
+pub mod SaidLemmas
+pub mod FoundLemmas
+pub mod StageLemmas
+pub mod StatementLemmas
+pub mod ScriptLemmas
+pub mod StandingLemmas
+pub mod BuildLemmas

@@ -1,14 +1,16 @@
 -- What is made for an expression of the scripts stands in the whole table.
-use Rattle.std.specs.Prelude.{◌≡◌, ℕ, ◌<◌, Bool, true, false, List, [], ◌∷◌, ◌++◌, length, map, Some, reverse, slice_get}
+use Rattle.std.specs.Prelude.{◌≡◌, ℕ, ◌<◌, ◌≤◌, Bool, true, false, List, [], ◌∷◌, ◌++◌, length, map, Some, reverse, slice_get}
 use Rattle.std.specs.List.{AllByRecursion, flat_map}
 use Rattle.std.specs.FinMap.Entries.{find}
 use Rattle.gb_core.specs.Lists.{byte_order}
+use Rattle.gb_provider.specs.Rules.{OperandsWithin}
 use Rattle.gb_provider.specs.declared.expression.Expression.{Expression}
 use Rattle.gb_provider.specs.declared.expression.Node.{Node}
 use Rattle.gb_registry.specs.Source.{Source}
 use Rattle.gb_registry.specs.Tables.{Tables}
 use Rattle.gb_registry.specs.Wrong.{found_in_all}
 use Rattle.gb_script.specs.Tree.{Tree, Root, PropertyOf, trees_of}
+use Rattle.gb_project.specs.Circles.{is_named}
 use Rattle.gb_project.specs.Partly.{IsPartOf}
 use Rattle.gb_project.specs.Spots.{Spot, Written, Made, parts, spot_of}
 use Rattle.gb_project.specs.Whole.{build_folder, expression_at, number_of}
@@ -26,10 +28,13 @@ is_property (Written project root []) = is_property_root root
 is_property (Written project root (step ∷ before)) = false
 is_property (Made project task name tree) = false
 
+-- the expression has no name, and comes after its operands
+abbrev pub IsPlain : {M F Z : Type 0} → ℕ → Expression M F Z → Type 0
+IsPlain place e = (is_named (Some e) ≡ false) × OperandsWithin place e
+
 module _ {M F Z : Type 0} (whole : List (Expression M F Z)) where
   -- More expressions, by numbers that agree on those before: they are a part of the whole too, and one of
-  -- them
-  -- has this number in the whole.
+  -- them has this number in the whole. The new ones have no names, and come after their operands.
   pub record IsGrown (number : ℕ → ℕ) (nodes : List (Expression M F Z)) (target : ℕ)
       (made : These M F Z ℕ) : Type 0 where
     pub numbers : ℕ → ℕ
@@ -38,6 +43,8 @@ module _ {M F Z : Type 0} (whole : List (Expression M F Z)) where
     pub front : (rest : List (Expression M F Z)) × (made.nodes ≡ nodes ++ rest)
     pub within : made.place < length made.nodes
     pub stands : numbers made.place ≡ target
+    pub plain : (x : ℕ) (e : Expression M F Z) → length nodes ≤ x → slice_get made.nodes x ≡ Some e
+        → IsPlain x e
 
   -- the same of several, each with its number in the whole
   pub record IsRowGrown (number : ℕ → ℕ) (nodes : List (Expression M F Z)) (targets : List ℕ)
@@ -48,6 +55,8 @@ module _ {M F Z : Type 0} (whole : List (Expression M F Z)) where
     pub front : (rest : List (Expression M F Z)) × (made.nodes ≡ nodes ++ rest)
     pub within : AllByRecursion (λ i. i < length made.nodes) made.place
     pub stands : map numbers made.place ≡ targets
+    pub plain : (x : ℕ) (e : Expression M F Z) → length nodes ≤ x → slice_get made.nodes x ≡ Some e
+        → IsPlain x e
 
 module _ {M F Z S A : Type 0} (tables : Tables M F Z S A) (source : Source) (all : List Spot)
     (whole : List (Expression M F Z)) where

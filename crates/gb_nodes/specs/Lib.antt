@@ -6,3 +6,5 @@ pub mod Statements
 pub mod Changing
 pub mod Scripts
 pub mod Laid
+pub mod Complete
+pub mod Standing

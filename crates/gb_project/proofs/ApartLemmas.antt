@@ -55,7 +55,9 @@ module _ {M F Z S : Type 0} (meanings : Meanings M F Z S) (number : ℕ → ℕ)
       → (b : Bool) → is_named (slice_get part (slice_index circle i)) ≡ b → slice_index circle i ≡ slice_index circle j
   unfolding Next Together
   together_at n i j ih less bi bj same true named =
-      let a = next_index i bi in ordered.once (slice_index circle i) (slice_index circle j) (slice_index circle a.0) a.2 named same
+      let a = next_index i bi in
+      let b = next_index j bj in
+      ordered.once (slice_index circle i) (slice_index circle j) (slice_index circle a.0) (slice_index circle b.0) a.2 b.2 named same
   together_at n i j ih less bi bj same false named =
       let a = next_index i bi in
       let b = next_index j bj in

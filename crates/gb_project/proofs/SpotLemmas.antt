@@ -86,11 +86,16 @@ first_such p (y ∷ ys) zero x is e =
     found_by p y x (find p ys) (p y) refl (λ fails. (let clash : true ≡ false = sym passes ∙ fails in cc))
 first_such p (y ∷ ys) (suc k) x is e = found_by p y x (find p ys) (p y) refl (λ fails. first_such p ys k x is e)
 
+-- an expression that is one of these stands where the first that is the same stands
+pub spot_stands : (all : List Spot) (project : Path) (root' : Root) (steps : List Link) (place : ℕ) → slice_get all place ≡ Some (Written project root' steps)
+    → slice_get all (position_or_len (is_spot (Written project root' steps)) all) ≡ Some (Written project root' steps)
+spot_stands all project root' steps place is =
+    let spot = Written project root' steps in
+    let first = first_such (is_spot spot) all place spot is (written_itself project root' steps) in
+    sym (find_at (is_spot spot) all) ∙ first.1 ∙ ap Some (sym (written_same project root' steps first.0 first.2))
+
 pub expressions_stand : {M F Z S A : Type 0} (tables : Tables M F Z S A) (source : Source) → ExpressionsStand tables source
 expressions_stand tables source project root' steps place is =
     let all = spots tables source in
-    let spot = Written project root' steps in
-    let first = first_such (is_spot spot) all place spot is (written_itself project root' steps) in
-    let same = written_same project root' steps first.0 first.2 in
-    slice_get-map (expression_at tables source all) all (position_or_len (is_spot spot) all)
-    ∙ ap (option_map (expression_at tables source all)) (sym (find_at (is_spot spot) all) ∙ first.1 ∙ ap Some (sym same))
+    slice_get-map (expression_at tables source all) all (position_or_len (is_spot (Written project root' steps)) all)
+    ∙ ap (option_map (expression_at tables source all)) (spot_stands all project root' steps place is)

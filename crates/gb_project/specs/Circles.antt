@@ -33,7 +33,8 @@ is_named other = false
 -- they await.
 pub record AreOrdered {M F Z S : Type 0} (meanings : Meanings M F Z S) (number : ℕ → ℕ)
     (part : List (Expression M F Z)) : Type 0 where
-  pub once : (x y s : ℕ) → next_awaited (rules meanings part) x ≡ Some s → is_named (slice_get part x) ≡ true
+  pub once : (x y s t : ℕ) → next_awaited (rules meanings part) x ≡ Some s
+      → next_awaited (rules meanings part) y ≡ Some t → is_named (slice_get part x) ≡ true
       → number x ≡ number y → x ≡ y
   pub falls : (x s : ℕ) → next_awaited (rules meanings part) x ≡ Some s → is_named (slice_get part x) ≡ false
       → s < x

@@ -89,6 +89,15 @@ impl Pattern {
         path_matches(self.text.as_str(), path)
     }
 
+    /// An equal pattern.
+    pub fn copy(&self) -> Result<Pattern, AllocError>
+        ensures { IfOk result (λ pattern. pattern ≡ self.now) }
+    {
+        Ok(Pattern {
+            text: self.text.copy()?,
+        })
+    }
+
     /// The pattern, with `/**` where it was written `/`.
     pub fn as_str(&self) -> &str
         ensures { result.now ≡ self.now }

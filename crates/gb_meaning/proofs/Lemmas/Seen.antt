@@ -94,7 +94,7 @@ module _ (c : Bytes) where
       ]
 
 -- all contents of an entry that is made now stand now
-entry_seen : (task : Task) (files : Files) → Among (contents_of (entry_of task files)) (map (λ (file : Place × Bytes). file.1) files)
+pub entry_seen : (task : Task) (files : Files) → Among (contents_of (entry_of task files)) (map (λ (file : Place × Bytes). file.1) files)
 entry_seen task files c h = any_map (bytes_eq c) (λ (file : Place × Bytes). file.1) files ∙ elim (in_one c (contents_in (trees_of task files)) (map (λ (file : Place × Bytes). file.1) (output_files task files)) h) [
   | inl read ↦ any_trees c files task.files read
   | inr written ↦ part_of (λ (file : Place × Bytes). bytes_eq c file.1) (is_output_of task) files (sym (any_map (bytes_eq c) (λ (file : Place × Bytes). file.1) (output_files task files)) ∙ written)

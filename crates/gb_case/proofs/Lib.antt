@@ -1,0 +1,7 @@
+mod Part
+mod Present
+mod Grown
+mod Decided
+mod Outside
+mod Knowing
+mod Turning

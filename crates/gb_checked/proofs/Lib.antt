@@ -1,0 +1,11 @@
+pub mod Reaching
+pub mod Each
+pub mod Chained
+pub mod Alike
+pub mod Asking
+pub mod Scheduling
+pub mod Least
+pub mod Overlapped
+pub mod Circling
+pub mod Queueing
+pub mod Faults

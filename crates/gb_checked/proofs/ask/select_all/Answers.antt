@@ -1,0 +1,53 @@
+use Rattle.std.proofs.Common.{◌≡◌, ◌⊎◌, ◌++◌, ◌∷◌, [], List, Some, inl, inr, length, take, map, sym, ap, ◌∙◌, arith}
+use Rattle.std.proofs.Math.Seq.{take-length}
+use Rattle.std.proofs.lemmas.Result.{err_from_is_err_and}
+use Rattle.std.specs.List.{flat_map}
+use Rattle.gb_core.specs.Lists.{first_of}
+use Rattle.gb_report.specs.declared.fault.Fault.{Fault}
+use Rattle.gb_report.specs.declared.fault.Fault.TheVariants.{OutOfMemory}
+use Rattle.gb_plan.specs.Task.{Path}
+use Rattle.gb_plan.specs.Graph.{selected_by}
+use Rattle.gb_plan.specs.Refusal.{word_faults}
+use Rattle.gb_order.proofs.Selections.{err_so, first_at, flat_more, map_more}
+use Rattle.gb_checked.proofs.ask.select_all.Goals as goal
+
+pub loop-word-preserved : goal.loop-word-preserved
+loop-word-preserved g c =
+    let registry = g.T.Tasks.registry c.args.tasks.now in
+    let words = c.args.words.now in
+    let i = c.loop-word.word-index in
+    let word = c.word-item.result in
+    let found : List (List Path) = c.loop-word.found.items in
+    record {
+      selected =
+          c.in_ok-push.ensures.items
+          ∙ ap (λ (ps : List Path). found ++ ps ∷ []) (c.in_ok-list_of.ensures ∙ c.in_ok-selected.ensures.selected)
+          ∙ ap (λ (fs : List (List Path)). fs ++ selected_by registry word ∷ []) c.loop-word.invariant.selected
+          ∙ sym (map_more (selected_by registry) words i word c.loop-word-test.true c.word-item.is);
+      good =
+          flat_more (word_faults registry) words i word c.loop-word-test.true c.word-item.is
+          ∙ (λ j. c.loop-word.invariant.good j ++ c.in_ok-selected.ensures.good j);
+    }
+
+pub returns : goal.returns
+returns g c =
+    let registry = g.T.Tasks.registry c.args.tasks.now in
+    let words = c.args.words.now in
+    let e : length words ≡ c.loop-word.word-index = omega (arith, c.loop-word-test.false, c.loop-word.auto.word-index-end) in
+    let whole : take c.loop-word.word-index words ≡ words = ap (λ n. take n words) (sym e) ∙ take-length words in
+    record {
+      selected = c.loop-word.invariant.selected ∙ ap (map (selected_by registry)) whole;
+      good = ap (flat_map (word_faults registry)) (sym whole) ∙ c.loop-word.invariant.good;
+      bad = tt;
+    }
+
+pub returns-in_err-selected-clause-bad : goal.returns-in_err-selected-clause-bad
+returns-in_err-selected-clause-bad g c =
+    let registry = g.T.Tasks.registry c.args.tasks.now in
+    let words = c.args.words.now in
+    let fault : Fault = c.in_err-selected.field-0.0 in
+    let p = err_from_is_err_and c.from_residual.result c.from_residual.ensures.1 in
+    err_so (λ f. (f ≡ OutOfMemory) ⊎ (first_of (flat_map (word_faults registry) words) ≡ Some f)) c.from_residual.result p.0 fault p.1 p.2 (elim c.in_err-selected.ensures.bad [
+      | inl e ↦ inl e
+      | inr e ↦ inr (first_at (word_faults registry) words c.loop-word.word-index c.word-item.result fault c.loop-word-test.true c.word-item.is c.loop-word.invariant.good e)
+    ])

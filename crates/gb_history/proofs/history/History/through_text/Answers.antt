@@ -1,0 +1,17 @@
+use Rattle.std.proofs.Common.{ℕ, List, [], ◌∷◌, ◌∙◌}
+use Rattle.std.specs.List.{AllByRecursion}
+use Rattle.gb_history.specs.Remembered.{Remembered}
+use Rattle.gb_history.specs.Text.{EntryFits}
+use Rattle.gb_history.specs.declared.record.Edition.TheVariants.{Second}
+use Rattle.gb_history.proofs.Lists.{all_true}
+use Rattle.gb_history.proofs.history.History.through_text.Goals as goal
+
+-- the second edition tells all versions
+all_fit : (entries : List (List ℕ × Remembered)) → AllByRecursion (EntryFits Second) entries
+all_fit [] = tt
+all_fit (entry ∷ entries) = (all_true entry.1.actions, all_fit entries)
+
+pub returns : goal.returns
+returns c =
+    c.read.ensures.back c.args.self.now c.in_ok-text.ensures.held
+    (record { edition = Second; fits = all_fit c.args.self.now; same = c.as_slice.ensures.value ∙ c.in_ok-text.ensures.text })

@@ -1,0 +1,109 @@
+-- The expressions of scripts stand in a table of all of them.
+use Rattle.std.proofs.Common.{◌≡◌, ℕ, List, [], ◌∷◌, ◌++◌, length, refl, sym, ap, subst, ◌∙◌, append_assoc}
+use Rattle.std.proofs.lemmas.Grind.{flat_map-append}
+use Rattle.std.proofs.lemmas.Option.{slice_get-map}
+use Rattle.std.specs.Prelude.{Some, slice_get, option_map}
+use Rattle.std.specs.List.{AllByRecursion, flat_map}
+use Rattle.gb_registry.specs.Projects.{Path}
+use Rattle.gb_registry.specs.Said.{Said, tasks_of}
+use Rattle.gb_registry.specs.Source.{Source}
+use Rattle.gb_registry.specs.Tables.{Tables}
+use Rattle.gb_script.specs.Tree.{Tree, Chain, Root, TextOf, FlagOf, ListOf, PropertyOf, DirOf, FileOf, TheBuildDir, GradlePropertyOf, TaskOf, Link, MapBy, FlatMapBy, ZipBy, Else, Trees, NoTree, AndTree, Links, NoLink, AndLink}
+use Rattle.gb_project.specs.Spots.{Spot, Written, Made, parts, root_parts, trees_parts, links_parts, link_parts}
+use Rattle.gb_project.specs.Whole.{expression_at, number_of, spots, statement_spots, table_of, task_spots}
+use Rattle.gb_project.specs.Declaring.{declared}
+use Rattle.gb_project.proofs.SpotLemmas.{spot_stands}
+use Rattle.gb_nodes.specs.Grown.{Stands}
+use Rattle.gb_nodes.proofs.LaidLemmas.{at_place}
+
+-- the spot is one of these
+abbrev pub IsAmong : List Spot → Spot → Type 0
+IsAmong all spot = (place : ℕ) × (slice_get all place ≡ Some spot)
+
+-- ---- Which spots are expressions of scripts
+
+abbrev pub IsWritten : Spot → Type 0
+IsWritten (Written project root steps) = Unit {0}
+IsWritten (Made project task name tree) = ⊥
+
+both_all : {X : Type 0} (P : X → Type 0) (xs ys : List X) → AllByRecursion P xs → AllByRecursion P ys → AllByRecursion P (xs ++ ys)
+both_all P [] ys front back = back
+both_all P (x ∷ xs) ys front back = (front.0, both_all P xs ys front.1 back)
+
+module _ (project : Path) where
+  abbrev AreWritten : List Spot → Type 0
+  AreWritten = AllByRecursion IsWritten
+
+  mutual
+    pub parts_written : (tree : Tree) → AreWritten (parts project tree)
+    parts_written (Chain root links) = (tt, both_all IsWritten (root_parts project root) (links_parts project root [] links) (root_written root) (links_written root [] links))
+
+    root_written : (root : Root) → AreWritten (root_parts project root)
+    root_written (ListOf trees) = trees_written trees
+    root_written (TextOf t) = tt
+    root_written (FlagOf b) = tt
+    root_written (PropertyOf w) = tt
+    root_written (DirOf t) = tt
+    root_written (FileOf t) = tt
+    root_written TheBuildDir = tt
+    root_written (GradlePropertyOf t) = tt
+    root_written (TaskOf t) = tt
+
+    trees_written : (trees : Trees) → AreWritten (trees_parts project trees)
+    trees_written NoTree = tt
+    trees_written (AndTree tree trees) = both_all IsWritten (parts project tree) (trees_parts project trees) (parts_written tree) (trees_written trees)
+
+    links_written : (root : Root) (before : List Link) (links : Links) → AreWritten (links_parts project root before links)
+    links_written root before NoLink = tt
+    links_written root before (AndLink link links) =
+        (tt, both_all IsWritten (link_parts project link) (links_parts project root (link ∷ before) links) (link_written link) (links_written root (link ∷ before) links))
+
+    link_written : (link : Link) → AreWritten (link_parts project link)
+    link_written (MapBy f) = tt
+    link_written (FlatMapBy f) = tt
+    link_written (ZipBy tree f) = parts_written tree
+    link_written (Else tree) = parts_written tree
+
+-- ---- Each stands under its number
+
+module _ {M F Z S A : Type 0} (tables : Tables M F Z S A) (source : Source) (all : List Spot) where
+  pub written_stands : (project : Path) (root : Root) (steps : List Link) → IsAmong all (Written project root steps)
+      → slice_get (table_of tables source all) (number_of tables source all (Written project root steps)) ≡ Some (expression_at tables source all (Written project root steps))
+  written_stands project root steps among =
+      slice_get-map (expression_at tables source all) all (number_of tables source all (Written project root steps))
+      ∙ ap (option_map (expression_at tables source all)) (spot_stands all project root steps among.0 among.1)
+
+  spots_stand : (row : List Spot) → AllByRecursion IsWritten row → AllByRecursion (IsAmong all) row → AllByRecursion (Stands tables source all (table_of tables source all)) row
+  spots_stand [] written among = tt
+  spots_stand (Written project root steps ∷ row) written among = (λ _. written_stands project root steps among.0, spots_stand row written.1 among.1)
+  spots_stand (Made project task name tree ∷ row) written among = absurd written.0
+
+  -- the parts of an expression
+  pub parts_stand : (project : Path) (tree : Tree) → AllByRecursion (IsAmong all) (parts project tree) → AllByRecursion (Stands tables source all (table_of tables source all)) (parts project tree)
+  parts_stand project tree among = spots_stand (parts project tree) (parts_written project tree) among
+
+-- ---- Spots in the middle of others
+
+middle : (front xs back : List Spot) → AllByRecursion (IsAmong (front ++ (xs ++ back))) xs
+middle front [] back = tt
+middle front (x ∷ xs) back = (
+  (length front, at_place front x (xs ++ back) (length front) refl),
+  subst (λ l. AllByRecursion (IsAmong l) xs) (append_assoc front (x ∷ []) (xs ++ back)) (middle (front ++ x ∷ []) xs back),
+)
+
+module _ {M F Z S A : Type 0} (tables : Tables M F Z S A) (source : Source) where
+  -- the expressions of tasks
+  abbrev of_tasks : List Spot
+  of_tasks = flat_map (λ task. task_spots task (declared tables source.names source.said task)) (tasks_of source.said)
+
+  -- what a statement declares and gives is among all
+  pub statement_among : (front back : List Said) (s : Said) → source.said ≡ front ++ s ∷ back → AllByRecursion (IsAmong (spots tables source)) (statement_spots s)
+  statement_among front back s split =
+      let before = flat_map statement_spots front in
+      let after = flat_map statement_spots back in
+      let said : flat_map statement_spots source.said ≡ before ++ (statement_spots s ++ after) =
+      ap (flat_map statement_spots) split ∙ flat_map-append statement_spots front (s ∷ back) in
+      let is : before ++ (statement_spots s ++ (after ++ of_tasks)) ≡ spots tables source =
+      ap (λ l. before ++ l) (sym (append_assoc (statement_spots s) after of_tasks)) ∙ sym (append_assoc before (statement_spots s ++ after) of_tasks)
+      ∙ ap (λ l. l ++ of_tasks) (sym said) in
+      subst (λ l. AllByRecursion (IsAmong l) (statement_spots s)) is (middle before (statement_spots s) (after ++ of_tasks))
