@@ -51,6 +51,19 @@ module _ {M F Z S : Type 0} (meanings : Meanings M F Z S) (number : ℕ → ℕ)
   Together : ℕ → Type 0
   Together n = (i j : ℕ) → slice_index circle i < n → i < length circle → j < length circle → number (slice_index circle i) ≡ number (slice_index circle j) → slice_index circle i ≡ slice_index circle j
 
+  -- the same of the next two, where the first has no name
+  next_entries : (n i k l : ℕ) → Together n → slice_index circle i < suc n → k < length circle → l < length circle
+      → next_awaited (rules meanings part) (slice_index circle i) ≡ Some (slice_index circle k) → is_named (slice_get part (slice_index circle i)) ≡ false
+      → number (slice_index circle k) ≡ number (slice_index circle l) → (b : Bool) → is_named (slice_get part (slice_index circle k)) ≡ b → slice_index circle k ≡ slice_index circle l
+  unfolding Next Together
+  next_entries n i k l ih less bk bl awaits unnamed same true named =
+      let a = next_index k bk in
+      let b = next_index l bl in
+      ordered.once (slice_index circle k) (slice_index circle l) (slice_index circle a.0) (slice_index circle b.0) a.2 b.2 named same
+  next_entries n i k l ih less bk bl awaits unnamed same false named =
+      let falls = ordered.falls (slice_index circle i) (slice_index circle k) awaits unnamed named in
+      ih k l (omega (arith, falls, less)) bk bl same
+
   together_at : (n i j : ℕ) → Together n → slice_index circle i < suc n → i < length circle → j < length circle → number (slice_index circle i) ≡ number (slice_index circle j)
       → (b : Bool) → is_named (slice_get part (slice_index circle i)) ≡ b → slice_index circle i ≡ slice_index circle j
   unfolding Next Together
@@ -61,11 +74,10 @@ module _ {M F Z S : Type 0} (meanings : Meanings M F Z S) (number : ℕ → ℕ)
   together_at n i j ih less bi bj same false named =
       let a = next_index i bi in
       let b = next_index j bj in
-      let falls = ordered.falls (slice_index circle i) (slice_index circle a.0) a.2 named in
       let left = next_there meanings number part whole is_part (slice_index circle i) (slice_index circle a.0) a.2 in
       let right = next_there meanings number part whole is_part (slice_index circle j) (slice_index circle b.0) b.2 in
       let numbers = same_next (number (slice_index circle a.0)) (number (slice_index circle b.0)) (sym left ∙ ap (next_awaited (rules meanings whole)) same ∙ right) in
-      let entries = ih a.0 b.0 (omega (arith, falls, less)) a.1 b.1 numbers in
+      let entries = next_entries n i a.0 b.0 ih less a.1 b.1 a.2 named numbers (is_named (slice_get part (slice_index circle a.0))) refl in
       ap (slice_index circle) (same_before i j a.0 b.0 a.3 b.3 (same_index a.0 b.0 a.1 b.1 entries))
 
   -- entries with the same number in the whole are the same

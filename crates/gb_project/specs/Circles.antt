@@ -30,14 +30,14 @@ is_named (Some (OfOutput output)) = true
 is_named other = false
 
 -- Of the expressions of a part that await others, those with names stand once, and others come after what
--- they await.
+-- they await, unless that has a name.
 pub record AreOrdered {M F Z S : Type 0} (meanings : Meanings M F Z S) (number : ℕ → ℕ)
     (part : List (Expression M F Z)) : Type 0 where
   pub once : (x y s t : ℕ) → next_awaited (rules meanings part) x ≡ Some s
       → next_awaited (rules meanings part) y ≡ Some t → is_named (slice_get part x) ≡ true
       → number x ≡ number y → x ≡ y
   pub falls : (x s : ℕ) → next_awaited (rules meanings part) x ≡ Some s → is_named (slice_get part x) ≡ false
-      → s < x
+      → is_named (slice_get part s) ≡ false → s < x
 
 -- In such a part the entries of a circle are apart.
 abbrev pub CirclesAreApart : {M F Z S : Type 0} → Meanings M F Z S → Type 0

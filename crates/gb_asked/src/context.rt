@@ -1,0 +1,18 @@
+//! What expressions of tasks are asked over.
+use gb_action::actions::Actions;
+use gb_provider::transforms::Transforms;
+use gb_registry::projects::ProjectSet;
+use gb_registry::tables::Tables;
+use gb_registry::texts::TextSet;
+use gb_report::fault::Fault;
+
+/// What answers about tasks take beside the providers.
+#[derive(Drop)]
+pub struct Context<'a, A: Actions, T: Transforms> {
+    pub tables: &'a Tables<A::Stored, T::Map, T::FlatMap, T::Zip, T::Test>,
+    pub projects: &'a ProjectSet,
+    /// The paths of registered tasks, in the order of registration.
+    pub tasks: &'a TextSet,
+    /// Of each of them why it is not declared, if it is not.
+    pub faults: &'a [Option<Fault>],
+}
