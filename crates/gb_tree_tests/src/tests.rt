@@ -105,9 +105,9 @@ fn fault_number(alloc: Global, text: &str) -> u16 {
     }
 }
 
-/// Whether the text is read as this pattern, which is shown as it stands.
+/// Whether the text is read as this pattern, which is copied and shown as it stands.
 fn is_read_as(alloc: Global, text: &str, want: &str) -> Result<bool, PatternFault> {
-    let pattern = Pattern::read(alloc, text)?;
+    let pattern = Pattern::read(alloc, text)?.copy()?;
     let shown = format!(in alloc; "{pattern}")?;
     Ok(pattern.as_str() == want && shown.as_str() == want)
 }
