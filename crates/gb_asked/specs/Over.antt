@@ -54,6 +54,14 @@ module _ {M F Z S A : Type 0} (tables : Tables M F Z S A) (source : Source) wher
       (fault ≡ OutOfMemory)
       ⊎ ((trouble : Trouble) × (expected ≡ Err trouble) × IsTold tables source trouble fault)
 
+-- What is told tells what is expected of any scripts, by any numbers, that these names, faults and expressions
+-- are over.
+abbrev pub TellsOver : {M F Z S A X : Type 0} → Tables M F Z S A → Names → List (Option Fault)
+    → List (Expression M F Z) → (Source → (ℕ → ℕ) → Result X Trouble) → Result X Fault → Type 0
+TellsOver tables names why nodes expected told =
+    (source : Source) (number : ℕ → ℕ) → IsOver tables source names why nodes number
+    → Tells tables source (expected source number) told
+
 module _ {M F Z S A : Type 0} (tables : Tables M F Z S A) (names : Names) (why : List (Option Fault)) where
   -- The fault of a provider is told as this one: a circle by its names, the fault of a value as definitions
   -- tell it; or memory ran out.

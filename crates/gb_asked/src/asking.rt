@@ -10,7 +10,7 @@ ghost use Rattle.gb_registry.specs.Tables.{tables_of};
 ghost use Rattle.gb_project.specs.Realised.{answered, as_flag, as_place, truth_of};
 ghost use Rattle.gb_project.specs.Whole.{spots, whole};
 ghost use Rattle.gb_asked.specs.Given.{HasValue, IsOfGet, IsSorted, flag_at, given_at, place_at, producers_at, required_at, truth_at};
-ghost use Rattle.gb_asked.specs.Over.{IsOver, IsToldOf, Tells, known_names};
+ghost use Rattle.gb_asked.specs.Over.{IsOver, IsToldOf, TellsOver, known_names};
 
 use crate::context::Context;
 use crate::telling::{refused, told};
@@ -57,10 +57,9 @@ pub fn ask<A: Actions, T: Transforms>(
 ) -> Result<Option<Value>, Fault>
     requires { node.number < length providers.old.nodes }
     ensures told { let tables = tables_of T.meanings A.meanings context.now.tables.now in
-        (source : Source) (number : ℕ → ℕ)
-        → IsOver tables source (known_names context.now.projects.now context.now.tasks.now)
-        context.now.faults.now providers.old.nodes number
-        → Tells tables source (given_at tables source (number node.number)) result }
+        TellsOver tables (known_names context.now.projects.now context.now.tasks.now)
+        context.now.faults.now providers.old.nodes
+        (λ source number. given_at tables source (number node.number)) result }
     ensures got { IfOk result (λ value. IsGot T.meanings providers.old.nodes node.number (Ok value)) }
     ensures kept { providers.new ≡ providers.old }
 {
@@ -81,10 +80,9 @@ pub fn require<A: Actions, T: Transforms>(
 ) -> Result<Value, Fault>
     requires { node.number < length providers.old.nodes }
     ensures told { let tables = tables_of T.meanings A.meanings context.now.tables.now in
-        (source : Source) (number : ℕ → ℕ)
-        → IsOver tables source (known_names context.now.projects.now context.now.tasks.now)
-        context.now.faults.now providers.old.nodes number
-        → Tells tables source (required_at tables source path.now name.now (number node.number)) result }
+        TellsOver tables (known_names context.now.projects.now context.now.tasks.now)
+        context.now.faults.now providers.old.nodes
+        (λ source number. required_at tables source path.now name.now (number node.number)) result }
     ensures given { IfOk result (λ _. HasValue T.meanings providers.old.nodes node.number) }
     ensures kept { providers.new ≡ providers.old }
 {
@@ -105,10 +103,9 @@ pub fn require_place<A: Actions, T: Transforms>(
 ) -> Result<Place, Fault>
     requires { node.number < length providers.old.nodes }
     ensures told { let tables = tables_of T.meanings A.meanings context.now.tables.now in
-        (source : Source) (number : ℕ → ℕ)
-        → IsOver tables source (known_names context.now.projects.now context.now.tasks.now)
-        context.now.faults.now providers.old.nodes number
-        → Tells tables source (place_at tables source path.now name.now (number node.number)) result }
+        TellsOver tables (known_names context.now.projects.now context.now.tasks.now)
+        context.now.faults.now providers.old.nodes
+        (λ source number. place_at tables source path.now name.now (number node.number)) result }
     ensures given { IfOk result (λ _. HasValue T.meanings providers.old.nodes node.number) }
     ensures kept { providers.new ≡ providers.old }
 {
@@ -136,10 +133,9 @@ pub fn require_flag<A: Actions, T: Transforms>(
 ) -> Result<bool, Fault>
     requires { node.number < length providers.old.nodes }
     ensures told { let tables = tables_of T.meanings A.meanings context.now.tables.now in
-        (source : Source) (number : ℕ → ℕ)
-        → IsOver tables source (known_names context.now.projects.now context.now.tasks.now)
-        context.now.faults.now providers.old.nodes number
-        → Tells tables source (flag_at tables source path.now name.now (number node.number)) result }
+        TellsOver tables (known_names context.now.projects.now context.now.tasks.now)
+        context.now.faults.now providers.old.nodes
+        (λ source number. flag_at tables source path.now name.now (number node.number)) result }
     ensures kept { providers.new ≡ providers.old }
 {
     let value = require(alloc, context, providers, node, path, name)?;
@@ -205,11 +201,10 @@ pub fn passes<A: Actions, T: Transforms>(
 ) -> Result<bool, Fault>
     requires { node.number < length providers.old.nodes }
     ensures told { let tables = tables_of T.meanings A.meanings context.now.tables.now in
-        (source : Source) (number : ℕ → ℕ)
-        → IsOver tables source (known_names context.now.projects.now context.now.tasks.now)
-        context.now.faults.now providers.old.nodes number
-        → (at : Registered)
-        → Tells tables source (truth_at tables source at test.now (number node.number)) result }
+        (at : Registered)
+        → TellsOver tables (known_names context.now.projects.now context.now.tasks.now)
+        context.now.faults.now providers.old.nodes
+        (λ source number. truth_at tables source at test.now (number node.number)) result }
     ensures kept { providers.new ≡ providers.old }
 {
     let value = ask(alloc, context, providers, node)?;

@@ -8,7 +8,7 @@ use Rattle.gb_asked.proofs.TellLemmas.{first_fails, passed_on, sorted_tells, the
 use Rattle.gb_asked.proofs.asking.passes.Goals as goal
 
 pub returns-in_err-value-clause-told : goal.returns-in_err-value-clause-told
-returns-in_err-value-clause-told g c = λ source number over at.
+returns-in_err-value-clause-told g c = λ at source number over.
     let tables = tables_of g.T.Transforms.meanings g.A.Actions.meanings c.args.context.now.tables.now in
     let entry = number c.args.node.number in
     let test = c.args.test.now in
@@ -19,7 +19,7 @@ returns-in_err-value-clause-told g c = λ source number over at.
     (c.in_err-value.ensures.told source number over))
 
 pub returns-clause-told : goal.returns-clause-told
-returns-clause-told g c = λ source number over at.
+returns-clause-told g c = λ at source number over.
     let tables = tables_of g.T.Transforms.meanings g.A.Actions.meanings c.args.context.now.tables.now in
     let entry = number c.args.node.number in
     let test = c.args.test.now in
