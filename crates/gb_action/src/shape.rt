@@ -98,6 +98,13 @@ impl Shape {
         }
     }
 
+    /// Whether these are what its arguments have to be.
+    pub fn takes(&self, values: &[Value]) -> bool
+        ensures { result ≡ args_fit self.now.args values.now }
+    {
+        args_fit(self.args.as_slice(), values)
+    }
+
     fn has_source(&self, files: &[Name]) -> bool
         ensures { result ≡ has_source self.now files.now }
     {

@@ -18,5 +18,3 @@ pub mod folder;
 pub mod limits;
 pub mod memory;
 pub mod own;
-#[cfg(test)]
-mod tests;

@@ -66,25 +66,17 @@ fn make_writer(alloc: Global) -> Result<Writer, Fail> {
     })
 }
 
-/// Which fault it is.
-fn variant(alloc: Global, fault: Fault) -> Result<String, Fail> {
-    let name = variant_of(alloc, &fault);
+/// The number of a fault.
+fn told(alloc: Global, fault: Fault) -> Result<String, Fail> {
+    let number = fault.number();
     drop(fault);
-    name
+    Ok(format!(in alloc; "{number}")?)
 }
 
 /// A fault where none is expected.
 fn unexpected(fault: Fault) -> NameFault {
     drop(fault);
     NameFault::BadName
-}
-
-fn variant_of(alloc: Global, fault: &Fault) -> Result<String, Fail> {
-    let text = format!(in alloc; "{fault:?}")?;
-    match text.split_once('(') {
-        Some((name, _)) => Ok(String::from_str(alloc, name)?),
-        None => Ok(text),
-    }
 }
 
 /// The plain script that a text is, if it is one.
@@ -103,7 +95,7 @@ fn selected(alloc: Global, words: &[&str]) -> Result<String, Fail> {
     }
     match select(alloc, &script, &texts) {
         Ok(task) => Ok(format!(in alloc; "{}", task.name)?),
-        Err(fault) => variant(alloc, fault),
+        Err(fault) => told(alloc, fault),
     }
 }
 
@@ -117,24 +109,24 @@ fn words_select_the_task(rt: HostRuntime) -> Result<(), Fail> {
     assert!(rt; selects(rt.alloc(), &["gen"], "gen")?);
     assert!(rt; selects(rt.alloc(), &[":gen"], "gen")?);
     assert!(rt; selects(rt.alloc(), &["gen", ":gen"], "gen")?);
-    assert!(rt; selects(rt.alloc(), &[], "NoTasks")?);
+    assert!(rt; selects(rt.alloc(), &[], "64")?);
     Ok(())
 }
 
 /// A word that is at fault, whatever stands behind it, and the fault.
 const AT_FAULT: [(&str, &str); 12] = [
-    ("1a", "BadName"),
-    ("", "BadName"),
-    (":", "BadName"),
-    ("::gen", "BadName"),
-    ("a::b", "BadName"),
-    ("gen:", "BadName"),
-    (":no:gen", "UnknownProject"),
-    ("no:gen", "UnknownProject"),
-    ("gen:gen", "UnknownProject"),
-    ("other", "TaskNotFound"),
-    (":ge", "TaskNotFound"),
-    ("genn", "TaskNotFound"),
+    ("1a", "1"),
+    ("", "1"),
+    (":", "1"),
+    ("::gen", "1"),
+    ("a::b", "1"),
+    ("gen:", "1"),
+    (":no:gen", "50"),
+    ("no:gen", "50"),
+    ("gen:gen", "50"),
+    ("other", "52"),
+    (":ge", "52"),
+    ("genn", "52"),
 ];
 
 #[test]
@@ -179,7 +171,7 @@ fn declared_by(alloc: Global, script: &Script) -> Result<String, Fail> {
     let tables = five_kinds(alloc)?;
     match declare::<Writers>(alloc, registered(alloc, script)?, &tables) {
         Ok(task) => show(alloc, &task),
-        Err(fault) => variant(alloc, fault),
+        Err(fault) => told(alloc, fault),
     }
 }
 
@@ -223,54 +215,48 @@ fn actions_stand_round_that_of_the_kind(rt: HostRuntime) -> Result<(), Fail> {
 
 const FAULTS: [(&str, &str); 13] = [
     // In the order of the script.
-    (
-        "register gen : x { outputFile out = file(\"a//b\") }",
-        "UnknownAction",
-    ),
+    ("register gen : x { outputFile out = file(\"a//b\") }", "40"),
     (
         "register gen : a { outputFile out = file(\"a//b\") doLast x }",
-        "BadPlace",
+        "2",
     ),
     (
         "register gen : a { doFirst x outputFile out = file(\"a//b\") }",
-        "UnknownAction",
+        "40",
     ),
     // The shape: an output without actions, an action without its output.
-    ("register gen { outputFile out = file(\"a\") }", "BadShape"),
-    ("register gen : a { }", "BadShape"),
-    (
-        "register gen : a { outputFile other = file(\"a\") }",
-        "BadShape",
-    ),
+    ("register gen { outputFile out = file(\"a\") }", "55"),
+    ("register gen : a { }", "55"),
+    ("register gen : a { outputFile other = file(\"a\") }", "55"),
     // Where the output lies.
     (
         "register gen : a { outputFile out = file(\"build\") }",
-        "OutputOutsideBuild",
+        "56",
     ),
     (
         "register gen : a { outputFile out = file(\"buildx/a\") }",
-        "OutputOutsideBuild",
+        "56",
     ),
     (
         "register gen : a { outputFile out = file(\"src/build/a\") }",
-        "OutputOutsideBuild",
+        "56",
     ),
     // What the actions are given.
     (
         "register gen : a { outputFile out = file(\"build/a\") }",
-        "BadArgument",
+        "43",
     ),
     (
         "register gen : a(\"1\", \"2\") { outputFile out = file(\"build/a\") }",
-        "BadArgument",
+        "43",
     ),
     (
         "register gen : a(\"1\\n2\") { outputFile out = file(\"build/a\") }",
-        "BadArgument",
+        "43",
     ),
     (
         "register gen : a(\"1\") { doLast b outputFile out = file(\"build/a\") }",
-        "BadArgument",
+        "43",
     ),
 ];
 

@@ -14,7 +14,7 @@ use Rattle.gb_provider.specs.declared.reading.Reading.TheVariants.{Settles}
 use Rattle.gb_provider.specs.Changes.{AreChanged, changed}
 use Rattle.gb_provider.specs.Meanings.{Meanings}
 use Rattle.gb_provider.specs.Remembered.{IsForgotten, IsRemembered}
-use Rattle.gb_provider.specs.Rounds.{Rule, Answers, Reads, after_operand, and_then, answer, answer_after, reading, settled}
+use Rattle.gb_provider.specs.Rounds.{Rule, Answers, Reads, after_operand, and_then, answer_after, reading, settled}
 use Rattle.gb_provider.specs.Rules.{output_place, rule, rules}
 use Rattle.gb_provider.specs.Search.{IsSound, known}
 use Rattle.gb_provider.proofs.GrowLemmas.{mapped_at, same_rule}

@@ -9,6 +9,7 @@ pub mod TestLemmas
 pub mod EndlessLemmas
 pub mod PastLemmas
 pub mod ListLemmas
+pub mod LookLemmas
 pub mod IndexLemmas
 pub mod GrowLemmas
 pub mod ForgetLemmas

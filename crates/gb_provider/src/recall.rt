@@ -137,6 +137,21 @@ pub(crate) fn recall<T: Transforms>(
     }
 }
 
+// The answer that is known, to be shared.
+fn share_known(
+    states: &[State<Shared<Outcome>>],
+    number: usize,
+) -> Result<Option<Shared<Outcome>>, AllocError>
+    requires within { number < length states.now }
+    requires known { known states.now number ≢ None }
+    ensures { IfOk result (λ found. found ≡ known states.now number) }
+{
+    match shared_at(states, number) {
+        Some(answer) => Ok(Some(answer.share()?)),
+        None => unreachable!(),
+    }
+}
+
 /// What an expression comes to, which is remembered; nothing where it runs into a circle.
 pub(crate) fn recall_outcome<T: Transforms>(
     alloc: Global,
@@ -153,10 +168,7 @@ pub(crate) fn recall_outcome<T: Transforms>(
     ensures value { IfOk result (λ found. found ≡ value_of T.meanings nodes.now number) }
 {
     match evaluate_value::<T>(alloc, nodes, outputs, states, number) {
-        Ok(None) => match shared_at(states, number) {
-            Some(answer) => Ok(Some(answer.share()?)),
-            None => unreachable!(),
-        },
+        Ok(None) => share_known(states, number),
         Ok(Some(_)) => {
             states.clear();
             Ok(None)

@@ -1,10 +1,7 @@
 -- The text of each fault begins with its number.
-use Rattle.std.proofs.Common.{◌≡◌, ℕ, List, ◌∷◌, ◌++◌, refl}
-use Rattle.std.specs.Prelude.{decimal}
+use Rattle.std.proofs.Common.{refl}
 use Rattle.std.specs.Fmt.{digits}
-use Rattle.gb_report.specs.declared.fault.Fault.{Fault}
 use Rattle.gb_report.specs.declared.fault.Fault.TheVariants as faults
-use Rattle.gb_report.specs.Fault.{fault_number, fault_text}
 use Rattle.gb_report.specs.Laws.{TextsBeginWithNumbers}
 
 pub begins_with_number : TextsBeginWithNumbers

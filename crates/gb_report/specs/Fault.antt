@@ -1,5 +1,5 @@
 -- The number and the text of each fault.
-use Rattle.std.specs.Prelude.{ℕ, ◌||◌, ◌==◌, List, [], ◌∷◌, ◌++◌, map, take, if◌then◌else◌, codes, decimal, nat_lt, encode_utf8_all}
+use Rattle.std.specs.Prelude.{ℕ, not, ◌||◌, ◌==◌, List, [], ◌∷◌, ◌++◌, map, take, if◌then◌else◌, codes, decimal, nat_lt, encode_utf8_all}
 use Rattle.std.specs.List.{flat_map}
 use Rattle.std.specs.Str.{chars}
 use Rattle.gb_report.specs.declared.fault.Fault.{Fault}
@@ -118,3 +118,8 @@ fault_text faults.HistoryNotWritten = codes "90 history not written"
 fault_text (faults.OwnState place) = codes "94 own state " ++ place
 fault_text (faults.BadLine line) = codes "95 bad line " ++ decimal line
 fault_text faults.Usage = codes "96 usage"
+
+-- the text of a fault with a number from one on and below another, and nothing of any other
+abbrev pub text_within : ℕ → ℕ → Fault → List ℕ
+text_within from below fault =
+    if nat_lt (fault_number fault) from || not (nat_lt (fault_number fault) below) then [] else fault_text fault

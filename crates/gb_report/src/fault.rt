@@ -37,7 +37,7 @@ impl fmt::Display for Limited {
 }
 
 /// Why something is refused, or a task failed. Its `Display` is the text that users read.
-#[derive(Debug, Drop, Error)]
+#[derive(Drop, Error)]
 pub enum Fault {
     BadName(Text),
     BadPlace(Text),
@@ -163,10 +163,16 @@ impl Fault {
         let number = self.number();
         if number < 30 {
             copy_below_30(self)
+        } else if number < 43 {
+            copy_below_43(alloc, self)
         } else if number < 54 {
-            copy_below_54(alloc, self)
+            copy_below_54(self)
+        } else if number < 61 {
+            copy_below_61(alloc, self)
+        } else if number < 64 {
+            copy_below_64(self)
         } else {
-            copy_others(alloc, self)
+            copy_others(self)
         }
     }
 }
@@ -192,10 +198,10 @@ fn copy_below_30(fault: &Fault) -> Result<Fault, AllocError>
     })
 }
 
-/// An equal fault, of those with a number from 30 to 53.
-fn copy_below_54(alloc: Global, fault: &Fault) -> Result<Fault, AllocError>
+/// An equal fault, of those with a number from 30 to 42.
+fn copy_below_43(alloc: Global, fault: &Fault) -> Result<Fault, AllocError>
     ensures { IfOk result (λ copied.
-        30 ≤ fault_number fault.now → fault_number fault.now < 54 → copied ≡ fault.now) }
+        30 ≤ fault_number fault.now → fault_number fault.now < 43 → copied ≡ fault.now) }
 {
     Ok(match fault {
         Fault::Circular(names) => Fault::Circular(names.copy(alloc)?),
@@ -206,6 +212,16 @@ fn copy_below_54(alloc: Global, fault: &Fault) -> Result<Fault, AllocError>
         Fault::Final(name) => Fault::Final(name.copy()?),
         Fault::UnknownAction(name) => Fault::UnknownAction(name.copy()?),
         Fault::ActionFailed(text) => Fault::ActionFailed(text.copy()?),
+        _ => Fault::OutOfMemory,
+    })
+}
+
+/// An equal fault, of those with a number from 43 to 53.
+fn copy_below_54(fault: &Fault) -> Result<Fault, AllocError>
+    ensures { IfOk result (λ copied.
+        43 ≤ fault_number fault.now → fault_number fault.now < 54 → copied ≡ fault.now) }
+{
+    Ok(match fault {
         Fault::BadArgument(task, name) => Fault::BadArgument(task.copy()?, name.copy()?),
         Fault::UnknownProject(text) => Fault::UnknownProject(text.copy()?),
         Fault::DuplicateTask(task) => Fault::DuplicateTask(task.copy()?),
@@ -215,9 +231,10 @@ fn copy_below_54(alloc: Global, fault: &Fault) -> Result<Fault, AllocError>
     })
 }
 
-/// An equal fault, of those with a number above 53.
-fn copy_others(alloc: Global, fault: &Fault) -> Result<Fault, AllocError>
-    ensures { IfOk result (λ copied. 54 ≤ fault_number fault.now → copied ≡ fault.now) }
+/// An equal fault, of those with a number from 54 to 60.
+fn copy_below_61(alloc: Global, fault: &Fault) -> Result<Fault, AllocError>
+    ensures { IfOk result (λ copied.
+        54 ≤ fault_number fault.now → fault_number fault.now < 61 → copied ≡ fault.now) }
 {
     Ok(match fault {
         Fault::UnknownProperty(name) => Fault::UnknownProperty(name.copy()?),
@@ -230,20 +247,43 @@ fn copy_others(alloc: Global, fault: &Fault) -> Result<Fault, AllocError>
         Fault::TooMany(what) => Fault::TooMany(*what),
         Fault::UnknownOutput(task, text) => Fault::UnknownOutput(task.copy()?, text.copy()?),
         Fault::Cycle(tasks) => Fault::Cycle(tasks.copy(alloc)?),
-        Fault::OverlappingOutputs(task, other, place) => Fault::OverlappingOutputs(
-            task.copy()?,
-            other.copy()?,
-            place.copy()?,
-        ),
-        Fault::UndeclaredDependency(task, other, place) => Fault::UndeclaredDependency(
-            task.copy()?,
-            other.copy()?,
-            place.copy()?,
-        ),
+        _ => Fault::OutOfMemory,
+    })
+}
+
+fn copy_both(task: &TaskPath, other: &TaskPath) -> Result<(TaskPath, TaskPath), AllocError>
+    ensures { IfOk result (λ copied. copied ≡ (task.now, other.now)) }
+{
+    Ok((task.copy()?, other.copy()?))
+}
+
+/// An equal fault, of those with a number from 61 to 63.
+fn copy_below_64(fault: &Fault) -> Result<Fault, AllocError>
+    ensures { IfOk result (λ copied.
+        61 ≤ fault_number fault.now → fault_number fault.now < 64 → copied ≡ fault.now) }
+{
+    Ok(match fault {
+        Fault::OverlappingOutputs(task, other, place) => {
+            let tasks = copy_both(task, other)?;
+            Fault::OverlappingOutputs(tasks.0, tasks.1, place.copy()?)
+        }
+        Fault::UndeclaredDependency(task, other, place) => {
+            let tasks = copy_both(task, other)?;
+            Fault::UndeclaredDependency(tasks.0, tasks.1, place.copy()?)
+        }
         Fault::OwnOutputAsInput(task, place) => Fault::OwnOutputAsInput(
             task.copy()?,
             place.copy()?,
         ),
+        _ => Fault::OutOfMemory,
+    })
+}
+
+/// An equal fault, of those with a number above 63.
+fn copy_others(fault: &Fault) -> Result<Fault, AllocError>
+    ensures { IfOk result (λ copied. 64 ≤ fault_number fault.now → copied ≡ fault.now) }
+{
+    Ok(match fault {
         Fault::NoTasks => Fault::NoTasks,
         Fault::BadPattern(text) => Fault::BadPattern(text.copy()?),
         Fault::DuplicateInput(name, path) => Fault::DuplicateInput(name.copy()?, path.copy()?),
@@ -263,7 +303,40 @@ impl fmt::Display for Fault {
     ghost output = { λ f. Some (fault_text f) };
 
     fn fmt<W: fmt::Write>(&self, f: &mut fmt::Formatter<W>) -> fmt::Result {
-        match self {
+        let number = self.number();
+        if number < 30 {
+            fmt::Display::fmt(&Below30 { fault: self }, f)
+        } else if number < 54 {
+            fmt::Display::fmt(&Below54 { fault: self }, f)
+        } else if number < 61 {
+            fmt::Display::fmt(&Below61 { fault: self }, f)
+        } else {
+            fmt::Display::fmt(&Others { fault: self }, f)
+        }
+    }
+}
+
+/// Told as it is shown.
+impl fmt::Debug for Fault {
+    fn fmt<W: fmt::Write>(&self, f: &mut fmt::Formatter<W>) -> fmt::Result {
+        fmt::Display::fmt(self, f)
+    }
+}
+
+/// A fault with a number below 30. Of any other it tells nothing.
+#[derive(Clone, Copy)]
+struct Below30<'a> {
+    fault: &'a Fault,
+}
+
+impl<'a> fmt::Display for Below30<'a> {
+    ghost use Rattle.std.specs.Prelude.{Some};
+    ghost use Rattle.gb_report.specs.Fault.{text_within};
+
+    ghost output = { λ b. Some (text_within 0 30 b.fault.now) };
+
+    fn fmt<W: fmt::Write>(&self, f: &mut fmt::Formatter<W>) -> fmt::Result {
+        match self.fault {
             Fault::BadName(text) => write!(f, "1 bad name {}", Shown { text }),
             Fault::BadPlace(text) => write!(f, "2 bad place {}", Shown { text }),
             Fault::OutOfMemory => write!(f, "3 out of memory"),
@@ -276,6 +349,25 @@ impl fmt::Display for Fault {
             Fault::TooLong(script) => write!(f, "21 too long {script}"),
             Fault::TooDeep(script, line) => write!(f, "22 too deep {script}:{line}"),
             Fault::NotUtf8(script) => write!(f, "23 not UTF-8 {script}"),
+            _ => Ok(()),
+        }
+    }
+}
+
+/// A fault with a number from 30 to 53. Of any other it tells nothing.
+#[derive(Clone, Copy)]
+struct Below54<'a> {
+    fault: &'a Fault,
+}
+
+impl<'a> fmt::Display for Below54<'a> {
+    ghost use Rattle.std.specs.Prelude.{Some};
+    ghost use Rattle.gb_report.specs.Fault.{text_within};
+
+    ghost output = { λ b. Some (text_within 30 54 b.fault.now) };
+
+    fn fmt<W: fmt::Write>(&self, f: &mut fmt::Formatter<W>) -> fmt::Result {
+        match self.fault {
             Fault::Circular(names) => write!(f, "30 circular {}", Names { names }),
             Fault::UnknownTransform(name) => write!(f, "31 unknown transform {name}"),
             Fault::BadArguments(name) => write!(f, "32 bad arguments {name}"),
@@ -289,6 +381,25 @@ impl fmt::Display for Fault {
             Fault::DuplicateTask(task) => write!(f, "51 duplicate task {task}"),
             Fault::TaskNotFound(text) => write!(f, "52 task not found {}", Shown { text }),
             Fault::DuplicateProperty(name) => write!(f, "53 duplicate property {name}"),
+            _ => Ok(()),
+        }
+    }
+}
+
+/// A fault with a number from 54 to 60. Of any other it tells nothing.
+#[derive(Clone, Copy)]
+struct Below61<'a> {
+    fault: &'a Fault,
+}
+
+impl<'a> fmt::Display for Below61<'a> {
+    ghost use Rattle.std.specs.Prelude.{Some};
+    ghost use Rattle.gb_report.specs.Fault.{text_within};
+
+    ghost output = { λ b. Some (text_within 54 61 b.fault.now) };
+
+    fn fmt<W: fmt::Write>(&self, f: &mut fmt::Formatter<W>) -> fmt::Result {
+        match self.fault {
             Fault::UnknownProperty(name) => write!(f, "54 unknown property {name}"),
             Fault::BadShape(task) => write!(f, "55 bad shape {task}"),
             Fault::OutputOutsideBuild(task, place) => {
@@ -300,6 +411,25 @@ impl fmt::Display for Fault {
                 write!(f, "59 unknown output {task} {}", Shown { text })
             }
             Fault::Cycle(tasks) => write!(f, "60 cycle {}", Tasks { tasks }),
+            _ => Ok(()),
+        }
+    }
+}
+
+/// A fault with a number above 60. Of any other it tells nothing.
+#[derive(Clone, Copy)]
+struct Others<'a> {
+    fault: &'a Fault,
+}
+
+impl<'a> fmt::Display for Others<'a> {
+    ghost use Rattle.std.specs.Prelude.{Some};
+    ghost use Rattle.gb_report.specs.Fault.{text_within};
+
+    ghost output = { λ b. Some (text_within 61 97 b.fault.now) };
+
+    fn fmt<W: fmt::Write>(&self, f: &mut fmt::Formatter<W>) -> fmt::Result {
+        match self.fault {
             Fault::OverlappingOutputs(task, other, place) => {
                 write!(f, "61 overlapping outputs {task} {other} {place}")
             }
@@ -317,6 +447,7 @@ impl fmt::Display for Fault {
             Fault::OwnState(place) => write!(f, "94 own state {place}"),
             Fault::BadLine(line) => write!(f, "95 bad line {line}"),
             Fault::Usage => write!(f, "96 usage"),
+            _ => Ok(()),
         }
     }
 }

@@ -12,5 +12,3 @@ pub mod fault;
 pub mod laws;
 pub mod render;
 pub mod report;
-#[cfg(test)]
-mod tests;

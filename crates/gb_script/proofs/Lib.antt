@@ -5,7 +5,6 @@ pub mod Cuts
 pub mod Pieces
 pub mod Loop
 pub mod Steps
-pub mod Files
 pub mod Readers
 pub mod Singles
 pub mod Opens

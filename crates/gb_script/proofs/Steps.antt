@@ -1,14 +1,40 @@
 -- The steps that have a value of their own, read one part after the other.
-use Rattle.std.proofs.Common.{◌≡◌, ℕ, suc, ◌+◌, List, Ok, refl, ap, ◌∙◌, arith}
+use Rattle.std.proofs.Common.{◌≡◌, ℕ, suc, ◌+◌, Bool, List, Result, Ok, Err, refl, ap, ◌∙◌, arith}
+use Rattle.gb_script.specs.declared.stop.Fault.{Fault}
 use Rattle.gb_script.specs.declared.stop.Stop.{Stop}
 use Rattle.gb_script.specs.declared.stop.Stop.TheVariants as stops
 use Rattle.gb_script.specs.declared.token.Sign.TheVariants.{OpenParen, CloseParen, Comma}
 use Rattle.gb_script.specs.declared.token.Token.{Token}
 use Rattle.gb_script.specs.declared.function.Function.{Function}
 use Rattle.gb_script.specs.declared.words.StepWord.TheVariants as steps
-use Rattle.gb_script.specs.Tree.{Tree, ZipBy, Else}
-use Rattle.gb_script.specs.Reading.{Fails, is_sign, skip_at, open_at, past_at}
-use Rattle.gb_script.specs.Readers.{function_at, link_of_at, inside_at, tree_at}
+use Rattle.gb_script.specs.Tree.{Tree, Link, ZipBy, Else}
+use Rattle.gb_script.specs.Reading.{◌>>=◌, Fails, is_sign, skip_at, open_at, past_at, closed_at}
+use Rattle.gb_script.specs.Readers.{function_at, zip_from, link_of_at, inside_at, tree_at}
+
+abbrev with_rest : {A : Type 0} → A → List Token → Result (A × List Token) Fault
+with_rest a rest = Ok (a, rest)
+
+-- the token that passes the test, behind what was read
+abbrev closed : {A : Type 0} → (Token → Bool) → A × List Token → Result (A × List Token) Fault
+closed test x = skip_at test x.1 >>= with_rest x.0
+
+abbrev behind : Tree → Function × List Token → Result ((Tree × Function) × List Token) Fault
+behind tree x = Ok ((tree, x.0), x.1)
+
+abbrev zipped : (Tree × Function) × List Token → Result (Link × List Token) Fault
+zipped x = Ok (zip_from x.0, x.1)
+
+abbrev zipped_to : Tree → Function × List Token → Result (Link × List Token) Fault
+zipped_to tree x = Ok (ZipBy tree x.0, x.1)
+
+closed_of : (tree : Tree) (function : Function) (s : Result (List Token) Fault) → (s >>= with_rest (ZipBy tree function)) ≡ ((s >>= with_rest function) >>= zipped_to tree)
+closed_of tree function (Ok rest) = refl
+closed_of tree function (Err e) = refl
+
+-- the tree that was read before is put to the function that is read behind it
+zip_of : (tree : Tree) (test : Token → Bool) (x : Result (Function × List Token) Fault) → (((x >>= behind tree) >>= zipped) >>= closed test) ≡ ((x >>= closed test) >>= zipped_to tree)
+zip_of tree test (Ok y) = closed_of tree y.0 (skip_at test y.1)
+zip_of tree test (Err e) = refl
 
 module _ (room inner : ℕ) (ts rest after : List Token) (tree : Tree) (begun : open_at OpenParen room ts ≡ Ok (inner, rest)) (more : inner + 1 ≡ room) (read : tree_at inner rest ≡ Ok (tree, after)) where
   inside : inside_at room rest ≡ Ok (tree, after)
@@ -23,23 +49,11 @@ module _ (room inner : ℕ) (ts rest after : List Token) (tree : Tree) (begun : 
   unfolding link_of_at
   else_is end closed = rw (begun, inside, closed) refl
 
-  pub zip_alone : (e : Stop) → Fails e (skip_at (is_sign Comma) after) → Fails e (link_of_at room (inside_at room) steps.Zip ts)
-  unfolding link_of_at past_at
+  pub zip_alone : (e : Stop) → Fails e (closed_at (is_sign CloseParen) (past_at (is_sign Comma) (function_at inner)) after) → Fails e (link_of_at room (inside_at room) steps.Zip ts)
+  unfolding link_of_at
   zip_alone stops.Memory fails = tt
-  zip_alone (stops.Fault f) fails = rw (begun, inside, fails) refl
+  zip_alone (stops.Fault f) fails = rw (begun, inside, zip_of tree (is_sign CloseParen) (past_at (is_sign Comma) (function_at inner) after), fails) refl
 
-  module _ (second : List Token) (parted : skip_at (is_sign Comma) after ≡ Ok second) where
-    pub zip_without : (e : Stop) → Fails e (function_at inner second) → Fails e (link_of_at room (inside_at room) steps.Zip ts)
-    unfolding link_of_at past_at
-    zip_without stops.Memory fails = tt
-    zip_without (stops.Fault f) fails = rw (begun, inside, parted, fails) refl
-
-    module _ (function : Function) (last : List Token) (found : function_at inner second ≡ Ok (function, last)) where
-      pub zip_open : (e : Stop) → Fails e (skip_at (is_sign CloseParen) last) → Fails e (link_of_at room (inside_at room) steps.Zip ts)
-      unfolding link_of_at past_at
-      zip_open stops.Memory fails = tt
-      zip_open (stops.Fault f) fails = rw (begun, inside, parted, found, fails) refl
-
-      pub zip_is : (end : List Token) → skip_at (is_sign CloseParen) last ≡ Ok end → link_of_at room (inside_at room) steps.Zip ts ≡ Ok (ZipBy tree function, end)
-      unfolding link_of_at past_at
-      zip_is end closed = rw (begun, inside, parted, found, closed) refl
+  pub zip_is : (function : Function) (end : List Token) → closed_at (is_sign CloseParen) (past_at (is_sign Comma) (function_at inner)) after ≡ Ok (function, end) → link_of_at room (inside_at room) steps.Zip ts ≡ Ok (ZipBy tree function, end)
+  unfolding link_of_at
+  zip_is function end found = rw (begun, inside, zip_of tree (is_sign CloseParen) (past_at (is_sign Comma) (function_at inner) after), found) refl

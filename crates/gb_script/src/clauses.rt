@@ -1,11 +1,12 @@
 //! Tokens to the clauses of a task.
-ghost use Rattle.std.specs.Prelude.{◌≡◌, ◌<◌, ◌≤◌, length, IfOk, []};
+ghost use Rattle.std.specs.Prelude.{◌≡◌, ◌<◌, ◌≤◌, length, IfOk, Ok, [], codes};
 ghost use Rattle.gb_script.specs.Lexing.{begins};
 ghost use Rattle.gb_script.specs.Words.{clause_words};
-ghost use Rattle.gb_script.specs.Reading.{Gives, is_sign, no_matter, name_at, property_at, meaning_at, maybe_at, many_at, past_at};
-ghost use Rattle.gb_script.specs.Readers.{in_block, tree_at, bracketed_values_at, call_at, assignment_at, condition_at, input_files_at, order_of_at, run_of_at, clause_of_at, clause_at, block_at};
+ghost use Rattle.gb_script.specs.Reading.{Gives, is_sign, is_word, no_matter, name_at, property_at, meaning_at, maybe_at, many_at, past_at, pair_at};
+ghost use Rattle.gb_script.specs.Readers.{in_block, tree_at, bracketed_values_at, call_at, assignment_at, function_at, condition_at, patterns_at, flags_at, roots_at, input_files_at, order_of_at, run_of_at, clause_of_at, clause_at, block_at};
 
 use crate::expression::{Expression, Expressions};
+use crate::function::Function;
 use crate::reading::{
     begins, function, name, open, patterns, property, said, skip, skip_word, stray, texts,
 };
@@ -14,6 +15,7 @@ use crate::stop::Stop;
 use crate::token::{Sign, Token};
 use crate::values::{expression, expressions};
 use crate::words::{ClauseWord, OrderWord, RunWord, clause_word};
+use gb_core::text::Texts;
 use std::alloc::Global;
 
 /// Values in brackets.
@@ -90,42 +92,109 @@ pub fn property_assignment(
     Ok((Assignment { name, value }, rest))
 }
 
-#[tactic(auto, unfolding(crate::specs::Reading::past_at, crate::specs::Readers::condition_at))]
+/// The function of a test, behind its word.
+#[tactic(auto, unfolding(crate::specs::Reading::past_at))]
+fn test(alloc: Global, tokens: &[Token], room: u32) -> Result<(Function, &[Token]), Stop>
+    ensures exact { Gives (λ x. (x.0, x.1.now)) result
+        (past_at (is_word (codes "is")) (function_at room) tokens.now) }
+    ensures shorter { IfOk result (λ x. length x.1.now < length tokens.now) }
+{
+    function(alloc, skip_word(tokens, "is")?, room)
+}
+
+#[tactic(auto, unfolding(crate::specs::Readers::condition_at))]
 fn condition(alloc: Global, tokens: &[Token], room: u32) -> Result<(Condition, &[Token]), Stop>
     ensures exact { Gives (λ x. (x.0, x.1.now)) result (condition_at room tokens.now) }
     ensures shorter { IfOk result (λ x. length x.1.now < length tokens.now) }
 {
     let (value, rest) = expression(alloc, tokens, room)?;
-    let rest = skip_word(rest, "is")?;
-    let (test, rest) = function(alloc, rest, room)?;
+    let (test, rest) = test(alloc, rest, room)?;
     Ok((Condition { value, test }, rest))
 }
 
-#[tactic(auto, unfolding(crate::specs::Reading::past_at, crate::specs::Readers::flags_at, crate::specs::Readers::roots_at, crate::specs::Readers::input_files_at))]
+/// What is said of the files that a task reads, before their roots.
+#[derive(Clone, Copy)]
+struct Flags {
+    incremental: bool,
+    skip_when_empty: bool,
+    name_only: bool,
+}
+
+#[tactic(auto, unfolding(crate::specs::Readers::flags_at))]
+fn read_flags(tokens: &[Token]) -> (Flags, &[Token])
+    ensures exact { flags_at tokens.now
+        ≡ Ok ((result.0.incremental, (result.0.skip_when_empty, result.0.name_only)), result.1.now) }
+    ensures shorter { length result.1.now ≤ length tokens.now }
+{
+    let (incremental, rest) = said(tokens, "incremental");
+    let (skip_when_empty, rest) = said(rest, "skipWhenEmpty");
+    let (name_only, rest) = said(rest, "nameOnly");
+    (
+        Flags {
+            incremental,
+            skip_when_empty,
+            name_only,
+        },
+        rest,
+    )
+}
+
+/// The patterns that let files in, and those that keep files out.
+#[derive(Drop)]
+struct Patterns {
+    include: Texts,
+    exclude: Texts,
+}
+
+fn both_patterns(alloc: Global, tokens: &[Token]) -> Result<(Patterns, &[Token]), Stop>
+    ensures exact { Gives (λ x. ((x.0.include, x.0.exclude), x.1.now)) result
+        (pair_at (patterns_at (codes "include")) (patterns_at (codes "exclude")) tokens.now) }
+    ensures shorter { IfOk result (λ x. length x.1.now ≤ length tokens.now) }
+{
+    let (include, rest) = patterns(alloc, tokens, "include")?;
+    let (exclude, rest) = patterns(alloc, rest, "exclude")?;
+    Ok((Patterns { include, exclude }, rest))
+}
+
+/// The roots of the files that a task reads, and the patterns of those files.
+#[derive(Drop)]
+struct Roots {
+    from: Expressions,
+    patterns: Patterns,
+}
+
+/// What stands behind the word before the roots, and that word.
+#[tactic(auto, unfolding(crate::specs::Reading::past_at, crate::specs::Readers::roots_at))]
+fn read_roots(alloc: Global, tokens: &[Token], room: u32) -> Result<(Roots, &[Token]), Stop>
+    ensures exact { Gives (λ x. ((x.0.from, (x.0.patterns.include, x.0.patterns.exclude)), x.1.now)) result
+        (past_at (is_word (codes "from")) (roots_at room) tokens.now) }
+    ensures shorter { IfOk result (λ x. length x.1.now < length tokens.now) }
+{
+    let rest = skip_word(tokens, "from")?;
+    let (from, rest) = expressions(alloc, rest, room)?;
+    let (patterns, rest) = both_patterns(alloc, rest)?;
+    let from = Expressions::new(from);
+    Ok((Roots { from, patterns }, rest))
+}
+
+#[tactic(auto, unfolding(crate::specs::Readers::input_files_at))]
 fn input_files(alloc: Global, tokens: &[Token], room: u32) -> Result<(InputFiles, &[Token]), Stop>
     ensures exact { Gives (λ x. (x.0, x.1.now)) result (input_files_at room tokens.now) }
     ensures shorter { IfOk result (λ x. length x.1.now < length tokens.now) }
 {
     let (name, rest) = name(tokens)?;
-    let (incremental, rest) = said(rest, "incremental");
-    let (skip_when_empty, rest) = said(rest, "skipWhenEmpty");
-    let (name_only, rest) = said(rest, "nameOnly");
-    let rest = skip_word(rest, "from")?;
-    let (from, rest) = expressions(alloc, rest, room)?;
-    let (include, rest) = patterns(alloc, rest, "include")?;
-    let (exclude, rest) = patterns(alloc, rest, "exclude")?;
-    Ok((
-        InputFiles {
-            name,
-            incremental,
-            skip_when_empty,
-            name_only,
-            from: Expressions::new(from),
-            include,
-            exclude,
-        },
-        rest,
-    ))
+    let (flags, rest) = read_flags(rest);
+    let (roots, rest) = read_roots(alloc, rest, room)?;
+    let files = InputFiles {
+        name,
+        incremental: flags.incremental,
+        skip_when_empty: flags.skip_when_empty,
+        name_only: flags.name_only,
+        from: roots.from,
+        include: roots.patterns.include,
+        exclude: roots.patterns.exclude,
+    };
+    Ok((files, rest))
 }
 
 /// What stands behind a word that sets a task before or after others.

@@ -235,17 +235,28 @@ fn step_of(
     }
 }
 
+/// A function behind a comma, and the bracket that closes behind it.
+#[tactic(auto, unfolding(crate::specs::Reading::past_at))]
+fn last_function(alloc: Global, tokens: &[Token], room: u32) -> Result<(Function, &[Token]), Stop>
+    ensures exact { Gives (λ x. (x.0, x.1.now)) result (closed_at (is_sign Sign.CloseParen)
+        (past_at (is_sign Sign.Comma) (function_at room)) tokens.now) }
+    ensures shorter { IfOk result (λ x. length x.1.now < length tokens.now) }
+{
+    let rest = skip(tokens, Sign::Comma)?;
+    let (function, rest) = function(alloc, rest, room)?;
+    let rest = skip(rest, Sign::CloseParen)?;
+    Ok((function, rest))
+}
+
 #[cycle(reader)]
-#[tactic(auto, unfolding(crate::specs::Readers::link_of_at, crate::specs::Reading::past_at))]
+#[tactic(auto, unfolding(crate::specs::Readers::link_of_at))]
 fn zip(alloc: Global, tokens: &[Token], room: u32) -> Result<(Step, &[Token]), Stop>
     ensures exact { Gives (λ x. (link_of x.0, x.1.now)) result (link_of_at room (inside_at room) StepWord.Zip tokens.now) }
     ensures shorter { IfOk result (λ x. length x.1.now < length tokens.now) }
 {
     let (inner, rest) = open(tokens, Sign::OpenParen, room)?;
     let (other, rest) = expression(alloc, rest, inner)?;
-    let rest = skip(rest, Sign::Comma)?;
-    let (function, rest) = function(alloc, rest, inner)?;
-    let rest = skip(rest, Sign::CloseParen)?;
+    let (function, rest) = last_function(alloc, rest, inner)?;
     Ok((Step::Zip(other, function), rest))
 }
 

@@ -113,3 +113,9 @@ returns-clause-evaluated g c =
     let search = c.loop-at.invariant.search in
     let empty : length c.loop-at.path.items ≡ 0 = omega (arith, c.in_default.ensures.cases.0, c.loop-at.path.ok.0) in
     (search.same, ended_sound _ _ _ _ search empty, search.done empty)
+
+pub circle_from-requires : goal.circle_from-requires
+circle_from-requires g c =
+    let on_path = rw c.in-Some.ensures.items at c.loop-at.invariant.search in
+    let pushed = c.deref-then-is_open.ensures.value ∙ c.in_ok-push-in-Waits.ensures.items in
+    subst (λ (path : List ℕ). (k : ℕ) × (k < length path) × (slice_index path k ≡ c.in-Waits.operand)) (sym pushed) (on_path.listed c.in-Waits.operand c.if-is_open.ensures.open)

@@ -6,7 +6,7 @@ use Rattle.gb_script.specs.Reading.{is_sign, no_matter, past_at}
 use Rattle.gb_script.specs.Readers.{link_at, inside_at, tree_at}
 use Rattle.gb_script.specs.declared.token.Sign.TheVariants.{Comma, Dot}
 use Rattle.gb_script.proofs.Loop.{goes_on, ends, is_done, too_many, pushed, begins_some, one_longer, starts_list, list_fails}
-use Rattle.gb_script.proofs.Steps.{else_open, else_is, zip_alone, zip_without, zip_open, zip_is}
+use Rattle.gb_script.proofs.Steps.{else_open, else_is, zip_alone, zip_is}
 use Rattle.gb_script.proofs.values.+reader.Goals as goal
 
 pub expressions-returns-in_err-first-clause-exact : goal.expressions-returns-in_err-first-clause-exact
@@ -90,20 +90,10 @@ or_else-returns-in_err-rest-clause-exact t c =
 pub or_else-returns-clause-exact : goal.or_else-returns-clause-exact
 or_else-returns-clause-exact t c = else_is c.args.room c.in_ok-inner.inner c.args.tokens.now c.in_ok-inner.rest.now c.in_ok-other.rest.now c.in_ok-other.other c.in_ok-inner.ensures.exact c.in_ok-inner.ensures.room c.in_ok-other.ensures.exact c.in_ok-rest.rest.now c.in_ok-rest.ensures.exact
 
-pub zip-returns-in_err-rest-clause-exact : goal.zip-returns-in_err-rest-clause-exact
-zip-returns-in_err-rest-clause-exact t c =
-    let p = err_from_is_err_and c.from_residual-in_err-rest.result c.from_residual-in_err-rest.ensures.1 in
-    rw (p.1, p.2) (zip_alone c.args.room c.in_ok-inner.inner c.args.tokens.now c.in_ok-inner.rest.now c.in_ok-other.rest.now c.in_ok-other.other c.in_ok-inner.ensures.exact c.in_ok-inner.ensures.room c.in_ok-other.ensures.exact _ c.in_err-rest.ensures.exact)
-
 pub zip-returns-in_err-function-clause-exact : goal.zip-returns-in_err-function-clause-exact
 zip-returns-in_err-function-clause-exact t c =
     let p = err_from_is_err_and c.from_residual-in_err-function.result c.from_residual-in_err-function.ensures.1 in
-    rw (p.1, p.2) (zip_without c.args.room c.in_ok-inner.inner c.args.tokens.now c.in_ok-inner.rest.now c.in_ok-other.rest.now c.in_ok-other.other c.in_ok-inner.ensures.exact c.in_ok-inner.ensures.room c.in_ok-other.ensures.exact c.in_ok-rest.rest.now c.in_ok-rest.ensures.exact _ c.in_err-function.ensures.exact)
-
-pub zip-returns-in_err-rest-2-clause-exact : goal.zip-returns-in_err-rest-2-clause-exact
-zip-returns-in_err-rest-2-clause-exact t c =
-    let p = err_from_is_err_and c.from_residual-in_err-rest-2.result c.from_residual-in_err-rest-2.ensures.1 in
-    rw (p.1, p.2) (zip_open c.args.room c.in_ok-inner.inner c.args.tokens.now c.in_ok-inner.rest.now c.in_ok-other.rest.now c.in_ok-other.other c.in_ok-inner.ensures.exact c.in_ok-inner.ensures.room c.in_ok-other.ensures.exact c.in_ok-rest.rest.now c.in_ok-rest.ensures.exact c.in_ok-function.function c.in_ok-function.rest.now c.in_ok-function.ensures.exact _ c.in_err-rest-2.ensures.exact)
+    rw (p.1, p.2) (zip_alone c.args.room c.in_ok-inner.inner c.args.tokens.now c.in_ok-inner.rest.now c.in_ok-other.rest.now c.in_ok-other.other c.in_ok-inner.ensures.exact c.in_ok-inner.ensures.room c.in_ok-other.ensures.exact _ c.in_err-function.ensures.exact)
 
 pub zip-returns-clause-exact : goal.zip-returns-clause-exact
-zip-returns-clause-exact t c = zip_is c.args.room c.in_ok-inner.inner c.args.tokens.now c.in_ok-inner.rest.now c.in_ok-other.rest.now c.in_ok-other.other c.in_ok-inner.ensures.exact c.in_ok-inner.ensures.room c.in_ok-other.ensures.exact c.in_ok-rest.rest.now c.in_ok-rest.ensures.exact c.in_ok-function.function c.in_ok-function.rest.now c.in_ok-function.ensures.exact c.in_ok-rest-2.rest.now c.in_ok-rest-2.ensures.exact
+zip-returns-clause-exact t c = zip_is c.args.room c.in_ok-inner.inner c.args.tokens.now c.in_ok-inner.rest.now c.in_ok-other.rest.now c.in_ok-other.other c.in_ok-inner.ensures.exact c.in_ok-inner.ensures.room c.in_ok-other.ensures.exact c.in_ok-function.function c.in_ok-function.rest.now c.in_ok-function.ensures.exact

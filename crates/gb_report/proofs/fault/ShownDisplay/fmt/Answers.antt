@@ -5,7 +5,7 @@ use Rattle.std.proofs.lemmas.Iterator.{YieldsList-from_chars, YieldsList-from_ta
 use Rattle.std.proofs.lemmas.Iterator.Consumers.{YieldsList-end}
 use Rattle.std.proofs.lemmas.List.{map-id}
 use Rattle.std.specs.Str.{IsUtf8}
-use Rattle.gb_report.specs.Fault.{shown_character, shown}
+use Rattle.gb_report.specs.Fault.{shown_character}
 use Rattle.gb_report.proofs.fault.ShownDisplay.fmt.Goals as goal
 
 -- one more character

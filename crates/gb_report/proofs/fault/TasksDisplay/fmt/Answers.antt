@@ -1,6 +1,5 @@
-use Rattle.std.proofs.Common.{◌≡◌, rules, ap, refl}
+use Rattle.std.proofs.Common.{rules, refl}
 use Rattle.std.proofs.Output.{has_written_append, has_written_of_eq}
-use Rattle.gb_report.specs.Fault.{row_text}
 use Rattle.gb_report.proofs.Row.{one_more, whole_row}
 use Rattle.gb_report.proofs.fault.TasksDisplay.fmt.Goals as goal
 

@@ -1,12 +1,12 @@
 //! Each call that takes memory, once, and texts from outside.
-use crate::fault::{Fault, Limited};
-use crate::render::{render, render_fault};
-use crate::report::{Outcome, Report, TaskReport, TaskReports};
 use gb_core::name::Name;
 use gb_core::path::TaskPath;
 use gb_core::place::{Place, RelPath};
 use gb_core::tasks::TaskList;
 use gb_core::text::{Text, Texts};
+use gb_report::fault::{Fault, Limited};
+use gb_report::render::{render, render_fault};
+use gb_report::report::{Outcome, Report, TaskReport, TaskReports};
 use std::alloc::{AllocError, Global};
 use std::test::Fail;
 
