@@ -1,7 +1,7 @@
 //! The jobs by name.
 use crate::plans::{Shape, plans};
 use crate::stop::Stop;
-use crate::{kinds, properties, records, trees};
+use crate::{kinds, properties, records, tasks, trees};
 use gb_core::name::Name;
 use gb_kinds::builtin::{Builtin, Run, StoredAction};
 use gb_kinds::files::{copy_files, replace_tokens, sums, word_index};
@@ -41,7 +41,7 @@ pub fn run(
     }
 }
 
-/// Does the job over records or plans.
+/// Does the job over records, plans or tasks.
 fn run_on_tasks(
     alloc: Global,
     job: &str,
@@ -56,6 +56,7 @@ fn run_on_tasks(
         "record" => records::record(alloc, count.unwrap_or(65_536)),
         "plan_chain" => plans(alloc, Shape::Chain, count.unwrap_or(4096)),
         "plan_fan" => plans(alloc, Shape::Fan, count.unwrap_or(4096)),
+        "tasks" => tasks::tasks(alloc, count.unwrap_or(4096)),
         "plan_needs" => plans(alloc, Shape::Needs, count.unwrap_or(4096)),
         _ => run_kind(alloc, job, count, times.unwrap_or(1)),
     }

@@ -20,6 +20,7 @@ mod plans;
 mod properties;
 mod records;
 mod stop;
+mod tasks;
 #[cfg(test)]
 mod tests;
 mod trees;

@@ -6,6 +6,8 @@ use gb_folder::folder::FolderFault;
 use gb_history::fault::RecordFault;
 use gb_provider::fault::{Final, ProviderFault, StepFault, TableFault};
 use gb_records::fault::Unwritten;
+use gb_report::fault::Fault;
+use gb_script::fault::ScriptFault;
 use gb_tree::fault::TreeFault;
 use std::alloc::{AllocError, AllocFailed};
 use std::io;
@@ -49,6 +51,18 @@ impl From<NameFault> for Stop {
 
 impl From<PlaceFault> for Stop {
     fn from(_fault: PlaceFault) -> Stop {
+        Stop::Refused
+    }
+}
+
+impl From<Fault> for Stop {
+    fn from(_fault: Fault) -> Stop {
+        Stop::Refused
+    }
+}
+
+impl From<ScriptFault> for Stop {
+    fn from(_fault: ScriptFault) -> Stop {
         Stop::Refused
     }
 }

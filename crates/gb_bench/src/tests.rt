@@ -23,6 +23,7 @@ fn small_jobs_hold(rt: HostRuntime) -> Result<(), Fail> {
         "plan_chain",
         "plan_fan",
         "plan_needs",
+        "tasks",
         "copy_full",
         "copy_one",
         "sums_full",

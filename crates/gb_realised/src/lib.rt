@@ -7,6 +7,6 @@ pub mod evaluating;
 mod files;
 mod needs;
 mod outputs;
-mod parts;
+pub mod parts;
 mod rows;
 mod values;

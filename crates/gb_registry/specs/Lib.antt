@@ -10,3 +10,4 @@ pub mod Seen
 pub mod Select
 pub mod New
 pub mod Once
+pub mod Read

@@ -9,7 +9,8 @@ ghost use Rattle.gb_registry.specs.Configure.{configure_faults};
 ghost use Rattle.gb_registry.specs.Projects.{absolute, project_paths, root_path, settings_faults};
 ghost use Rattle.gb_registry.specs.References.{lookup_faults, name_faults, reference_faults};
 ghost use Rattle.gb_registry.specs.Said.{paths_of};
-ghost use Rattle.gb_registry.specs.Seen.{said_in};
+ghost use Rattle.gb_registry.specs.Read.{IsRead};
+ghost use Rattle.gb_registry.specs.Seen.{said_in, scripts_in};
 ghost use Rattle.gb_registry.specs.Source.{source_of};
 ghost use Rattle.gb_registry.specs.Tables.{tables_of};
 ghost use Rattle.gb_registry.specs.Select.{default_tasks, defaults_after, is_path, name_word_faults, selected, tasks_named, texts_or_none, word_faults};
@@ -43,27 +44,27 @@ pub struct Registry {
 }
 
 impl Model for Registry {
-    ghost use Rattle.std.specs.Prelude.{◌≡◌};
     ghost use Rattle.std.specs.Coded.{codes};
     ghost use Rattle.gb_script.specs.Coding.{tree_code};
-    ghost use Rattle.gb_registry.specs.Said.{paths_of};
-    ghost use Rattle.gb_registry.specs.Said.{paths_of};
-    ghost use Rattle.gb_registry.specs.Seen.{said_in};
-    ghost use Rattle.gb_registry.specs.Source.{source_of};
-    ghost use Rattle.gb_registry.specs.Tables.{tables_of};
+    ghost use Rattle.gb_registry.specs.Read.{IsRead};
+    ghost use Rattle.gb_registry.specs.Seen.{said_in, scripts_in};
     ghost use Rattle.gb_registry.specs.Source.{Source};
 
     ghost Value = { Source };
 
     ghost coded = { Prim.hlevel (codes, tree_code) };
 
-    ghost invariant = { λ r. r.tasks ≡ paths_of (said_in r.scripts.items) };
-
     ghost view = { λ r. record {
       names = record { projects = r.projects; tasks = r.tasks };
       said = said_in r.scripts.items;
       given = r.given.items;
     } };
+
+    ghost invariant = { λ r. IsRead (record {
+      names = record { projects = r.projects; tasks = r.tasks };
+      said = said_in r.scripts.items;
+      given = r.given.items;
+    }) (scripts_in r.scripts.items) };
 }
 
 impl Registry {
@@ -116,7 +117,8 @@ impl Registry {
 
     /// The scripts with their projects.
     pub fn scripts(&self) -> &[Scripted]
-        ensures { said_in result.now ≡ self.now.said }
+        ensures said { said_in result.now ≡ self.now.said }
+        ensures read { IsRead self.now (scripts_in result.now) }
     {
         self.scripts.as_slice()
     }

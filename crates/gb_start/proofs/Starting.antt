@@ -7,7 +7,7 @@ use Rattle.std.proofs.lemmas.Option.{slice_get-get_or, slice_get_within, get_or_
 use Rattle.std.proofs.lemmas.List.{length-map}
 use Rattle.gb_report.specs.declared.report.Outcome.{Outcome}
 use Rattle.gb_report.specs.declared.report.Outcome.TheVariants as outcomes
-use Rattle.gb_report.specs.Outcome.{is_failed, is_started}
+use Rattle.gb_report.specs.Outcome.{is_executed, is_failed, is_started}
 use Rattle.gb_plan.specs.declared.plan.Planned.{Planned}
 use Rattle.gb_plan.specs.Task.{Path, has_path}
 use Rattle.gb_plan.specs.Graph.{no_repeats, order, needs_in, is_scheduled_in, Reached, start, step}
@@ -16,8 +16,8 @@ use Rattle.gb_meaning.specs.Label.{Moment, some_outcome}
 use Rattle.gb_meaning.specs.Turn as meant
 use Rattle.gb_start.specs.declared.starts.Ending.{Ending}
 use Rattle.gb_start.specs.declared.starts.Ending.TheVariants.{ToCome}
-use Rattle.gb_start.specs.Starts.{Progress, IsCalled, Serves, called, needed, ending_in, ending_of, ended_badly, has_started, has_failed, lacks_need, mark_at, row}
-use Rattle.gb_start.specs.Plans.{AreOfPlan, AreEndings, IsNeeded, StartsByNumber, path_at}
+use Rattle.gb_start.specs.Starts.{Progress, IsCalled, Serves, called, needed, ending_in, ending_of, ended_badly, has_started, has_failed, has_executed, has_executed_need, lacks_need, mark_at, row}
+use Rattle.gb_start.specs.Plans.{AreOfPlan, AreEndings, IsNeeded, NeedsByNumber, StartsByNumber, path_at}
 use Rattle.gb_start.proofs.Marks.{row_known}
 use Rattle.gb_start.proofs.ByNumber.{same_truth, both_true, at_some, some_at, contained, contains_any, any_default, filtered_at, at_filtered, any_flat, path_is, in_order, of_order}
 use Rattle.gb_order.proofs.Edges.{one_number}
@@ -47,6 +47,14 @@ failing outcomes.Skipped = refl
 failing outcomes.NoSource = refl
 failing (outcomes.Failed fault) = refl
 failing outcomes.NotRun = refl
+
+executing : (outcome : Outcome) → is_executed outcome ≡ has_executed (ending_of outcome)
+executing outcomes.Executed = refl
+executing outcomes.UpToDate = refl
+executing outcomes.Skipped = refl
+executing outcomes.NoSource = refl
+executing (outcomes.Failed fault) = refl
+executing outcomes.NotRun = refl
 
 module _ (plan : List Planned) (progress : Progress) (moment : Moment) (some_planned : Planned)
     (once : no_repeats (order plan) ≡ true) (are : AreOfPlan plan progress) (endings : AreEndings plan moment.outcomes progress.endings) where
@@ -110,17 +118,25 @@ module _ (plan : List Planned) (progress : Progress) (moment : Moment) (some_pla
     within : number < length plan
     within = slice_get_within plan number planned here
 
+    -- a need has an outcome of a kind by its path exactly where it has it by its number
+    module _ (test : Outcome → Bool) (ends : Ending → Bool) (agree : (outcome : Outcome) → test outcome ≡ ends (ending_of outcome)) (none_to_come : ends ToCome ≡ false) where
+      of_need : some_outcome test moment (needs_in plan planned.task) ≡ list_any (λ before. ends (ending_in progress.endings before)) (row progress.needs number)
+      of_need = same_truth (some_outcome test moment (needs_in plan planned.task)) (list_any (λ before. ends (ending_in progress.endings before)) (row progress.needs number))
+          (λ h.
+          let found = by_number test ends agree (needs_in plan planned.task) h in
+          contains_any (λ before. ends (ending_in progress.endings before)) (row progress.needs number) found.0
+          ((are.needs.told number found.0 planned here).1 (found.1, (in_filter (is_scheduled_in plan) planned.task.needs (path_at plan found.0) found.2).0)) found.3)
+          (λ h.
+          let found = at_some (λ before. ends (ending_in progress.endings before)) (row progress.needs number) h in
+          let told = (are.needs.told number found.1 planned here).0 (contained (row progress.needs number) found.0 found.1 found.2) in
+          by_path test ends agree none_to_come (needs_in plan planned.task) found.1
+          (into_filter (is_scheduled_in plan) planned.task.needs (path_at plan found.1) told.1 (in_order plan found.1 told.0)) found.3)
+
     lacks : meant.lacks_need plan moment planned ≡ lacks_need progress number
-    lacks = same_truth (meant.lacks_need plan moment planned) (lacks_need progress number)
-        (λ h.
-        let found = by_number meant.has_not_ended_well ended_badly badly (needs_in plan planned.task) h in
-        contains_any (λ before. ended_badly (ending_in progress.endings before)) (row progress.needs number) found.0
-        ((are.needs.told number found.0 planned here).1 (found.1, (in_filter (is_scheduled_in plan) planned.task.needs (path_at plan found.0) found.2).0)) found.3)
-        (λ h.
-        let found = at_some (λ before. ended_badly (ending_in progress.endings before)) (row progress.needs number) h in
-        let told = (are.needs.told number found.1 planned here).0 (contained (row progress.needs number) found.0 found.1 found.2) in
-        by_path meant.has_not_ended_well ended_badly badly refl (needs_in plan planned.task) found.1
-        (into_filter (is_scheduled_in plan) planned.task.needs (path_at plan found.1) told.1 (in_order plan found.1 told.0)) found.3)
+    lacks = of_need meant.has_not_ended_well ended_badly badly refl
+
+    executed : some_outcome is_executed moment (needs_in plan planned.task) ≡ has_executed_need progress number
+    executed = of_need is_executed has_executed executing refl
 
     -- ---- Finalizers
 
@@ -283,3 +299,6 @@ starts_by_number options plan progress moment number planned once are endings he
     ];
   },
 )
+
+pub needs_by_number : NeedsByNumber
+needs_by_number plan progress moment number planned once are endings here = executed plan progress moment planned once are endings number planned here

@@ -1,15 +1,16 @@
 -- The tasks of a plan by number, and that they start by number as they start by path.
 use Rattle.std.specs.Prelude.{ℕ, ◌≡◌, ◌<◌, ◌≤◌, ◌↔◌, ◌⊎◌, true, List, [], length, Contains, IsTrue, Some, slice_get, slice_index_or}
+use Rattle.gb_report.specs.Outcome.{is_executed}
 use Rattle.gb_report.specs.declared.report.Outcome.{Outcome}
 use Rattle.gb_report.specs.declared.report.Options.{Options}
 use Rattle.gb_plan.specs.declared.plan.Planned.{Planned}
 use Rattle.gb_plan.specs.Task.{Path, has_path}
-use Rattle.gb_plan.specs.Graph.{no_repeats, order}
-use Rattle.gb_meaning.specs.Label.{Moment}
+use Rattle.gb_plan.specs.Graph.{no_repeats, order, needs_in}
+use Rattle.gb_meaning.specs.Label.{Moment, some_outcome}
 use Rattle.gb_meaning.specs.Turn as meant
 use Rattle.gb_start.specs.declared.starts.Ending.{Ending}
 use Rattle.gb_start.specs.declared.starts.Ending.TheVariants.{ToCome}
-use Rattle.gb_start.specs.Starts.{Progress, DoesStart, ending_in, ending_of, mark_at, row}
+use Rattle.gb_start.specs.Starts.{Progress, DoesStart, ending_in, ending_of, has_executed_need, mark_at, row}
 
 -- the path of the task of a number
 abbrev pub path_at : List Planned → ℕ → Path
@@ -56,3 +57,12 @@ StartsByNumber =
     → AreEndings plan moment.outcomes progress.endings
     → slice_get plan number ≡ Some planned →
     meant.DoesStart options plan moment planned ↔ DoesStart options.keep_going progress number
+
+-- A need of a task was executed by its path exactly where one was by its number.
+abbrev pub NeedsByNumber : Type 0
+NeedsByNumber =
+    (plan : List Planned) (progress : Progress) (moment : Moment) (number : ℕ) (planned : Planned)
+    → no_repeats (order plan) ≡ true → AreOfPlan plan progress
+    → AreEndings plan moment.outcomes progress.endings
+    → slice_get plan number ≡ Some planned →
+    some_outcome is_executed moment (needs_in plan planned.task) ≡ has_executed_need progress number

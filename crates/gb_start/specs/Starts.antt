@@ -5,7 +5,7 @@ use Rattle.std.specs.Global.{Global}
 use Rattle.gb_report.specs.declared.report.Outcome.{Outcome}
 use Rattle.gb_report.specs.declared.report.Outcome.TheVariants as outcomes
 use Rattle.gb_start.specs.declared.starts.Ending.{Ending}
-use Rattle.gb_start.specs.declared.starts.Ending.TheVariants.{ToCome, Well, Failed, NotRun}
+use Rattle.gb_start.specs.declared.starts.Ending.TheVariants.{ToCome, Executed, Well, Failed, NotRun}
 
 -- rows of numbers, without where they lie
 abbrev pub rows : List (Vec ℕ Global) → List (List ℕ)
@@ -39,13 +39,14 @@ ending_in endings task = slice_index_or endings task ToCome
 abbrev pub ending_of : Outcome → Ending
 ending_of (outcomes.Failed fault) = Failed
 ending_of outcomes.NotRun = NotRun
-ending_of outcomes.Executed = Well
+ending_of outcomes.Executed = Executed
 ending_of outcomes.UpToDate = Well
 ending_of outcomes.Skipped = Well
 ending_of outcomes.NoSource = Well
 
 abbrev pub has_started : Ending → Bool
 has_started ToCome = false
+has_started Executed = true
 has_started Well = true
 has_started Failed = true
 has_started NotRun = false
@@ -57,6 +58,7 @@ has_failed other = false
 -- it failed or was not run
 abbrev pub ended_badly : Ending → Bool
 ended_badly ToCome = false
+ended_badly Executed = false
 ended_badly Well = false
 ended_badly Failed = true
 ended_badly NotRun = true
@@ -64,6 +66,15 @@ ended_badly NotRun = true
 abbrev pub lacks_need : Progress → ℕ → Bool
 lacks_need progress task = list_any (λ before. ended_badly (ending_in progress.endings before))
     (row progress.needs task)
+
+abbrev pub has_executed : Ending → Bool
+has_executed Executed = true
+has_executed other = false
+
+-- a task that it needs was executed
+abbrev pub has_executed_need : Progress → ℕ → Bool
+has_executed_need progress task =
+    list_any (λ before. has_executed (ending_in progress.endings before)) (row progress.needs task)
 
 -- it finalizes a task that was started
 abbrev pub IsCalled : Progress → ℕ → Type 0

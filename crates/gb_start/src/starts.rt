@@ -2,7 +2,7 @@
 ghost use Rattle.std.specs.Prelude.{◌≡◌, ◌<◌, ◌⊎◌, ◌↔◌, ℕ, true, false, length, Contains, IsTrue, IfOk, map, slice_set, vec_len};
 ghost use Rattle.std.specs.List.{list_any};
 ghost use Rattle.gb_report.specs.Outcome.{is_failed, is_started};
-ghost use Rattle.gb_start.specs.Starts.{DoesStart, IsWired, Spreads, ended_badly, ending_in, mark_at, row, rows};
+ghost use Rattle.gb_start.specs.Starts.{DoesStart, IsWired, Spreads, ended_badly, ending_in, has_executed, mark_at, row, rows};
 
 use gb_report::report::Outcome;
 use std::alloc::{AllocError, Global};
@@ -13,7 +13,9 @@ use std::marker::Model;
 pub enum Ending {
     /// Its turn is to come.
     ToCome,
-    /// It was started, and did not fail.
+    /// Its actions ran to their end, or it has none and a task that it needs was executed.
+    Executed,
+    /// It was started, was not executed, and did not fail.
     Well,
     Failed,
     NotRun,
@@ -28,6 +30,8 @@ impl Ending {
     {
         if outcome.is_failed() {
             Ending::Failed
+        } else if outcome.is_executed() {
+            Ending::Executed
         } else if outcome.is_started() {
             Ending::Well
         } else {
@@ -44,7 +48,7 @@ impl Ending {
     fn has_started(self) -> bool
         ensures { result ≡ has_started self }
     {
-        matches!(self, Ending::Well | Ending::Failed)
+        matches!(self, Ending::Executed | Ending::Well | Ending::Failed)
     }
 }
 
@@ -55,6 +59,19 @@ fn some_ended_badly(row: &[usize], endings: &[Ending]) -> bool
 {
     for task in row {
         if matches!(endings[*task], Ending::Failed | Ending::NotRun) {
+            return true;
+        }
+    }
+    false
+}
+
+/// Whether a task of these was executed.
+fn some_executed(row: &[usize], endings: &[Ending]) -> bool
+    requires known { (task : ℕ) → Contains row.now task → task < length endings.now }
+    ensures { result ≡ list_any (λ task. has_executed (ending_in endings.now task)) row.now }
+{
+    for task in row {
+        if matches!(endings[*task], Ending::Executed) {
             return true;
         }
     }
@@ -141,7 +158,7 @@ impl Model for Starts {
 
 impl Starts {
     ghost use Rattle.std.specs.Prelude.{replicate};
-    ghost use Rattle.gb_start.specs.Starts.{IsCalled, Serves, ending_in, ending_of, is_stopping, lacks_need};
+    ghost use Rattle.gb_start.specs.Starts.{IsCalled, Serves, ending_in, ending_of, has_executed_need, is_stopping, lacks_need};
     ghost use Rattle.gb_start.specs.declared.starts.Ending.TheVariants.{ToCome};
 
     /// Before the first turn. Of each task the numbers of those that it needs, all less than its own, and of
@@ -196,6 +213,14 @@ impl Starts {
         ensures { result ≡ lacks_need self.now task }
     {
         some_ended_badly(self.needs[task].as_slice(), self.endings.as_slice())
+    }
+
+    /// Whether a task that it needs was executed. Takes no memory.
+    pub fn has_executed_need(&self, task: usize) -> bool
+        requires known { task < length self.now.needs }
+        ensures { result ≡ has_executed_need self.now task }
+    {
+        some_executed(self.needs[task].as_slice(), self.endings.as_slice())
     }
 
     /// Whether the task is wanted, or finalizes one that was started.

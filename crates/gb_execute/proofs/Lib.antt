@@ -1,0 +1,11 @@
+pub mod Clearly
+pub mod Elsewhere
+pub mod Shut
+pub mod Underway
+pub mod Hearing
+pub mod Counting
+pub mod Ending
+pub mod Knowing
+pub mod Taking
+pub mod Walking
+pub mod Skipping

@@ -1,0 +1,57 @@
+use Rattle.std.proofs.Common.{Bool, true, List, map, sym, ap, subst, ◌∙◌}
+use Rattle.std.specs.List.{AllZip}
+use Rattle.gb_listen.specs.Telling.{AllTold}
+use Rattle.gb_meaning.specs.Events.{State}
+use Rattle.gb_meaning.specs.Turn.{dry_reports, heard_of}
+use Rattle.gb_plan.specs.declared.plan.Planned.{Planned}
+use Rattle.gb_report.specs.declared.report.TaskReport.{TaskReport}
+use Rattle.gb_store.specs.Changes.{ChangesOnly}
+use Rattle.gb_task.specs.Turned.{setting_with}
+use Rattle.gb_execute.specs.Building.{is_of_turns}
+use Rattle.gb_execute.specs.Built.{HasBuilt}
+use Rattle.gb_execute.specs.Failing.{HasFailed, times_blamed}
+use Rattle.gb_execute.specs.Reports.{IsOf}
+use Rattle.gb_execute.proofs.Skipping.{dry_blames, dry_built, dry_of}
+use Rattle.gb_execute.proofs.Hearing.{untold}
+use Rattle.gb_execute.proofs.execute.execute.Goals as goal
+
+pub returns-then-options-clause-of_tasks : goal.returns-then-options-clause-of_tasks
+returns-then-options-clause-of_tasks g c =
+    subst (AllZip IsOf c.args.plan.now) (sym (c.reported.ensures.tasks ∙ c.in_ok-dry_reports.ensures ∙ ap dry_reports c.as_slice-tasks.ensures)) (dry_of c.args.plan.now)
+
+pub returns-then-options-clause-heard : goal.returns-then-options-clause-heard
+returns-then-options-clause-heard g c =
+    let ears = map g.L.TaskListener.ear c.args.listeners.now.items in
+    c.told_is_heard.ensures c.reported.result true ears ears c.reported.ensures.refused
+    (subst (λ (dry : Bool). AllTold (heard_of dry c.reported.result.tasks) true ears ears) (sym c.reported.ensures.dry_run) (untold ears))
+
+pub returns-then-options-clause-device : goal.returns-then-options-clause-device
+returns-then-options-clause-device g c =
+    let F = g.F.Folder in
+    subst (λ (rs : List TaskReport). HasFailed (times_blamed rs) (F.failures c.args.folder.now) (F.failures c.args.folder.now)) (sym (c.reported.ensures.tasks ∙ c.in_ok-dry_reports.ensures ∙ ap dry_reports c.as_slice-tasks.ensures))
+    (dry_blames c.args.plan.now (F.failures c.args.folder.now))
+
+pub returns-then-options-clause-build : goal.returns-then-options-clause-build
+returns-then-options-clause-build g c = λ tells kinds registry_of remembered clear seen agrees tears worth.
+    let F = g.F.Folder in
+    let start = c.args.folder.now in
+    let old : State = record { contents = F.contents start; remembered = remembered; failures = F.failures start } in
+    subst (λ (rs : List TaskReport). HasBuilt (setting_with kinds registry_of (F.may_leave start)) clear seen c.args.options c.args.plan.now old rs (record { contents = F.contents start; failures = F.failures start }))
+    (sym (c.reported.ensures.tasks ∙ c.in_ok-dry_reports.ensures ∙ ap dry_reports c.as_slice-tasks.ensures))
+    (dry_built kinds registry_of (F.may_leave start) clear seen c.args.options c.args.plan.now old c.if-options.true (λ e. (worth e).standing))
+
+pub returns-clause-heard : goal.returns-clause-heard
+returns-clause-heard g c =
+    let ear = g.L.TaskListener.ear in
+    let first = map ear c.args.listeners.now.items in
+    let last = map ear c.take_turns-all_heard.new.listeners.items in
+    c.told_is_heard.ensures c.reported-2.result c.take_turns-all_heard.result first last c.reported-2.ensures.refused
+    (subst (λ (rs : List TaskReport). AllTold (heard_of c.reported-2.result.dry_run rs) c.take_turns-all_heard.result first last) (sym c.reported-2.ensures.tasks)
+    (subst (λ (dry : Bool). AllTold (heard_of dry c.take_turns-all_heard.new.reports.items) c.take_turns-all_heard.result first last) (sym c.reported-2.ensures.dry_run)
+    c.take_turns-all_heard.ensures.heard))
+
+pub returns-clause-changes : goal.returns-clause-changes
+returns-clause-changes g c = λ tells.
+    let F = g.F.Folder in
+    subst (λ (ps : List Planned). ChangesOnly (is_of_turns ps) (F.contents c.args.folder.now) (F.contents c.take_turns-all_heard.new.folder)) c.as_slice-tasks.ensures
+    (c.take_turns-all_heard.ensures.changes tells)

@@ -1,0 +1,52 @@
+use Rattle.std.proofs.Common.{◌≡◌, ◌≤◌, Bool, false, List, IsTrue, drop, length, map, take}
+use Rattle.std.specs.List.{AllByRecursion, AllZip}
+use Rattle.std.specs.Vec.{vec_capacity}
+use Rattle.std.specs.Vec.Iter.{into_iter_items}
+use Rattle.gb_folder.specs.Files.{Bytes, SameTearing}
+use Rattle.gb_history.specs.Places.{record_place}
+use Rattle.gb_listen.specs.Telling.{AllTold}
+use Rattle.gb_meaning.specs.Headline.{Agrees, TearsAreSeen}
+use Rattle.gb_meaning.specs.Kinds.{Kinds}
+use Rattle.gb_meaning.specs.Memory.{Memory}
+use Rattle.gb_meaning.specs.Turn.{heard_of}
+use Rattle.gb_plan.specs.Graph.{order}
+use Rattle.gb_records.specs.Said.{IsText}
+use Rattle.gb_start.specs.Plans.{AreEndings, AreOfPlan}
+use Rattle.gb_store.specs.Changes.{ChangesOnly}
+use Rattle.gb_task.specs.Turned.{Registering}
+use Rattle.gb_execute.specs.Building.{is_of_turns}
+use Rattle.gb_execute.specs.Built.{AreWorth}
+use Rattle.gb_execute.specs.Failing.{HasFailed, times_blamed}
+use Rattle.gb_execute.specs.Reports.{IsOf}
+use Rattle.gb_execute.proofs.Shut.{HasOwnPlaces}
+use Rattle.gb_execute.proofs.Underway.{IsUnderway, outcome_in}
+use Rattle.gb_execute.proofs.turns.take_turns.Given as goal
+
+abbrev pub invariant-loop-path : goal.invariant-loop-path
+invariant-loop-path g l =
+    let F = g.F.Folder in
+    let ear = g.L.TaskListener.ear in
+    let tasks = l.build.tasks.now in
+    let start = l.fn.folder in
+    let done = take l.index tasks in
+    record {
+      left : into_iter_items l.path-iterator ≡ order (drop l.index tasks);
+      within : l.index ≤ length tasks;
+      room : length tasks ≤ vec_capacity l.reports;
+      long : length l.reports.items ≡ l.index;
+      of_plan : AreOfPlan tasks l.starts;
+      lasting : length l.starts.endings ≡ length tasks;
+      endings : AreEndings tasks (map outcome_in l.reports.items) l.starts.endings;
+      of_tasks : AllZip IsOf done l.reports.items;
+      places : AllByRecursion HasOwnPlaces done;
+      heard : AllTold (heard_of false l.reports.items) l.all_heard (map ear l.fn.listeners.items) (map ear l.listeners.items);
+      count : F.failures start ≤ F.failures l.folder;
+      device : HasFailed (times_blamed l.reports.items) (F.failures start) (F.failures l.folder);
+      tearing : SameTearing (F.may_leave start) (F.may_leave l.folder);
+      changes : IsTrue F.tells → ChangesOnly (is_of_turns done) (F.contents start) (F.contents l.folder);
+      build : IsTrue F.tells → (kinds : Kinds) (registry_of : Registering) (remembered : Memory) (clear : Bool) (seen : List Bytes) → Agrees g.A.Actions.meanings l.build.table.now kinds
+          → TearsAreSeen IsText record_place (F.may_leave start) → (IsTrue clear → AreWorth kinds tasks l.build.records.now seen (F.contents start) remembered)
+          → IsUnderway kinds registry_of (F.may_leave start) clear seen l.build.options tasks
+          (record { contents = F.contents start; remembered = remembered; failures = F.failures start }) done (drop l.index tasks) l.reports.items
+          (record { contents = F.contents l.folder; failures = F.failures l.folder });
+    }

@@ -1,0 +1,4 @@
+pub mod Building
+pub mod Failing
+pub mod Reports
+pub mod Built

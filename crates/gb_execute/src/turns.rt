@@ -1,0 +1,105 @@
+//! The turns of all tasks of a plan.
+ghost use Rattle.std.specs.Prelude.{◌≡◌, ◌≤◌, ◌<◌, ◌+◌, ◌++◌, ◌∷◌, Bool, List, true, false, [], map, length, replicate, IsTrue, vec_len};
+ghost use Rattle.std.specs.List.{AllZip};
+ghost use Rattle.std.specs.Vec.{vec_capacity};
+ghost use Rattle.gb_folder.specs.Files.{Bytes, SameTearing};
+ghost use Rattle.gb_history.specs.Places.{record_place};
+ghost use Rattle.gb_listen.specs.Telling.{AllTold};
+ghost use Rattle.gb_meaning.specs.Events.{State};
+ghost use Rattle.gb_meaning.specs.Headline.{Agrees, TearsAreSeen};
+ghost use Rattle.gb_meaning.specs.Kinds.{Kinds};
+ghost use Rattle.gb_meaning.specs.Memory.{Memory};
+ghost use Rattle.gb_meaning.specs.Turn.{heard_of};
+ghost use Rattle.gb_plan.specs.Graph.{order};
+ghost use Rattle.gb_records.specs.Said.{IsText};
+ghost use Rattle.gb_start.specs.Plans.{AreOfPlan};
+ghost use Rattle.gb_start.specs.declared.starts.Ending.TheVariants.{ToCome};
+ghost use Rattle.gb_store.specs.Changes.{ChangesOnly};
+ghost use Rattle.gb_task.specs.Turned.{Registering, setting_with};
+ghost use Rattle.gb_execute.specs.Building.{CanBuild, is_of_turns};
+ghost use Rattle.gb_execute.specs.Built.{AreWorth, HasBuilt};
+ghost use Rattle.gb_execute.specs.Failing.{HasFailed, times_blamed};
+ghost use Rattle.gb_execute.specs.Reports.{IsOf};
+
+use crate::one::{Build, take_one};
+use gb_action::actions::Actions;
+use gb_case::laws::what_is_read_is_known;
+use gb_core::path::TaskPath;
+use gb_folder::folder::Folder;
+use gb_listen::laws::told_more;
+use gb_listen::listener::TaskListener;
+use gb_report::report::TaskReport;
+use gb_start::starts::Starts;
+use std::alloc::Global;
+
+/// Puts a report behind the others, for which there is room.
+fn push_reserved(reports: &mut Vec<TaskReport>, report: TaskReport)
+    requires { vec_len reports.old < vec_capacity reports.old }
+    ensures items { reports.new.items ≡ reports.old.items ++ report ∷ [] }
+    ensures len { vec_len reports.new ≡ vec_len reports.old + 1 }
+    ensures capacity { vec_capacity reports.old ≤ vec_capacity reports.new }
+{
+    match reports.push(report) {
+        Ok(()) => {}
+        Err(_) => unreachable!(),
+    }
+}
+
+/// Takes the turns of all tasks, in their order, and puts their reports into the room that there is for them.
+/// Tells whether all listeners heard all of it. The paths are those of the tasks.
+pub(crate) fn take_turns<A: Actions, F: Folder, L: TaskListener>(
+    alloc: Global,
+    folder: &mut F,
+    build: &Build<'_, A::Stored>,
+    starts: &mut Starts,
+    paths: Vec<TaskPath>,
+    listeners: &mut Vec<L>,
+    reports: &mut Vec<TaskReport>,
+) -> bool
+    requires can { CanBuild A.meanings build.now.table.now build.now.tasks.now }
+    requires wet { build.now.options.dry_run ≡ false }
+    requires of_plan { AreOfPlan build.now.tasks.now starts.old }
+    requires to_come { starts.old.endings ≡ replicate (length build.now.tasks.now) ToCome }
+    requires each { length build.now.records.now ≡ length build.now.tasks.now }
+    requires paths { paths.items ≡ order build.now.tasks.now }
+    requires none { reports.old.items ≡ [] }
+    requires room { length build.now.tasks.now ≤ vec_capacity reports.old }
+    ensures of_tasks { AllZip IsOf build.now.tasks.now reports.new.items }
+    ensures heard { AllTold (heard_of false reports.new.items) result
+        (map L.ear listeners.old.items) (map L.ear listeners.new.items) }
+    ensures count { F.failures folder.old ≤ F.failures folder.new }
+    ensures device { HasFailed (times_blamed reports.new.items)
+        (F.failures folder.old) (F.failures folder.new) }
+    ensures tearing { SameTearing (F.may_leave folder.old) (F.may_leave folder.new) }
+    ensures changes { IsTrue F.tells
+        → ChangesOnly (is_of_turns build.now.tasks.now) (F.contents folder.old) (F.contents folder.new) }
+    ensures build { IsTrue F.tells → (kinds : Kinds) (registry_of : Registering) (remembered : Memory)
+        (clear : Bool) (seen : List Bytes) → Agrees A.meanings build.now.table.now kinds
+        → TearsAreSeen IsText record_place (F.may_leave folder.old)
+        → (IsTrue clear → AreWorth kinds build.now.tasks.now build.now.records.now seen
+        (F.contents folder.old) remembered)
+        → HasBuilt (setting_with kinds registry_of (F.may_leave folder.old)) clear seen build.now.options
+        build.now.tasks.now
+        (record {
+          contents = F.contents folder.old;
+          remembered = remembered;
+          failures = F.failures folder.old;
+        })
+        reports.new.items
+        (record { contents = F.contents folder.new; failures = F.failures folder.new }) }
+{
+    what_is_read_is_known();
+    told_more();
+    let mut all_heard = true;
+    let mut index = 0;
+    for path in paths {
+        // Records stand of paths of tasks alone, which this shows to be one.
+        let _path = path.as_str();
+        let taken = take_one::<A, F, L>(alloc, folder, build, starts, index, path, listeners);
+        all_heard = all_heard && taken.all_heard;
+        starts.end(index, &taken.report.outcome);
+        push_reserved(reports, taken.report);
+        index += 1;
+    }
+    all_heard
+}

@@ -1,0 +1,22 @@
+-- A task that needs none, and has no actions.
+use Rattle.std.specs.Prelude.{ℕ, Bool, true, false, List, [], ◌∷◌}
+use Rattle.gb_plan.specs.declared.plan.Planned.{Planned}
+use Rattle.gb_plan.specs.declared.task.TaskDeclaration.{TaskDeclaration}
+
+abbrev pub idle : List ℕ → Bool → TaskDeclaration
+idle path runs = record {
+  path = path;
+  runs = runs;
+  is_stale = false;
+  values = [];
+  files = [];
+  outputs = [];
+  actions = [];
+  needs = [];
+  must_run_after = [];
+  finalizers = [];
+}
+
+-- a plan of it alone, which a name selects
+abbrev pub alone : List ℕ → Bool → List Planned
+alone path runs = record { task = idle path runs; word = 0; is_selected = true } ∷ []

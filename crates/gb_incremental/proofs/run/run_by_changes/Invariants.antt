@@ -1,0 +1,31 @@
+use Rattle.std.proofs.Common.{◌≡◌, ◌≤◌, IsTrue}
+use Rattle.std.specs.List.{AllByRecursion}
+use Rattle.std.specs.VecDeque.Iter.{deque_iter_rest}
+use Rattle.gb_action.specs.Files.{Trees}
+use Rattle.gb_folder.specs.Files.{SameTearing}
+use Rattle.gb_plan.specs.Ready.{IsReadyAction}
+use Rattle.gb_plan.specs.Task.{is_output_of}
+use Rattle.gb_store.specs.Changes.{ChangesOnly}
+use Rattle.gb_meaning.specs.Headline.{Agrees}
+use Rattle.gb_meaning.specs.Kinds.{Kinds}
+use Rattle.gb_run.specs.Asking.{IsFullRequest}
+use Rattle.gb_incremental.specs.Asking.{CanGoOn, GoesOn}
+use Rattle.gb_incremental.proofs.Going.{IsGoing}
+use Rattle.gb_incremental.proofs.run.run_by_changes.Given as goal
+
+abbrev pub invariant-loop-action : goal.invariant-loop-action
+invariant-loop-action g l =
+    let contents = g.F.Folder.contents in
+    let left = deque_iter_rest l.action-iterator in
+    record {
+      count : g.F.Folder.failures l.fn.folder ≤ g.F.Folder.failures l.folder;
+      tearing : SameTearing (g.F.Folder.may_leave l.fn.folder) (g.F.Folder.may_leave l.folder);
+      full : IsFullRequest l.task l.fn.files l.fn.changes l.running.request;
+      seen : l.running.seen ≡ l.fn.outputs;
+      ready : AllByRecursion (IsReadyAction g.A.Actions.meanings l.table l.task) left;
+      able : AllByRecursion (CanGoOn g.A.Actions.meanings l.table) left;
+      changes : IsTrue g.F.Folder.tells → ChangesOnly (is_output_of l.task) (contents l.fn.folder) (contents l.folder);
+      went : IsTrue g.F.Folder.tells → (kinds : Kinds) → Agrees g.A.Actions.meanings l.table kinds → (old : Trees)
+          → GoesOn kinds l.task old l.fn.files l.fn.changes l.fn.outputs (contents l.fn.folder).files
+          → IsGoing kinds l.task l.fn.files l.fn.changes (contents l.fn.folder).files left (contents l.folder).files l.lines;
+    }

@@ -1,0 +1,90 @@
+-- What the writer of a task is asked by changes, and what a run by changes goes on from.
+use Rattle.std.specs.Prelude.{◌≡◌, ◌&&◌, Bool, true, false, List, [], map, Ok, Some, IsTrue, bytes_eq, is_some}
+use Rattle.std.specs.List.{filter, list_all, list_any}
+use Rattle.std.specs.FinMap.Entries.{find}
+use Rattle.gb_core.specs.Lists.{byte_order}
+use Rattle.gb_core.specs.declared.value.Value.{Value}
+use Rattle.gb_folder.specs.Files.{Files, is_own}
+use Rattle.gb_action.specs.Changes.{Changes}
+use Rattle.gb_action.specs.Files.{Trees}
+use Rattle.gb_action.specs.Meanings.{Meanings, shape_of}
+use Rattle.gb_action.specs.Replies.{TellsChangesFrom}
+use Rattle.gb_action.specs.Shapes.{target}
+use Rattle.gb_action.specs.declared.output.OutputFiles.{OutputFiles}
+use Rattle.gb_action.specs.declared.reply.Written.{Written}
+use Rattle.gb_action.specs.declared.request.Request.{Request}
+use Rattle.gb_tree.specs.Tree.{files_from}
+use Rattle.gb_plan.specs.Graph.{some_overlap}
+use Rattle.gb_plan.specs.Ready.{Rows}
+use Rattle.gb_plan.specs.Task.{output_places}
+use Rattle.gb_plan.specs.declared.task.Action.{Action}
+use Rattle.gb_plan.specs.declared.task.Output.{Output}
+use Rattle.gb_plan.specs.declared.task.TaskDeclaration.{TaskDeclaration as Task}
+use Rattle.gb_meaning.specs.Kinds.{Kinds, kind_of}
+use Rattle.gb_meaning.specs.Label.{has_one_writer}
+use Rattle.gb_meaning.specs.Made.{made_of, output_named}
+use Rattle.gb_meaning.specs.Memory.{output_files}
+
+-- what is asked by changes, for these arguments
+abbrev pub request_of : Task → Trees → List Changes → List OutputFiles → List Value → Request
+request_of task trees changes outputs args = record {
+  args = args;
+  values = task.values;
+  files = trees;
+  outputs = outputs;
+  changes = record { incremental = true; lists = changes };
+}
+
+-- an output with the files that stand there, by their paths
+abbrev pub seen_of : Files → Output → OutputFiles
+seen_of files output =
+    record { name = output.name; form = output.form; files = files_from files output.place }
+
+-- What stands at the task's outputs was made of old trees, from which the lists tell the changes; the outputs
+-- are seen as they stand, and lie apart.
+pub record GoesOn (kinds : Kinds) (task : Task) (old trees : Trees) (changes : List Changes)
+    (outputs : List OutputFiles) (files : Files) : Type 0 where
+  pub one_writer : IsTrue (has_one_writer kinds task.actions)
+  pub was_made : made_of kinds task.actions task.values old task.outputs ≡ Ok (output_files task files)
+  pub tells : TellsChangesFrom old (request_of task trees changes outputs [])
+  pub stands : outputs ≡ map (seen_of files) task.outputs
+  pub apart : some_overlap (output_places task) ≡ false
+  pub not_own : list_any (λ output. is_own output.place) task.outputs ≡ false
+
+-- ---- Actions
+
+-- the actions that write files
+abbrev pub writers : Kinds → List Action → List Action
+writers kinds actions = filter (λ action. kinds.writes (kind_of action)) actions
+
+-- whatever it is given, the action writes files of its own output alone, and none if its kind writes none
+abbrev pub KeepsToOwn : Kinds → Action → Type 0
+KeepsToOwn kinds action =
+    (args : List Value) (values : _) (trees : Trees) (written : List Written)
+    → kinds.makes (kind_of action) args values trees ≡ Ok written
+    → list_all (λ file. bytes_eq file.output target && kinds.writes (kind_of action)) written ≡ true
+
+-- a task with an action that writes has the output that kinds write
+abbrev pub HasTarget : Kinds → Task → Action → Type 0
+HasTarget kinds task action =
+    kinds.writes (kind_of action) ≡ true → IsTrue (is_some (output_named task.outputs target))
+
+-- what is known of the actions of a task that is ready
+pub record IsFitting (kinds : Kinds) (task : Task) (action : Action) : Type 0 where
+  pub keeps : KeepsToOwn kinds action
+  pub has_target : HasTarget kinds task action
+
+-- what is stored for the action writes files
+abbrev pub writes_stored : {S : Type 0} → Meanings S → S → Bool
+writes_stored meanings stored = is_some (shape_of meanings stored).out
+
+-- what is stored for the action can answer changes
+abbrev pub AnswersChanges : {S : Type 0} → Meanings S → Rows S → Action → Type 0
+AnswersChanges {S = S} meanings rows action =
+    (stored : S) → find byte_order action.kind rows ≡ Some stored → (shape_of meanings stored).incremental ≡ true
+
+-- so it can, if it writes
+abbrev pub CanGoOn : {S : Type 0} → Meanings S → Rows S → Action → Type 0
+CanGoOn {S = S} meanings rows action =
+    (stored : S) → find byte_order action.kind rows ≡ Some stored
+    → writes_stored meanings stored ≡ true → (shape_of meanings stored).incremental ≡ true

@@ -1,0 +1,9 @@
+pub mod Steps
+pub mod Named
+pub mod Texts
+pub mod Stepping
+pub mod Asking
+pub mod Changing
+pub mod Laws
+pub mod Turn
+pub mod Requests

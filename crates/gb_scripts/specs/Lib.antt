@@ -1,0 +1,4 @@
+pub mod Texts
+pub mod Turns
+pub mod Scripts
+pub mod Laws

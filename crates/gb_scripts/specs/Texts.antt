@@ -1,0 +1,43 @@
+-- What the text of a file says in a notation, as that of scripts or that of settings.
+use Rattle.std.specs.Prelude.{ℕ, ◌≡◌, ◌⊎◌, true, false, List, [], Option, None, Some, Result, Ok, Err, MatchResult}
+use Rattle.gb_folder.specs.Files.{Place, Bytes, Files, file_at, is_blocked}
+use Rattle.gb_folder.specs.declared.folder.FolderFault.{FolderFault}
+use Rattle.gb_folder.specs.declared.folder.FolderFault.TheVariants as folders
+use Rattle.gb_report.specs.declared.fault.Fault.{Fault}
+use Rattle.gb_report.specs.declared.fault.Fault.TheVariants as faults
+use Rattle.gb_script.specs.declared.fault.ScriptFault.{ScriptFault}
+use Rattle.gb_script.specs.declared.fault.ScriptFault.TheVariants as scripts
+use Rattle.gb_store.specs.Faults.{IsOfMachine, told_at}
+
+-- a fault of a text, with the place of its file
+abbrev pub in_file : Place → ScriptFault → Fault
+in_file place scripts.OutOfMemory = faults.OutOfMemory
+in_file place (scripts.Syntax line) = faults.Syntax place line
+in_file place scripts.TooLong = faults.TooLong place
+in_file place (scripts.TooDeep line) = faults.TooDeep place line
+in_file place scripts.NotUtf8 = faults.NotUtf8 place
+
+-- a folder's fault where a text is read: a file that is too large is a text that is too long
+abbrev pub unread_at : Place → FolderFault → Fault
+unread_at place folders.TooLarge = faults.TooLong place
+unread_at place other = told_at place other
+
+-- the notation: what bytes say in it, or their fault
+module _ {X : Type 0} (SaysAs : Bytes → Result (List X) ScriptFault → Type 0) where
+  -- what a file at the place says; where there is none, nothing is said
+  abbrev pub FileSays : Place → Option Bytes → Result (List X) Fault → Type 0
+  FileSays place None said = said ≡ Ok []
+  FileSays place (Some bytes) (Ok said) = SaysAs bytes (Ok said)
+  FileSays place (Some bytes) (Err fault) =
+      (told : ScriptFault) × SaysAs bytes (Err told) × (fault ≡ in_file place told)
+
+  -- what the file at the place says, or that another file is in its way
+  abbrev pub TextSays : Files → Place → Result (List X) Fault → Type 0
+  TextSays files place said =
+      ((is_blocked files place ≡ true) × (said ≡ Err (faults.Blocked place)))
+      ⊎ ((is_blocked files place ≡ false) × FileSays place (file_at files place) said)
+
+-- A call tells what is said, or its fault; or why the machine kept it from that, between these counts.
+abbrev pub Tells : {X : Type 0} → (Result X Fault → Type 0) → ℕ → ℕ → Result X Fault → Type 0
+Tells Says before after result =
+    MatchResult result (λ said. Says (Ok said)) (λ fault. IsOfMachine before after fault ⊎ Says (Err fault))

@@ -1,0 +1,21 @@
+pub mod Own
+pub mod Outside
+mod Beside
+pub mod Memories
+mod Turning
+pub mod Parts
+mod Ended
+mod Added
+mod Unwritten
+mod Cleared
+pub mod Recorded
+mod Taken
+mod Steps
+mod Given
+mod Told
+mod Since
+mod Whole
+mod ByChanges
+mod Later
+mod Emptied
+mod Idle

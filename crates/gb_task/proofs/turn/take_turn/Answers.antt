@@ -1,0 +1,62 @@
+use Rattle.std.proofs.Common.{◌≡◌, ◌≤◌, ℕ, Bool, option_copied, sym, subst, ◌∙◌}
+use Rattle.gb_folder.specs.Files.{Contents}
+use Rattle.gb_meaning.specs.Label.{Moment}
+use Rattle.gb_task.specs.Turned.{ComesAt, HasTurned, setting_with}
+use Rattle.gb_task.proofs.Later.{cleared_started, comes_later, copied_some, known_made, run_started, told_turned, turned_before}
+use Rattle.gb_task.proofs.Recorded.{seen_later}
+use Rattle.gb_task.proofs.turn.take_turn.Goals as goal
+
+pub returns-in-Told-clause-blame : goal.returns-in-Told-clause-blame
+returns-in-Told-clause-blame g c = λ place is. (c.in-Told.ensures.of_task.3 place is).0
+
+pub returns-in-Told-clause-turn : goal.returns-in-Told-clause-turn
+returns-in-Told-clause-turn g c = λ tells kinds registry_of plan moment agrees seen at needed known.
+    let F = g.F.Folder in
+    let start = c.args.folder.now in
+    let now = c.settle.new.folder in
+    told_turned kinds registry_of (F.may_leave start) c.args.options plan c.args.task.now _ moment c.in-Told.report (F.contents start) (F.failures start) (F.failures now) (F.contents now) at
+    (c.settle.ensures.same tells) (c.in-Told.ensures.settled tells kinds registry_of plan moment at.folder at.failures needed known)
+
+pub returns-in-Sourceless-clause-turn : goal.returns-in-Sourceless-clause-turn
+returns-in-Sourceless-clause-turn g c = λ tells kinds registry_of plan moment agrees seen at needed known.
+    let F = g.F.Folder in
+    let task = c.args.task.now in
+    let start = c.args.folder.now in
+    let then = c.settle.new.folder in
+    let now = c.take_turn_without_source.new.folder in
+    let same : F.contents then ≡ F.contents start = c.settle.ensures.same tells in
+    let came = comes_later task c.is_some-was_read.result (F.contents start) (F.failures start) moment (F.contents then) (F.failures then) same
+    (subst (λ (b : Bool). ComesAt task b (F.contents start) (F.failures start) moment) (copied_some c.args.last ∙ sym c.is_some-was_read.ensures) at) in
+    let later : Moment = record { world = moment.world; outcomes = moment.outcomes; failures = F.failures then } in
+    turned_before kinds registry_of (F.may_leave start) (F.may_leave then) c.settle.ensures.tearing c.args.options plan task moment (F.failures then)
+    (subst (λ (n : ℕ). n ≤ F.failures then) (sym at.failures) c.settle.ensures.count) c.take_turn_without_source.result (F.contents start) (F.failures now) (F.contents now) c.take_turn_without_source.ensures.count
+    (subst (λ (folder : Contents). HasTurned (setting_with kinds registry_of (F.may_leave then)) c.args.options plan task later c.take_turn_without_source.result folder (F.failures now) (F.contents now)) same
+    (c.take_turn_without_source.ensures.turn tells kinds registry_of c.args.options plan later (seen_later _ _ c.settle.ensures.tearing seen) came
+    (c.in-Sourceless.ensures.settled tells kinds registry_of plan moment at.folder at.failures needed known)))
+
+pub returns-in-Due-clause-turn : goal.returns-in-Due-clause-turn
+returns-in-Due-clause-turn g c = λ tells kinds registry_of plan moment agrees seen at needed known.
+    let F = g.F.Folder in
+    let task = c.args.task.now in
+    let start = c.args.folder.now in
+    let then = c.settle.new.folder in
+    let now = c.run.new.folder in
+    let same : F.contents then ≡ F.contents start = c.settle.ensures.same tells in
+    let came = comes_later task c.is_some-was_read.result (F.contents start) (F.failures start) moment (F.contents then) (F.failures then) same
+    (subst (λ (b : Bool). ComesAt task b (F.contents start) (F.failures start) moment) (copied_some c.args.last ∙ sym c.is_some-was_read.ensures) at) in
+    let later : Moment = record { world = moment.world; outcomes = moment.outcomes; failures = F.failures then } in
+    let due = c.in-Due.ensures.settled tells kinds registry_of plan moment at.folder at.failures needed known in
+    turned_before kinds registry_of (F.may_leave start) (F.may_leave then) c.settle.ensures.tearing c.args.options plan task moment (F.failures then)
+    (subst (λ (n : ℕ). n ≤ F.failures then) (sym at.failures) c.settle.ensures.count) c.run.result (F.contents start) (F.failures now) (F.contents now) c.run.ensures.count
+    (subst (λ (folder : Contents). HasTurned (setting_with kinds registry_of (F.may_leave then)) c.args.options plan task later c.run.result folder (F.failures now) (F.contents now)) same
+    (c.run.ensures.turn tells kinds registry_of c.args.options plan later agrees (seen_later _ _ c.settle.ensures.tearing seen) came due.0 due.1 due.2
+    (known_made kinds task moment.world (option_copied c.args.last) known)))
+
+pub returns-in-Told-clause-started : goal.returns-in-Told-clause-started
+returns-in-Told-clause-started g c = c.in-Told.ensures.of_task.4
+
+pub returns-in-Sourceless-clause-started : goal.returns-in-Sourceless-clause-started
+returns-in-Sourceless-clause-started g c = cleared_started c.take_turn_without_source.result.outcome c.take_turn_without_source.ensures.outcome
+
+pub returns-in-Due-clause-started : goal.returns-in-Due-clause-started
+returns-in-Due-clause-started g c = run_started c.run.result.outcome c.run.ensures.outcome

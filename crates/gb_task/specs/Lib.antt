@@ -1,0 +1,5 @@
+pub mod Reading
+pub mod Keeping
+pub mod Clearing
+pub mod Turned
+pub mod Settled

@@ -1,0 +1,143 @@
+//! A started task's turn.
+ghost use Rattle.std.specs.Prelude.{◌≡◌, ◌≤◌, ◌||◌, ℕ, List, None, Some, false, not, is_some, IsTrue, option_copied};
+ghost use Rattle.std.specs.List.{list_any};
+ghost use Rattle.gb_case.specs.Case.{IsCaseFor, IsKnown};
+ghost use Rattle.gb_case.specs.Turns.{IsRunFor};
+ghost use Rattle.gb_folder.specs.Files.{HasRisen, SameTearing, is_empty, is_own};
+ghost use Rattle.gb_history.specs.Places.{record_place};
+ghost use Rattle.gb_label.specs.Deciding.{HasNamesInOrder};
+ghost use Rattle.gb_meaning.specs.Headline.{Agrees, TearsAreSeen};
+ghost use Rattle.gb_meaning.specs.Kinds.{Kinds};
+ghost use Rattle.gb_meaning.specs.Label.{Moment, early_case, some_outcome};
+ghost use Rattle.gb_meaning.specs.Memory.{Entry, recalled};
+ghost use Rattle.gb_meaning.specs.TrueRecord.{IsMade};
+ghost use Rattle.gb_plan.specs.Graph.{Plan, needs_in, reads_output_of, some_overlap};
+ghost use Rattle.gb_plan.specs.Ready.{IsReady};
+ghost use Rattle.gb_plan.specs.Task.{is_output_of, output_places};
+ghost use Rattle.gb_records.specs.Said.{IsText};
+ghost use Rattle.gb_report.specs.Outcome.{is_executed, is_started};
+ghost use Rattle.gb_report.specs.declared.report.Options.{Options};
+ghost use Rattle.gb_report.specs.declared.report.Outcome.TheVariants.{Failed};
+ghost use Rattle.gb_store.specs.Changes.{ChangesOnly};
+ghost use Rattle.gb_task.specs.Settled.{IsAnsweredAlone};
+ghost use Rattle.gb_task.specs.Turned.{ComesAt, HasTurned, IsToldOf, Registering, is_of_turn, outcome_of, setting_with};
+ghost use Rattle.gb_turn.specs.Reading.{is_input_of};
+
+use crate::changes::take_turn_by_changes;
+use crate::full::take_full_turn;
+use crate::settle::{Settled, settle};
+use crate::sourceless::take_turn_without_source;
+use gb_action::actions::Actions;
+use gb_action::table::ActionTable;
+use gb_core::path::TaskPath;
+use gb_folder::folder::Folder;
+use gb_history::decide::Decision;
+use gb_history::record::Record;
+use gb_incremental::asking::has_one_writer;
+use gb_plan::task::TaskDeclaration;
+use gb_report::fault::Fault;
+use gb_report::report::{Options, TaskReport};
+use std::alloc::Global;
+
+/// Takes the turn of a started task. `last` is the record that was read of it, and `has_executed_need` says
+/// whether a task that it needs was executed in this build; the path is the task's own, so that a report
+/// needs no memory.
+pub fn take_turn<A: Actions, F: Folder>(
+    alloc: Global,
+    folder: &mut F,
+    task: &TaskDeclaration,
+    path: TaskPath,
+    table: &ActionTable<A::Stored>,
+    options: Options,
+    last: Option<&Record>,
+    has_executed_need: bool,
+) -> TaskReport
+    requires ready { IsReady A.meanings table.now task.now }
+    requires in_order { HasNamesInOrder task.now }
+    requires not_own { list_any (λ output. is_own output.place) task.now.outputs ≡ false }
+    requires apart { reads_output_of task.now task.now ≡ false }
+    requires outputs_apart { some_overlap (output_places task.now) ≡ false }
+    requires path { path ≡ task.now.path }
+    ensures path { result.path ≡ task.now.path }
+    ensures has_actions { result.has_actions ≡ not (is_empty task.now.actions) }
+    ensures count { F.failures folder.old ≤ F.failures folder.new }
+    ensures blame { (place : List ℕ) → result.outcome ≡ Failed (Fault.Device place)
+        → HasRisen (F.failures folder.old) (F.failures folder.new) }
+    ensures blamed { (place : List ℕ) → result.outcome ≡ Failed (Fault.Device place)
+        → IsTrue (is_input_of task.now place || is_output_of task.now place) }
+    ensures tearing { SameTearing (F.may_leave folder.old) (F.may_leave folder.new) }
+    ensures started { IsTrue (is_started result.outcome) }
+    // Over any folder: what is skipped or has no actions is told so.
+    ensures alone { IsAnsweredAlone task.now.runs (is_empty task.now.actions) has_executed_need
+        result.outcome }
+    ensures changes { IsTrue F.tells
+        → ChangesOnly (is_of_turn task.now) (F.contents folder.old) (F.contents folder.new) }
+    // Where what was read of the task is known of it, this is its turn.
+    ensures turn { IsTrue F.tells → (kinds : Kinds) (registry_of : Registering) (plan : Plan)
+        (moment : Moment) → Agrees A.meanings table.now kinds
+        → TearsAreSeen IsText record_place (F.may_leave folder.old)
+        → ComesAt task.now (is_some (option_copied last.entry)) (F.contents folder.old)
+        (F.failures folder.old) moment
+        → some_outcome is_executed moment (needs_in plan task.now) ≡ has_executed_need
+        → IsKnown kinds task.now moment.world (option_copied last.entry)
+        → HasTurned (setting_with kinds registry_of (F.may_leave folder.old)) options plan task.now moment
+        result (F.contents folder.old) (F.failures folder.new) (F.contents folder.new) }
+{
+    let was_read = last.is_some();
+    match settle(alloc, folder, task, path, options, last, has_executed_need) {
+        Settled::Told(report) => report,
+        Settled::Sourceless(path) => take_turn_without_source(alloc, folder, task, path, was_read),
+        Settled::Due(path, decision) => {
+            run::<A, F>(alloc, folder, task, path, table, decision, was_read)
+        }
+    }
+}
+
+/// Runs a task that is due: by the changes that were decided, where one action writes and can answer them, or
+/// else in full.
+fn run<A: Actions, F: Folder>(
+    alloc: Global,
+    folder: &mut F,
+    task: &TaskDeclaration,
+    path: TaskPath,
+    table: &ActionTable<A::Stored>,
+    decision: Decision,
+    was_read: bool,
+) -> TaskReport
+    requires ready { IsReady A.meanings table.now task.now }
+    requires in_order { HasNamesInOrder task.now }
+    requires not_own { list_any (λ output. is_own output.place) task.now.outputs ≡ false }
+    requires apart { reads_output_of task.now task.now ≡ false }
+    requires outputs_apart { some_overlap (output_places task.now) ≡ false }
+    requires path { path ≡ task.now.path }
+    ensures path { result.path ≡ task.now.path }
+    ensures has_actions { result.has_actions ≡ not (is_empty task.now.actions) }
+    ensures outcome { IsToldOf outcome_of result.outcome }
+    ensures count { F.failures folder.old ≤ F.failures folder.new }
+    ensures blame { (place : List ℕ) → result.outcome ≡ Failed (Fault.Device place)
+        → HasRisen (F.failures folder.old) (F.failures folder.new) }
+    ensures blamed { (place : List ℕ) → result.outcome ≡ Failed (Fault.Device place)
+        → IsTrue (is_input_of task.now place || is_output_of task.now place) }
+    ensures tearing { SameTearing (F.may_leave folder.old) (F.may_leave folder.new) }
+    ensures changes { IsTrue F.tells
+        → ChangesOnly (is_of_turn task.now) (F.contents folder.old) (F.contents folder.new) }
+    ensures turn { IsTrue F.tells → (kinds : Kinds) (registry_of : Registering) (options : Options)
+        (plan : Plan) (moment : Moment) → Agrees A.meanings table.now kinds
+        → TearsAreSeen IsText record_place (F.may_leave folder.old)
+        → ComesAt task.now was_read (F.contents folder.old) (F.failures folder.old) moment
+        → early_case task.now moment.world.folder ≡ None
+        → IsCaseFor kinds options task.now moment.world decision
+        → IsRunFor kinds options task.now moment.world decision
+        → ((entry : Entry) → recalled moment.world.memory task.now.path ≡ Some entry → IsMade kinds entry)
+        → HasTurned (setting_with kinds registry_of (F.may_leave folder.old)) options plan task.now moment
+        result (F.contents folder.old) (F.failures folder.new) (F.contents folder.new) }
+{
+    if let Decision::Incremental(changes) = decision {
+        if has_one_writer::<A>(table, task) {
+            return take_turn_by_changes::<A, F>(
+                alloc, folder, task, path, table, changes, was_read,
+            );
+        }
+    }
+    take_full_turn::<A, F>(alloc, folder, task, path, table, was_read)
+}

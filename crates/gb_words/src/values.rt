@@ -1,0 +1,82 @@
+//! The values of properties that a command line gives.
+ghost use Rattle.std.specs.Prelude.{◌≡◌, ◌≢◌, ◌≤◌, IfErr, IfOk, IsTrue, OnOk, All, AllPairs, length};
+ghost use Rattle.std.specs.BTreeMap.{insert_entry};
+ghost use Rattle.std.specs.List.{flat_map};
+ghost use Rattle.gb_core.specs.Lists.{byte_order};
+ghost use Rattle.gb_core.specs.Name.{is_name};
+ghost use Rattle.gb_words.specs.Faults.{IsOfWords, TellsFirst};
+ghost use Rattle.gb_words.specs.Values.{AreLast, IsLastOf, name_in, names_of, part, part_faults};
+ghost use Rattle.gb_words.specs.Values.{texts_behind, value_in, values_faults};
+
+use gb_core::name::{Name, NameFault};
+use gb_core::text::Text;
+use gb_meaning::events::Properties;
+use gb_report::fault::{Fault, Limited};
+use std::alloc::Global;
+use std::collections::BTreeMap;
+
+/// The most values that a command line gives.
+const MOST_VALUES: usize = 256;
+
+/// The values that the texts `NAME=VALUE` give: of each name its last one. They stand in the order of their
+/// names, whatever the order of the texts.
+/// Refused where there are too many texts (58), or else with the first name that is none (1).
+pub fn properties(alloc: Global, texts: &[&str]) -> Result<Properties, Fault>
+    ensures last { IfOk result (AreLast (texts_behind texts.now)) }
+    ensures faults { TellsFirst (values_faults (texts_behind texts.now)) result }
+    ensures only { IfErr result IsOfWords }
+    ensures most { IfOk result (λ given. length given ≤ 256) }
+    ensures names { IfOk result (λ given. All (λ name. IsTrue (is_name name)) (names_of given)) }
+    ensures once { IfOk result (λ given. AllPairs (λ one other. one ≢ other) (names_of given)) }
+{
+    if texts.len() > MOST_VALUES {
+        return Err(Fault::TooMany(Limited::Values));
+    }
+    let given = by_name(alloc, texts)?;
+    let entries = given.into_iter().collect(alloc)?;
+    Ok(Properties::from_vec(entries))
+}
+
+/// The values by their names, the last of each.
+fn by_name(alloc: Global, texts: &[&str]) -> Result<BTreeMap<Name, Text>, Fault>
+    ensures last { IfOk result (λ given. IsLastOf (texts_behind texts.now) given.entries) }
+    ensures faults { TellsFirst (flat_map part_faults (texts_behind texts.now)) result }
+    ensures only { IfErr result IsOfWords }
+    ensures most { IfOk result (λ given. length given.entries ≤ length texts.now) }
+    ensures names { IfOk result (λ given. All (λ name. IsTrue (is_name name)) (names_of given.entries)) }
+{
+    let mut given = BTreeMap::new(alloc);
+    for text in texts {
+        put(alloc, &mut given, text)?;
+    }
+    Ok(given)
+}
+
+/// Puts the value of a text by its name, in place of the one that stands there.
+fn put(alloc: Global, given: &mut BTreeMap<Name, Text>, text: &str) -> Result<(), Fault>
+    ensures put { OnOk result (given.new.entries
+        ≡ insert_entry byte_order given.old.entries (name_in text.now) (value_in text.now)) }
+    ensures name { OnOk result (IsTrue (is_name (name_in text.now))) }
+    ensures faults { TellsFirst (part_faults text.now) result }
+    ensures only { IfErr result IsOfWords }
+{
+    let (name, value) = parted(alloc, text)?;
+    given.insert(name, value)?;
+    Ok(())
+}
+
+/// The name in front of the first `=` and the value behind it; without one the value is empty.
+fn parted(alloc: Global, text: &str) -> Result<(Name, Text), Fault>
+    ensures parted { IfOk result (λ parted. parted ≡ part text.now) }
+    ensures name { OnOk result (IsTrue (is_name (name_in text.now))) }
+    ensures faults { TellsFirst (part_faults text.now) result }
+    ensures only { IfErr result IsOfWords }
+{
+    let (name, value) = text.split_once('=').unwrap_or((text, ""));
+    let name = match Name::read(alloc, name) {
+        Ok(name) => name,
+        Err(NameFault::BadName) => return Err(Fault::BadName(Text::from_str(alloc, name)?)),
+        Err(NameFault::OutOfMemory) => return Err(Fault::OutOfMemory),
+    };
+    Ok((name, Text::from_str(alloc, value)?))
+}

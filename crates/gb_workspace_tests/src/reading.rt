@@ -1,0 +1,194 @@
+//! Scripts, read and realised with all kinds and functions that every build has.
+ghost use Rattle.std.specs.Prelude.{◌≡◌, [], IfOk};
+ghost use Rattle.gb_registry.specs.Configure.{configure_faults};
+ghost use Rattle.gb_registry.specs.Tables.{tables_of};
+
+use crate::showing::{push_fault, push_task};
+use gb_action::actions::Actions;
+use gb_answer::builtin_runs;
+use gb_core::name::Name;
+use gb_core::path::TaskPath;
+use gb_core::text::Text;
+use gb_kinds::builtin::Builtin;
+use gb_kinds::function_table::{
+    FunctionTable, add_other_functions, add_part_functions, add_tests, add_text_functions,
+};
+use gb_kinds::functions::{
+    append, child, concat, equals, is_true, join, non_empty, output, split, upper,
+};
+use gb_kinds::stored::{FlatRun, MapRun, TestRun, ZipRun};
+use gb_kinds::table::builtin_table;
+use gb_provider::transforms::Transforms;
+use gb_registry::projects::projects;
+use gb_registry::registry::Registry;
+use gb_registry::tables::Tables;
+use gb_report::fault::Fault;
+use gb_script::script::{Script, Settings};
+use gb_script::{read_script, read_settings};
+use gb_workspace::workspace::Workspace;
+use std::alloc::Global;
+use std::test::Fail;
+
+type Handed<A, T> = Tables<
+    <A as Actions>::Stored,
+    <T as Transforms>::Map,
+    <T as Transforms>::FlatMap,
+    <T as Transforms>::Zip,
+    <T as Transforms>::Test,
+>;
+
+/// The script of the root, that of `:lib`, tasks with blanks between them, and what they come to, one
+/// behind the other, with bars between them.
+pub type Row<'a> = (&'a str, &'a str, &'a str, &'a str);
+
+/// Values of a command line: `v` is `x`, `w` is `:a`, and `go` is `yes`.
+fn given(alloc: Global) -> Result<Vec<(Name, Text)>, Fail> {
+    let mut given = Vec::new(alloc);
+    for (name, value) in [("v", "x"), ("w", ":a"), ("go", "yes")] {
+        given.push((Name::read(alloc, name)?, Text::from_str(alloc, value)?))?;
+    }
+    Ok(given)
+}
+
+fn scripts(alloc: Global, root: &str, lib: &str) -> Result<Vec<Script>, Fail> {
+    let mut scripts = Vec::new(alloc);
+    scripts.push(read_script(alloc, root.as_bytes())?)?;
+    scripts.push(read_script(alloc, lib.as_bytes())?)?;
+    Ok(scripts)
+}
+
+/// The registry of scripts; nothing to do where they are not one for each project.
+fn configured<A: Actions, T: Transforms>(
+    alloc: Global,
+    tables: &Handed<A, T>,
+    settings: &Settings,
+    scripts: Vec<Script>,
+    given: Vec<(Name, Text)>,
+) -> Result<Registry, Fault>
+    ensures { IfOk result (λ registry.
+        configure_faults (tables_of T.meanings A.meanings tables.now) registry ≡ []) }
+{
+    let count = projects(alloc, settings)?.len();
+    if scripts.len() != count {
+        return Err(Fault::NoTasks);
+    }
+    Registry::configure::<A, T>(alloc, settings, scripts, given, tables)
+}
+
+/// What the task at a path comes to, behind what others came to.
+fn push_realised<A: Actions, T: Transforms>(
+    alloc: Global,
+    workspace: &mut Workspace<'_, A, T>,
+    path: &TaskPath,
+    out: &mut String,
+) -> Result<(), Fail> {
+    match workspace.realise(alloc, path) {
+        Ok(task) => push_task(out, &task)?,
+        Err(fault) => push_fault(alloc, out, fault)?,
+    }
+    Ok(())
+}
+
+/// What tasks come to, asked for in turn.
+fn realised<A: Actions, T: Transforms>(
+    alloc: Global,
+    workspace: &mut Workspace<'_, A, T>,
+    tasks: &str,
+) -> Result<String, Fail> {
+    let mut out = String::new(alloc);
+    for task in tasks.split(' ') {
+        out.push_str(if out.is_empty() { "" } else { " | " })?;
+        let path = TaskPath::read(alloc, task)?;
+        push_realised(alloc, workspace, &path, &mut out)?;
+    }
+    Ok(out)
+}
+
+/// What tasks of a registry come to.
+fn of_registry<A: Actions, T: Transforms>(
+    alloc: Global,
+    tables: &Handed<A, T>,
+    registry: &Registry,
+    tasks: &str,
+) -> Result<String, Fail>
+    requires { configure_faults (tables_of T.meanings A.meanings tables.now) registry.now ≡ [] }
+{
+    let mut workspace = Workspace::<'_, A, T>::declare(alloc, tables, registry)?;
+    realised::<A, T>(alloc, &mut workspace, tasks)
+}
+
+fn refused(alloc: Global, fault: Fault) -> Result<String, Fail> {
+    let mut out = String::new(alloc);
+    push_fault(alloc, &mut out, fault)?;
+    Ok(out)
+}
+
+/// What tasks come to, or the fault of a statement.
+pub fn come_to<A: Actions, T: Transforms>(
+    alloc: Global,
+    tables: &Handed<A, T>,
+    settings: &Settings,
+    scripts: Vec<Script>,
+    tasks: &str,
+) -> Result<String, Fail> {
+    let given = given(alloc)?;
+    match configured::<A, T>(alloc, tables, settings, scripts, given) {
+        Ok(registry) => of_registry::<A, T>(alloc, tables, &registry, tasks),
+        Err(fault) => refused(alloc, fault),
+    }
+}
+
+/// What the tasks of a row come to.
+fn of_row<A: Actions, T: Transforms>(
+    alloc: Global,
+    tables: &Handed<A, T>,
+    row: &Row<'_>,
+) -> Result<String, Fail> {
+    let settings = read_settings(alloc, b"include \"lib\"")?;
+    let scripts = scripts(alloc, row.0, row.1)?;
+    come_to::<A, T>(alloc, tables, &settings, scripts, row.2)
+}
+
+/// Fails at the first row that comes to something else.
+fn hold_all<A: Actions, T: Transforms>(
+    alloc: Global,
+    tables: &Handed<A, T>,
+    rows: &[Row<'_>],
+) -> Result<(), Fail> {
+    for row in rows {
+        let shown = of_row::<A, T>(alloc, tables, row)?;
+        if shown.as_str() != row.3 {
+            return Err(Fail::new(shown.as_str()));
+        }
+    }
+    Ok(())
+}
+
+fn hold_with(alloc: Global, transforms: FunctionTable, rows: &[Row<'_>]) -> Result<(), Fail> {
+    let actions = builtin_table(alloc, builtin_runs!(alloc))?;
+    let tables = Tables {
+        actions,
+        transforms,
+    };
+    hold_all::<Builtin, Builtin>(alloc, &tables, rows)
+}
+
+/// Fails at the first row that comes to something else.
+pub fn hold(alloc: Global, rows: &[Row<'_>]) -> Result<(), Fail> {
+    let mut table = FunctionTable::new(alloc);
+    let raises: MapRun = Box::new(alloc, upper)?;
+    let appends: MapRun = Box::new(alloc, append)?;
+    let filters: MapRun = Box::new(alloc, non_empty)?;
+    add_text_functions(alloc, &mut table, raises, appends, filters)?;
+    let splits: MapRun = Box::new(alloc, split)?;
+    let joins: MapRun = Box::new(alloc, join)?;
+    let goes: MapRun = Box::new(alloc, child)?;
+    add_part_functions(alloc, &mut table, splits, joins, goes)?;
+    let chooses: FlatRun = Box::new(alloc, output)?;
+    let concats: ZipRun = Box::new(alloc, concat)?;
+    add_other_functions(alloc, &mut table, chooses, concats)?;
+    let tells: TestRun = Box::new(alloc, is_true)?;
+    let compares: TestRun = Box::new(alloc, equals)?;
+    add_tests(alloc, &mut table, tells, compares)?;
+    hold_with(alloc, table, rows)
+}
