@@ -3,7 +3,8 @@
 //!
 //! The status is 0 where the check holds, 1 where it does not, and 2 where no job has the name. The
 //! second argument is the size of the job, and the third how often a kind is asked, or the last
-//! property read again; for the job `disk` it is a folder, in whose `src` so many files stand.
+//! property read again; for the job `disk` it is a folder, in whose `src` so many files stand. The job `small`
+//! does all others but that, each for a few items.
 #![tactic(auto)]
 
 use crate::job::run;
@@ -19,10 +20,9 @@ mod kinds;
 mod plans;
 mod properties;
 mod records;
+mod small;
 mod stop;
 mod tasks;
-#[cfg(test)]
-mod tests;
 mod trees;
 
 fn main(rt: HostRuntime) -> Result<ExitCode, Stop> {
@@ -36,6 +36,7 @@ fn main(rt: HostRuntime) -> Result<ExitCode, Stop> {
     let last = words.next();
     let outcome = match job.as_str() {
         "disk" => trees::on_disk(&rt, count, last),
+        "small" => small::small(alloc),
         _ => run(alloc, job.as_str(), count, number(last)),
     };
     Ok(ExitCode::from(status(outcome)))

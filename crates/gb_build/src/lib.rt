@@ -15,7 +15,5 @@ pub mod events;
 pub mod invocation;
 pub mod invoke;
 mod script;
-#[cfg(test)]
-mod tests;
 
 pub use gb_report::render::{render, render_fault};

@@ -19,10 +19,8 @@
 mod calls;
 mod device;
 pub mod disk;
-mod names;
+pub mod names;
 mod path;
 mod standing;
-#[cfg(test)]
-mod tests;
 mod trail;
 mod walk;

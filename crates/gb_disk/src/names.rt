@@ -26,11 +26,7 @@ fn is_passed_over(name: &[u8]) -> bool {
 }
 
 /// The places of entries of a folder, by their names, each of which ends in a NUL.
-pub(crate) fn places_in(
-    alloc: Global,
-    folder: &Place,
-    names: &[u8],
-) -> Result<Vec<Place>, FolderFault>
+pub fn places_in(alloc: Global, folder: &Place, names: &[u8]) -> Result<Vec<Place>, FolderFault>
     ensures under { (root : List ℕ) → IsTrue (is_under folder.now root)
         → IfOk result (λ places. AllUnder root places.items) }
     ensures err { IfErr result IsOfListing }

@@ -130,3 +130,183 @@ fn faults_of_values_are_told_behind_those_of_clauses(rt: HostRuntime) -> Result<
         ],
     )
 }
+
+#[test]
+fn faults_of_clauses_count_in_the_order_of_the_script(rt: HostRuntime) -> Result<(), Fail> {
+    hold(
+        rt.alloc(),
+        &[
+            (
+                "register t { input a = q }",
+                "",
+                ":t",
+                "54 unknown property q",
+            ),
+            (
+                "register t { input a = \"x\".map(nope) }",
+                "",
+                ":t",
+                "31 unknown transform nope",
+            ),
+            (
+                "register t { input a = \"x\".map(upper(\"y\")) }",
+                "",
+                ":t",
+                "32 bad arguments upper",
+            ),
+            (
+                "register t { input a = \"x\".zip(q, nope) }",
+                "",
+                ":t",
+                "54 unknown property q",
+            ),
+            (
+                "register t { input a = dir(\"../x\") }",
+                "",
+                ":t",
+                "2 bad place ../x",
+            ),
+            (
+                "register t { input a = task(\"no\") }",
+                "",
+                ":t",
+                "52 task not found no",
+            ),
+            (
+                "register u { } register t { dependsOn \"u\", \":no:t\", \"1a\" }",
+                "",
+                ":t",
+                "50 unknown project :no:t",
+            ),
+            (
+                "register t { finalizedBy \"1a\" }",
+                "",
+                ":t",
+                "1 bad name 1a",
+            ),
+            (
+                "register t { doFirst nope(q) }",
+                "",
+                ":t",
+                "40 unknown action nope",
+            ),
+            (
+                "register t { onlyIf q is nope }",
+                "",
+                ":t",
+                "54 unknown property q",
+            ),
+            (
+                "property p register t { onlyIf p is nope }",
+                "",
+                ":t",
+                "31 unknown transform nope",
+            ),
+            (
+                "register t { inputFiles a from dir(\"s\") include \"x\", \"../y\" }",
+                "",
+                ":t",
+                "70 bad pattern ../y",
+            ),
+            (
+                "register t : nope { input a = q }",
+                "",
+                ":t",
+                "40 unknown action nope",
+            ),
+            (
+                "register t { input a = \"x\".map(nope) input a = \"y\" }",
+                "",
+                ":t",
+                "31 unknown transform nope",
+            ),
+            (
+                "register t { enabled q enabled true }",
+                "",
+                ":t",
+                "54 unknown property q",
+            ),
+            (
+                "property p register t { input a = p } named t { outputFile a = file(\"x\").map(nope) }",
+                "",
+                ":t",
+                "55 bad shape :t",
+            ),
+            (
+                "register t { outputFile a = file(\"x\") input b = q outputDir a = dir(\"x\") }",
+                "",
+                ":t",
+                "54 unknown property q",
+            ),
+            (
+                "register t : writeText(\"k\") { }",
+                "",
+                ":t",
+                "55 bad shape :t",
+            ),
+            (
+                "register t : writeText(\"k\") { outputDir out = dir(\"x\") }",
+                "",
+                ":t",
+                "55 bad shape :t",
+            ),
+        ],
+    )
+}
+
+#[test]
+fn faults_of_values_count_in_the_order_of_their_reading(rt: HostRuntime) -> Result<(), Fail> {
+    hold(
+        rt.alloc(),
+        &[
+            (
+                "property p register t { enabled p }",
+                "",
+                ":t",
+                "33 no value :t enabled",
+            ),
+            (
+                "property p set p = p register t { onlyIf p is isTrue }",
+                "",
+                ":t",
+                "30 circular :#p",
+            ),
+            (
+                "register t { inputFiles s from dir(\"r\"), \"x\" }",
+                "",
+                ":t",
+                "34 wrong value s",
+            ),
+            (
+                "property p register t { inputFiles s from \"x\" input a = p }",
+                "",
+                ":t",
+                "33 no value :t a",
+            ),
+            (
+                "register u { } register t : writeText(task(\"u\")) { outputFile out = file(\"build/o\") }",
+                "",
+                ":t",
+                "43 bad argument :t writeText",
+            ),
+            (
+                "register t : writeText(\"k\", \"l\") { outputFile out = file(\"build/o\") }",
+                "",
+                ":t",
+                "43 bad argument :t writeText",
+            ),
+            (
+                "property p register t : writeText(p) { outputFile out = file(\"o\") }",
+                "",
+                ":t",
+                "56 output outside build :t o",
+            ),
+            (
+                "property p register t : writeText(p) { outputFile out = file(\"build/o\") }",
+                "",
+                ":t",
+                "33 no value :t writeText",
+            ),
+        ],
+    )
+}

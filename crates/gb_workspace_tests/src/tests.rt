@@ -676,3 +676,60 @@ fn a_path_that_is_not_registered_is_told(rt: HostRuntime) -> Result<(), Fail> {
         ],
     )
 }
+
+#[test]
+fn the_last_statement_of_a_property_counts(rt: HostRuntime) -> Result<(), Fail> {
+    hold(
+        rt.alloc(),
+        &[
+            (
+                "property a set a = \"x\" set a = \"y\" register t { input v = a }",
+                "",
+                ":t",
+                "runs v=y",
+            ),
+            (
+                "property a set a = \"x\" convention a = \"c\" register t { input v = a }",
+                "",
+                ":t",
+                "runs v=x",
+            ),
+            (
+                "property a set a = \"x\" convention a = \"c\" unset a register t { input v = a }",
+                "",
+                ":t",
+                "runs v=c",
+            ),
+            (
+                "property a set a = \"x\" disallowChanges a disallowChanges a register t { input v = a }",
+                "",
+                ":t",
+                "runs v=x",
+            ),
+            (
+                "property a property b set a = b.orElse(\"z\") register t { input v = a }",
+                "",
+                ":t",
+                "runs v=z",
+            ),
+            (
+                "property a set a = buildDir register t { input v = a }",
+                "",
+                ":t",
+                "runs v=build",
+            ),
+            (
+                "register t { inputFiles s from dir(\"r\"), file(\"q\") include \"x/\" inputFiles o from file(\"z\") }",
+                "",
+                ":t",
+                "runs o<z s<r<q+x/**",
+            ),
+            (
+                "register t { input a = task(\"t\") }",
+                "",
+                ":t",
+                "runs a=:t needs :t",
+            ),
+        ],
+    )
+}

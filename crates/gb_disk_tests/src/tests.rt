@@ -1,7 +1,7 @@
 //! The same calls of folders on a disk, in memory and of those that fail.
-use crate::disk::DiskFolder;
-use crate::names::places_in;
 use gb_core::place::Place;
+use gb_disk::disk::DiskFolder;
+use gb_disk::names::places_in;
 use gb_folder::faulty::{FaultMode, FaultyFolder};
 use gb_folder::folder::{Folder, FolderFault};
 use gb_folder::memory::MemoryFolder;

@@ -1,2 +1,0 @@
-pub mod Unwritten
-pub mod Kinds
