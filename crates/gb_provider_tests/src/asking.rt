@@ -79,27 +79,6 @@ pub fn unset<T: Transforms>(providers: &mut Providers<'_, T>, node: Node) -> Res
     providers.unset(node)
 }
 
-pub fn disallow_changes<T: Transforms>(
-    providers: &mut Providers<'_, T>,
-    node: Node,
-) -> Result<(), Final> {
-    if !providers.has(node) {
-        return Err(Final);
-    }
-    providers.disallow_changes(node)
-}
-
-pub fn list<T: Transforms>(
-    providers: &mut Providers<'_, T>,
-    first: Node,
-    second: Node,
-) -> Result<Node, ProviderFault> {
-    if !providers.has(first) || !providers.has(second) {
-        return Err(ProviderFault::NoValue);
-    }
-    Ok(providers.list(&[first, second])?)
-}
-
 pub fn or_else<T: Transforms>(
     providers: &mut Providers<'_, T>,
     left: Node,
@@ -122,21 +101,6 @@ pub fn map<T: Transforms>(
     }
     providers
         .map(source, name, Texts::new(alloc))
-        .map_err(ProviderFault::Step)
-}
-
-pub fn zip<T: Transforms>(
-    alloc: Global,
-    providers: &mut Providers<'_, T>,
-    left: Node,
-    right: Node,
-    name: &str,
-) -> Result<Node, ProviderFault> {
-    if !providers.has(left) || !providers.has(right) {
-        return Err(ProviderFault::NoValue);
-    }
-    providers
-        .zip(left, right, name, Texts::new(alloc))
         .map_err(ProviderFault::Step)
 }
 
@@ -180,17 +144,6 @@ pub fn test<T: Transforms>(
 pub fn is_text(answer: &Answer, text: &str) -> bool {
     match answer {
         Ok(Some(Value::Text(found))) => found.as_str() == text,
-        _ => false,
-    }
-}
-
-/// Whether the answer is a list of these two texts.
-pub fn is_list(answer: &Answer, first: &str, second: &str) -> bool {
-    match answer {
-        Ok(Some(Value::List(texts))) => match texts.as_slice() {
-            [a, b] => a.as_str() == first && b.as_str() == second,
-            _ => false,
-        },
         _ => false,
     }
 }

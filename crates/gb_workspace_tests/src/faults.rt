@@ -310,3 +310,84 @@ fn faults_of_values_count_in_the_order_of_their_reading(rt: HostRuntime) -> Resu
         ],
     )
 }
+
+#[test]
+fn lists_and_zips_need_all_their_values(rt: HostRuntime) -> Result<(), Fail> {
+    hold(
+        rt.alloc(),
+        &[
+            (
+                "register t { input a = \"\".map(nonEmpty) }",
+                "",
+                ":t",
+                "33 no value :t a",
+            ),
+            (
+                "register t { input a = \"\".map(nonEmpty).orElse(\"b\") }",
+                "",
+                ":t",
+                "runs a=b",
+            ),
+            (
+                "register t { input a = [\"a\", gradleProperty(\"none\")] }",
+                "",
+                ":t",
+                "33 no value :t a",
+            ),
+            (
+                "register t { input a = [gradleProperty(\"none\"), true] }",
+                "",
+                ":t",
+                "33 no value :t a",
+            ),
+            (
+                "register t { input a = [true, gradleProperty(\"none\")] }",
+                "",
+                ":t",
+                "33 no value :t a",
+            ),
+            (
+                "register t { input a = [true, gradleProperty(\"none\")].orElse([\"d\", \"d\"]) }",
+                "",
+                ":t",
+                "runs a=[d][d]",
+            ),
+            (
+                "property p set p = [true, p] register t { input a = p }",
+                "",
+                ":t",
+                "30 circular :#p",
+            ),
+            (
+                "register t { input a = \"a\".zip(gradleProperty(\"none\"), concat) }",
+                "",
+                ":t",
+                "33 no value :t a",
+            ),
+            (
+                "register t { input a = gradleProperty(\"none\").zip(\"a\", concat) }",
+                "",
+                ":t",
+                "33 no value :t a",
+            ),
+            (
+                "property p disallowChanges p unset p register t { }",
+                "",
+                ":t",
+                "35 final p",
+            ),
+            (
+                "property p disallowChanges p convention p = \"c\" register t { }",
+                "",
+                ":t",
+                "35 final p",
+            ),
+            (
+                "register t { onlyIf \"true\" is isTrue }",
+                "",
+                ":t",
+                "34 wrong value isTrue",
+            ),
+        ],
+    )
+}
