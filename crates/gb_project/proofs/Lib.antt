@@ -20,3 +20,5 @@ pub mod HeadingLemmas
 pub mod DeclaringLemmas
 pub mod ViewLemmas
 pub mod KnownLemmas
+pub mod EvaluatedLemmas
+pub mod RisingLemmas

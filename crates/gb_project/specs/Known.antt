@@ -1,5 +1,6 @@
--- The tasks that a realised task names are registered, and stand in the order of their paths, each once.
-use Rattle.std.specs.Prelude.{◌≡◌, true, Ok}
+-- The tasks that a realised task names are registered, and stand in the order of their paths, each once; so do
+-- its values, file properties and outputs in the order of their names.
+use Rattle.std.specs.Prelude.{◌≡◌, true, map, Ok}
 use Rattle.std.specs.List.{AllByRecursion}
 use Rattle.std.specs.List.Sorted.{IsStrictlySortedBy}
 use Rattle.gb_core.specs.Lists.{byte_order}
@@ -30,3 +31,13 @@ pub record IsInOrder (task : TaskDeclaration) : Type 0 where
 abbrev pub RealisedInOrder : {M F Z S A : Type 0} → Tables M F Z S A → Source → Type 0
 RealisedInOrder tables source =
     (path : Path) (task : TaskDeclaration) → realised tables source path ≡ Ok task → IsInOrder task
+
+-- its values, its file properties and its outputs: each name once, by the bytes of the names
+pub record HasRisingNames (task : TaskDeclaration) : Type 0 where
+  pub values : IsStrictlySortedBy byte_order (map (λ value. value.0) task.values)
+  pub files : IsStrictlySortedBy byte_order (map (λ files. files.name) task.files)
+  pub outputs : IsStrictlySortedBy byte_order (map (λ output. output.name) task.outputs)
+
+abbrev pub RealisedNamesRise : {M F Z S A : Type 0} → Tables M F Z S A → Source → Type 0
+RealisedNamesRise tables source =
+    (path : Path) (task : TaskDeclaration) → realised tables source path ≡ Ok task → HasRisingNames task

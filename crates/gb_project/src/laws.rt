@@ -1,7 +1,7 @@
 //! Facts that follow from the definitions alone.
 ghost use Rattle.gb_project.specs.Circles.{CirclesAreApart, CirclesStay};
 ghost use Rattle.gb_project.specs.Growing.{PartGrows};
-ghost use Rattle.gb_project.specs.Known.{RealisedInOrder, RealisedNamesTasks};
+ghost use Rattle.gb_project.specs.Known.{RealisedInOrder, RealisedNamesRise, RealisedNamesTasks};
 ghost use Rattle.gb_project.specs.Needs.{GivenHasTasks, PartProduces};
 ghost use Rattle.gb_project.specs.Partly.{PartAnswers, PartIsEndless};
 ghost use Rattle.gb_project.specs.Ready.{RealisedIsSound};
@@ -60,4 +60,10 @@ pub fn realised_names_tasks<A: Actions, T: Transforms>()
 pub fn realised_in_order<A: Actions, T: Transforms>()
     ensures { (tables : Tables T.Map T.FlatMap T.Zip T.Test A.Stored) (source : Source)
         → RealisedInOrder tables source }
+{}
+
+/// The names of its values, of its file properties and of its outputs stand in order, each once.
+pub fn realised_names_rise<A: Actions, T: Transforms>()
+    ensures { (tables : Tables T.Map T.FlatMap T.Zip T.Test A.Stored) (source : Source)
+        → RealisedNamesRise tables source }
 {}
