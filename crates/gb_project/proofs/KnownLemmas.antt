@@ -11,7 +11,6 @@ use Rattle.gb_core.specs.Lists.{byte_order}
 use Rattle.gb_core.specs.Path.{is_task_path, project_of}
 use Rattle.gb_core.specs.Tasks.{with_tasks}
 use Rattle.gb_plan.specs.declared.task.TaskDeclaration.{TaskDeclaration}
-use Rattle.gb_provider.specs.declared.expression.Expression.{Expression}
 use Rattle.gb_report.specs.declared.fault.Fault.{Fault}
 use Rattle.gb_report.specs.declared.fault.Fault.TheVariants as faults
 use Rattle.gb_script.specs.declared.script.Clause.{Clause}
@@ -24,27 +23,14 @@ use Rattle.gb_registry.specs.Wrong.{Scope}
 use Rattle.gb_project.specs.Declaring.{block_scope, clash_faults, clause_faults, clauses_faults, declared, declaring_faults, main_faults, shape_faults}
 use Rattle.gb_project.specs.Joined.{Joined, joined, depends_on_in, must_run_after_in, finalized_by_in, tasks_in}
 use Rattle.gb_project.specs.Known.{IsInOrder, IsRegistered, NamesTasks, RealisedInOrder, RealisedNamesTasks}
-use Rattle.gb_project.specs.Realised.{each_of, evaluated, needing, needs_of, producers_of, realised_at, realised_if, is_enabled, passes, value_under, files_under, output_under, action_of}
-use Rattle.gb_project.specs.Spots.{Spot}
+use Rattle.gb_project.specs.Realised.{evaluated, needing, producers_of, realised_at, realised_if}
 use Rattle.gb_project.specs.Whole.{spots, table_of}
-use Rattle.gb_project.proofs.ReadyLemmas.{both_ok, same_ok, no_faults}
+use Rattle.gb_project.proofs.AllLemmas.{insert_all, with_all}
+use Rattle.gb_project.proofs.EvaluatedLemmas.{is_evaluated}
+use Rattle.gb_project.proofs.ReadyLemmas.{no_faults}
 use Rattle.gb_project.proofs.ViewLemmas.{back_none, front_none, judged_must_run_after_in, judged_finalized_by_in, known_path}
 
 -- ---- Tasks in order
-
-module _ (P : Path → Type 0) where
-  insert_all : (tasks : List Path) (task : Path) → AllByRecursion P tasks → P task → AllByRecursion P (insert_key byte_order tasks task)
-  insert_all [] task all has = (has, tt)
-  insert_all (other ∷ tasks) task all has =
-      elim (byte_order task other) as (λ o. AllByRecursion P (match_ordering o (task ∷ other ∷ tasks) (other ∷ tasks) (other ∷ insert_key byte_order tasks task))) [
-        | Less ↦ (has, all)
-        | Equal ↦ all
-        | Greater ↦ (all.0, insert_all tasks task all.1 has)
-      ]
-
-  with_all : (there more : List Path) → AllByRecursion P there → AllByRecursion P more → AllByRecursion P (with_tasks there more)
-  with_all there [] all new = all
-  with_all there (task ∷ more) all new = with_all (insert_key byte_order there task) more (insert_all there task all new.0) new.1
 
 all_above : (task other : Path) (tasks : List Path) → byte_order task other ≡ Less → AllByRecursion (λ y. byte_order other y ≡ Less) tasks → AllByRecursion (λ y. byte_order task y ≡ Less) tasks
 all_above task other [] less all = tt
@@ -75,29 +61,33 @@ named_sorted project texts = with_sorted [] (flat_map (λ text. absolute project
 
 -- ---- Texts
 
+-- a task that is looked up is there
+pub looked_up : (names : Names) (project : Path) (text : List ℕ) → lookup_faults names project text ≡ [] → is_among names.tasks (absolute project text) ≡ true
+looked_up names project text e = there_too (is_among names.projects (project_of (absolute project text))) (is_among names.tasks (absolute project text)) e
+  where
+    there_too : (there known : Bool) → (if there then (if known then [] else faults.TaskNotFound text ∷ []) else faults.UnknownProject text ∷ []) ≡ [] → known ≡ true
+    there_too true true e = refl
+    there_too true false e = absurd (cc)
+    there_too false known e = absurd (cc)
+
 -- a text that is no fault names a task
-found : (names : Names) (project : Path) (text : List ℕ) → reference_faults names project text ≡ [] → is_among names.tasks (absolute project text) ≡ true
+pub found : (names : Names) (project : Path) (text : List ℕ) → reference_faults names project text ≡ [] → is_among names.tasks (absolute project text) ≡ true
 found names project text e =
     elim (is_task_path (absolute project text)) as (λ b. (if b then lookup_faults names project text else faults.BadName text ∷ []) ≡ [] → is_among names.tasks (absolute project text) ≡ true) [
-      | true ↦ λ e. looked_up (is_among names.projects (project_of (absolute project text))) (is_among names.tasks (absolute project text)) e
+      | true ↦ λ e. looked_up names project text e
       | false ↦ λ e. absurd (cc)
     ] e
-  where
-    looked_up : (there known : Bool) → (if there then (if known then [] else faults.TaskNotFound text ∷ []) else faults.UnknownProject text ∷ []) ≡ [] → known ≡ true
-    looked_up true true e = refl
-    looked_up true false e = absurd (cc)
-    looked_up false known e = absurd (cc)
 
 module _ (names : Names) (project : Path) where
   all_found : (texts : List (List ℕ)) → flat_map (reference_faults names project) texts ≡ [] → AllByRecursion (λ path. is_among names.tasks path ≡ true) (flat_map (λ text. absolute project text ∷ []) texts)
   all_found [] e = tt
   all_found (text ∷ texts) e = (found names project text (front_none (reference_faults names project text) _ e), all_found texts (back_none (reference_faults names project text) _ e))
 
-  registered_in : (texts : List (List ℕ)) → flat_map (reference_faults names project) texts ≡ [] → AllByRecursion (λ path. is_among names.tasks path ≡ true) (tasks_in project texts)
+  pub registered_in : (texts : List (List ℕ)) → flat_map (reference_faults names project) texts ≡ [] → AllByRecursion (λ path. is_among names.tasks path ≡ true) (tasks_in project texts)
   registered_in texts e = with_all (λ path. is_among names.tasks path ≡ true) [] (flat_map (λ text. absolute project text ∷ []) texts) tt (all_found texts e)
 
 -- the texts of clauses that are not at fault are none
-all_known : {M F Z S A : Type 0} (tables : Tables M F Z S A) (scope : Scope) (path : Path) (pick : Clause → List (List ℕ)) → ((clause : Clause) → clause_faults tables scope clause ≡ [] → flat_map scope.task_faults (pick clause) ≡ [])
+pub all_known : {M F Z S A : Type 0} (tables : Tables M F Z S A) (scope : Scope) (path : Path) (pick : Clause → List (List ℕ)) → ((clause : Clause) → clause_faults tables scope clause ≡ [] → flat_map scope.task_faults (pick clause) ≡ [])
     → (before after : List Clause) → clauses_faults tables scope path before after ≡ [] → flat_map scope.task_faults (flat_map pick after) ≡ []
 all_known tables scope path pick judged before [] e = refl
 all_known tables scope path pick judged before (clause ∷ after) e =
@@ -110,20 +100,7 @@ all_known tables scope path pick judged before (clause ∷ after) e =
 -- ---- A task
 
 module _ {M F Z S A : Type 0} (tables : Tables M F Z S A) (source : Source) (at : Registered) where
-  evaluated_keeps : (all : List Spot) (table : List (Expression M F Z)) (task : Joined) (t : TaskDeclaration) → evaluated tables source at all table task ≡ Ok t
-      → (task.must_run_after ≡ t.must_run_after) × (task.finalizers ≡ t.finalizers) × (needs_of tables source at all table task ≡ t.needs)
-  evaluated_keeps all table task t e =
-      let e1 = both_ok (is_enabled tables source at all table task.enabled) _ t e in
-      let e2 = both_ok (each_of (passes tables source at all table) task.only_if) _ t e1.2 in
-      let e3 = both_ok (each_of (passes tables source at all table) task.up_to_date_when) _ t e2.2 in
-      let e4 = both_ok (each_of (value_under tables source at all table) task.values) _ t e3.2 in
-      let e5 = both_ok (each_of (files_under tables source at all table) task.files) _ t e4.2 in
-      let e6 = both_ok (each_of (output_under tables source at all table) task.outputs) _ t e5.2 in
-      let e7 = both_ok (each_of (action_of tables source at all table) task.actions) _ t e6.2 in
-      let same = same_ok _ t e7.2 in
-      (ap (λ z. z.must_run_after) same, ap (λ z. z.finalizers) same, ap (λ z. z.needs) same)
-
-  clauses_clear : declaring_faults tables source.names source.said at ≡ [] → clauses_faults tables (block_scope source.names source.said at.project) at.path [] at.clauses ≡ []
+  pub clauses_clear : declaring_faults tables source.names source.said at ≡ [] → clauses_faults tables (block_scope source.names source.said at.project) at.path [] at.clauses ≡ []
   clauses_clear e =
       let scope = block_scope source.names source.said at.project in
       back_none (main_faults tables scope at.action) (clauses_faults tables scope at.path [] at.clauses)
@@ -133,13 +110,13 @@ module _ {M F Z S A : Type 0} (tables : Tables M F Z S A) (source : Source) (at 
   names_at task t is e =
       let scope = block_scope source.names source.said at.project in
       let ok = no_faults (declaring_faults tables source.names source.said at) (joined at) task is in
-      let kept = evaluated_keeps (spots tables source) (table_of tables source (spots tables source)) task t e in
+      let kept = is_evaluated tables source at (spots tables source) (table_of tables source (spots tables source)) task t e in
       let clear = clauses_clear ok.0 in
       let after = registered_in source.names at.project (flat_map must_run_after_in at.clauses) (all_known tables scope at.path must_run_after_in (judged_must_run_after_in tables scope at.path at.project (known_path (Some source.names) at.project)) [] at.clauses clear) in
       let finalizers = registered_in source.names at.project (flat_map finalized_by_in at.clauses) (all_known tables scope at.path finalized_by_in (judged_finalized_by_in tables scope at.path at.project (known_path (Some source.names) at.project)) [] at.clauses clear) in
       record {
-        after = subst (AllByRecursion (IsRegistered source)) (ap (λ (j : Joined). j.must_run_after) ok.1 ∙ kept.0) after;
-        finalizers = subst (AllByRecursion (IsRegistered source)) (ap (λ (j : Joined). j.finalizers) ok.1 ∙ kept.1) finalizers;
+        after = subst (AllByRecursion (IsRegistered source)) (ap (λ (j : Joined). j.must_run_after) ok.1 ∙ kept.after) after;
+        finalizers = subst (AllByRecursion (IsRegistered source)) (ap (λ (j : Joined). j.finalizers) ok.1 ∙ kept.finalizers) finalizers;
       }
 
   in_order_at : (task : Joined) (t : TaskDeclaration) → declared tables source.names source.said at ≡ Ok task → evaluated tables source at (spots tables source) (table_of tables source (spots tables source)) task ≡ Ok t → IsInOrder t
@@ -148,12 +125,12 @@ module _ {M F Z S A : Type 0} (tables : Tables M F Z S A) (source : Source) (at 
       let all = spots tables source in
       let table = table_of tables source all in
       let ok = no_faults (declaring_faults tables source.names source.said at) (joined at) task is in
-      let kept = evaluated_keeps (spots tables source) (table_of tables source (spots tables source)) task t e in
+      let kept = is_evaluated tables source at (spots tables source) (table_of tables source (spots tables source)) task t e in
       let needs : Sorted task.depends_on = subst (λ (j : Joined). Sorted j.depends_on) ok.1 (named_sorted at.project (flat_map depends_on_in at.clauses)) in
       record {
-        needs = subst Sorted kept.2 (with_sorted task.depends_on (flat_map (producers_of tables source at all table) (needing tables source at all table task)) needs);
-        after = subst Sorted (ap (λ (j : Joined). j.must_run_after) ok.1 ∙ kept.0) (named_sorted at.project (flat_map must_run_after_in at.clauses));
-        finalizers = subst Sorted (ap (λ (j : Joined). j.finalizers) ok.1 ∙ kept.1) (named_sorted at.project (flat_map finalized_by_in at.clauses));
+        needs = subst Sorted kept.needs (with_sorted task.depends_on (flat_map (producers_of tables source at all table) (needing tables source at all table task)) needs);
+        after = subst Sorted (ap (λ (j : Joined). j.must_run_after) ok.1 ∙ kept.after) (named_sorted at.project (flat_map must_run_after_in at.clauses));
+        finalizers = subst Sorted (ap (λ (j : Joined). j.finalizers) ok.1 ∙ kept.finalizers) (named_sorted at.project (flat_map finalized_by_in at.clauses));
       }
 
   in_order_if_declared : (r : Result Joined Fault) (t : TaskDeclaration) → declared tables source.names source.said at ≡ r → realised_at tables source at r ≡ Ok t → IsInOrder t

@@ -20,3 +20,7 @@ pub mod HeadingLemmas
 pub mod DeclaringLemmas
 pub mod ViewLemmas
 pub mod KnownLemmas
+pub mod RisingLemmas
+pub mod EvaluatedLemmas
+pub mod AllLemmas
+pub mod NeededLemmas

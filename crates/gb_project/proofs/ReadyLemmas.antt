@@ -50,7 +50,7 @@ same_tail a b cs ds e = cc
 
 module _ {X Y E : Type 0} where
   -- each of them became something
-  each_ok : (f : X → Result Y E) (xs : List X) (ys : List Y) → each_of f xs ≡ Ok ys → AllZip (λ x y. f x ≡ Ok y) xs ys
+  pub each_ok : (f : X → Result Y E) (xs : List X) (ys : List Y) → each_of f xs ≡ Ok ys → AllZip (λ x y. f x ≡ Ok y) xs ys
   each_ok f [] [] e = tt
   each_ok f [] (y ∷ ys) e = cc
   each_ok f (x ∷ xs) [] e =
@@ -64,7 +64,7 @@ module _ {X Y E : Type 0} where
       (first.1 ∙ ap Ok (same_head first.0 y second.0 ys same), each_ok f xs ys (second.1 ∙ ap Ok (same_tail first.0 y second.0 ys same)))
 
   -- what is seen of them
-  seen_same : {V : Type 0} (f : X → Result Y E) (a : X → V) (b : Y → V) → ((x : X) (y : Y) → f x ≡ Ok y → b y ≡ a x) → (xs : List X) (ys : List Y) → AllZip (λ x y. f x ≡ Ok y) xs ys → map b ys ≡ map a xs
+  pub seen_same : {V : Type 0} (f : X → Result Y E) (a : X → V) (b : Y → V) → ((x : X) (y : Y) → f x ≡ Ok y → b y ≡ a x) → (xs : List X) (ys : List Y) → AllZip (λ x y. f x ≡ Ok y) xs ys → map b ys ≡ map a xs
   seen_same f a b same [] [] all = refl
   seen_same f a b same [] (y ∷ ys) all = absurd all
   seen_same f a b same (x ∷ xs) [] all = absurd all
@@ -125,14 +125,14 @@ shaped_if (x ∷ xs) [] e none = cc
 shaped_if (x ∷ xs) (y ∷ ys) e none = cc
 
 module _ {M F Z S A : Type 0} (tables : Tables M F Z S A) (source : Source) (at : Registered) (all : List Spot) (table : List (Expression M F Z)) where
-  output_ok : (o : Named Made) (y : Output) → output_under tables source at all table o ≡ Ok y → (◌≡◌ {A = List ℕ × Form} (y.name, y.form) (o.0, o.1.0)) × (is_beneath y.place (build_folder at.project) ≡ true)
+  pub output_ok : (o : Named Made) (y : Output) → output_under tables source at all table o ≡ Ok y → (◌≡◌ {A = List ℕ × Form} (y.name, y.form) (o.0, o.1.0)) × (is_beneath y.place (build_folder at.project) ≡ true)
   output_ok o y e =
       let here = both_ok (place_of tables source at all table o.0 o.1.1) _ y e in
       let made : Output = record { name = o.0; form = o.1.0; place = here.0 } in
       let ok = taken (is_beneath here.0 (build_folder at.project)) made y _ here.2 in
       (ap (λ z. (z.name, z.form)) (sym ok.0), ap (λ z. is_beneath z.place (build_folder at.project)) (sym ok.0) ∙ ok.1)
 
-  file_ok : (f : Named InputFiles) (y : FileProperty) → files_under tables source at all table f ≡ Ok y → y.name ≡ f.0
+  pub file_ok : (f : Named InputFiles) (y : FileProperty) → files_under tables source at all table f ≡ Ok y → y.name ≡ f.0
   file_ok f y e =
       let here = both_ok (each_of (place_of tables source at all table f.0) f.1.from) _ y e in
       ap (λ z. z.name) (sym (same_ok _ y here.2))

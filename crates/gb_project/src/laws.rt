@@ -1,7 +1,12 @@
 //! Facts that follow from the definitions alone.
 ghost use Rattle.gb_project.specs.Circles.{CirclesAreApart, CirclesStay};
 ghost use Rattle.gb_project.specs.Growing.{PartGrows};
-ghost use Rattle.gb_project.specs.Known.{RealisedInOrder, RealisedNamesTasks};
+ghost use Rattle.gb_project.specs.Known.{
+  RealisedInOrder,
+  RealisedNamesRise,
+  RealisedNamesTasks,
+  RealisedNeedsAreRegistered,
+};
 ghost use Rattle.gb_project.specs.Needs.{GivenHasTasks, PartProduces};
 ghost use Rattle.gb_project.specs.Partly.{PartAnswers, PartIsEndless};
 ghost use Rattle.gb_project.specs.Ready.{RealisedIsSound};
@@ -56,8 +61,20 @@ pub fn realised_names_tasks<A: Actions, T: Transforms>()
         → RealisedNamesTasks tables source }
 {}
 
+/// Its needs too, where the names of tasks are those that the scripts register, and no script is at fault.
+pub fn realised_needs_are_registered<A: Actions, T: Transforms>()
+    ensures { (tables : Tables T.Map T.FlatMap T.Zip T.Test A.Stored) (source : Source)
+        → RealisedNeedsAreRegistered tables source }
+{}
+
 /// Its needs, the tasks that it runs after, and those that finalize it stand in order, each once.
 pub fn realised_in_order<A: Actions, T: Transforms>()
     ensures { (tables : Tables T.Map T.FlatMap T.Zip T.Test A.Stored) (source : Source)
         → RealisedInOrder tables source }
+{}
+
+/// The names of its values, of its file properties and of its outputs stand in order, each once.
+pub fn realised_names_rise<A: Actions, T: Transforms>()
+    ensures { (tables : Tables T.Map T.FlatMap T.Zip T.Test A.Stored) (source : Source)
+        → RealisedNamesRise tables source }
 {}
