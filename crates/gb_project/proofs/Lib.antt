@@ -20,3 +20,4 @@ pub mod HeadingLemmas
 pub mod DeclaringLemmas
 pub mod ViewLemmas
 pub mod KnownLemmas
+pub mod OneCircleLemmas
