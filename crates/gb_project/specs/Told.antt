@@ -19,3 +19,8 @@ module _ {M F Z S A : Type 0} (tables : Tables M F Z S A) (source : Source) (ent
 abbrev pub IsTold : {M F Z S A : Type 0} → Tables M F Z S A → Source → Trouble → Fault → Type 0
 IsTold tables source (Plain known) fault = fault ≡ known
 IsTold tables source (Endless entry) fault = IsCircleTold tables source entry fault
+
+-- Two faults that tell one trouble are the same fault.
+abbrev pub ToldOneWay : {M F Z S A : Type 0} → Tables M F Z S A → Source → Type 0
+ToldOneWay tables source = (trouble : Trouble) (a b : Fault) →
+    IsTold tables source trouble a → IsTold tables source trouble b → a ≡ b
