@@ -3,7 +3,7 @@ ghost use Rattle.std.specs.Prelude.{◌≡◌, ◌≤◌, Bool, List, true, not,
 ghost use Rattle.std.specs.List.{AllZip};
 ghost use Rattle.gb_folder.specs.Files.{Bytes, SameTearing};
 ghost use Rattle.gb_history.specs.Places.{record_place};
-ghost use Rattle.gb_meaning.specs.Headline.{Agrees, HaveHeard, TearsAreSeen};
+ghost use Rattle.gb_meaning.specs.Headline.{Agrees, HasFailed, HaveHeard, TearsAreSeen};
 ghost use Rattle.gb_meaning.specs.Kinds.{Kinds};
 ghost use Rattle.gb_meaning.specs.Memory.{Memory};
 ghost use Rattle.gb_meaning.specs.Outline.{Outlines};
@@ -13,7 +13,7 @@ ghost use Rattle.gb_store.specs.Changes.{ChangesOnly};
 ghost use Rattle.gb_task.specs.Turned.{Registering, setting_with};
 ghost use Rattle.gb_execute.specs.Building.{CanBuild, is_of_turns};
 ghost use Rattle.gb_execute.specs.Built.{AreWorth, HasBuilt};
-ghost use Rattle.gb_execute.specs.Failing.{HasFailed, times_blamed};
+ghost use Rattle.gb_execute.specs.Failing.{times_blamed};
 ghost use Rattle.gb_execute.specs.Reports.{IsOf};
 
 use crate::dry::dry_reports;

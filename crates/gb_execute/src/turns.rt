@@ -6,7 +6,7 @@ ghost use Rattle.gb_folder.specs.Files.{Bytes, SameTearing};
 ghost use Rattle.gb_history.specs.Places.{record_place};
 ghost use Rattle.gb_listen.specs.Telling.{AllTold};
 ghost use Rattle.gb_meaning.specs.Events.{State};
-ghost use Rattle.gb_meaning.specs.Headline.{Agrees, TearsAreSeen};
+ghost use Rattle.gb_meaning.specs.Headline.{Agrees, HasFailed, TearsAreSeen};
 ghost use Rattle.gb_meaning.specs.Kinds.{Kinds};
 ghost use Rattle.gb_meaning.specs.Memory.{Memory};
 ghost use Rattle.gb_meaning.specs.Outline.{AreOutlines};
@@ -19,7 +19,7 @@ ghost use Rattle.gb_store.specs.Changes.{ChangesOnly};
 ghost use Rattle.gb_task.specs.Turned.{Registering, setting_with};
 ghost use Rattle.gb_execute.specs.Building.{CanBuild, is_of_turns};
 ghost use Rattle.gb_execute.specs.Built.{AreWorth, HasBuilt};
-ghost use Rattle.gb_execute.specs.Failing.{HasFailed, times_blamed};
+ghost use Rattle.gb_execute.specs.Failing.{times_blamed};
 ghost use Rattle.gb_execute.specs.Reports.{IsOf};
 
 use crate::one::{Build, take_one};

@@ -10,7 +10,8 @@ use Rattle.gb_store.specs.Changes.{ChangesOnly}
 use Rattle.gb_task.specs.Turned.{setting_with}
 use Rattle.gb_execute.specs.Building.{is_of_turns}
 use Rattle.gb_execute.specs.Built.{HasBuilt}
-use Rattle.gb_execute.specs.Failing.{HasFailed, times_blamed}
+use Rattle.gb_meaning.specs.Headline.{HasFailed}
+use Rattle.gb_execute.specs.Failing.{times_blamed}
 use Rattle.gb_execute.specs.Reports.{IsOf}
 use Rattle.gb_execute.proofs.Skipping.{dry_blames, dry_built, dry_of}
 use Rattle.gb_execute.proofs.Hearing.{untold}

@@ -29,7 +29,8 @@ use Rattle.gb_store.proofs.Machine.{changes_none}
 use Rattle.gb_task.proofs.Parts.{differs_outside}
 use Rattle.gb_task.proofs.Recorded.{seen_later}
 use Rattle.gb_execute.specs.Building.{IsBuildable, is_of_turns}
-use Rattle.gb_execute.specs.Failing.{HasFailed, times_blamed}
+use Rattle.gb_meaning.specs.Headline.{HasFailed}
+use Rattle.gb_execute.specs.Failing.{times_blamed}
 use Rattle.gb_execute.specs.Reports.{IsOf}
 use Rattle.gb_execute.proofs.Counting.{failed_more}
 use Rattle.gb_execute.proofs.Ending.{endings_more, none_ended}

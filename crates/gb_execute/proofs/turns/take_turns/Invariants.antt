@@ -5,7 +5,7 @@ use Rattle.std.specs.Vec.Iter.{into_iter_items}
 use Rattle.gb_folder.specs.Files.{Bytes, SameTearing}
 use Rattle.gb_history.specs.Places.{record_place}
 use Rattle.gb_listen.specs.Telling.{AllTold}
-use Rattle.gb_meaning.specs.Headline.{Agrees, TearsAreSeen}
+use Rattle.gb_meaning.specs.Headline.{Agrees, HasFailed, TearsAreSeen}
 use Rattle.gb_meaning.specs.Kinds.{Kinds}
 use Rattle.gb_meaning.specs.Memory.{Memory}
 use Rattle.gb_meaning.specs.Outline.{AreOutlines}
@@ -17,7 +17,7 @@ use Rattle.gb_store.specs.Changes.{ChangesOnly}
 use Rattle.gb_task.specs.Turned.{Registering}
 use Rattle.gb_execute.specs.Building.{is_of_turns}
 use Rattle.gb_execute.specs.Built.{AreWorth}
-use Rattle.gb_execute.specs.Failing.{HasFailed, times_blamed}
+use Rattle.gb_execute.specs.Failing.{times_blamed}
 use Rattle.gb_execute.specs.Reports.{IsOf}
 use Rattle.gb_execute.proofs.Shut.{HasOwnPlaces}
 use Rattle.gb_execute.proofs.Underway.{IsUnderway, outcome_in}
