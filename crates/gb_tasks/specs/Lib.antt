@@ -1,0 +1,4 @@
+pub mod Named
+pub mod Told
+pub mod Scripts
+pub mod Props
