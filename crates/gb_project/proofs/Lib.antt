@@ -24,3 +24,5 @@ pub mod RisingLemmas
 pub mod EvaluatedLemmas
 pub mod AllLemmas
 pub mod NeededLemmas
+pub mod OneCircleLemmas
+pub mod CircleNamesLemmas
