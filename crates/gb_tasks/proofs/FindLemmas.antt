@@ -3,8 +3,10 @@ use Rattle.std.proofs.Common.{◌≡◌, Bool, true, false, cond, ◌||◌, List
 use Rattle.std.specs.Prelude.{Some}
 use Rattle.std.specs.Cmp.Lexicographic.{bytes_decides}
 use Rattle.std.specs.FinMap.Entries.{find}
+use Rattle.std.specs.Ordering.{is_eq}
+use Rattle.std.specs.declared.cmp.Ordering.TheVariants.{Less, Equal, Greater}
 use Rattle.gb_core.specs.Lists.{byte_order}
-use Rattle.gb_core.proofs.Found.{find-other, find-same}
+use Rattle.gb_core.proofs.Found.{find-other, find-same, tied_same}
 use Rattle.gb_plan.specs.Task.{Path, has_path}
 use Rattle.gb_plan.proofs.Tests.{itself, not_true}
 use Rattle.std.proofs.Common.{true≢false}
@@ -30,3 +32,16 @@ module _ {X : Type 0} (made : Path → X) where
             find-other path (x, made x) (all_made paths) (λ same. true≢false (sym ((bytes_decides path x).1 (sym same)) ∙ is))
             ∙ find_made paths path there
       ] refl there
+
+  -- what is found at a path is what is made of it
+  pub found_made : (paths : List Path) (path : Path) (x : X) → find byte_order path (all_made paths) ≡ Some x → made path ≡ x
+  found_made [] path x is = absurd (cc)
+  found_made (p ∷ paths) path x is =
+      elim (byte_order path p) as (λ o. byte_order path p ≡ o → cond (is_eq o) (Some (made p)) (find byte_order path (all_made paths)) ≡ Some x → made path ≡ x) [
+        | Less ↦ λ _ is. found_made paths path x is
+        | Equal ↦ λ tied is. ap made (tied_same path p tied) ∙ some_same (made p) x is
+        | Greater ↦ λ _ is. found_made paths path x is
+      ] refl is
+    where
+      some_same : (a b : X) → Some a ≡ Some b → a ≡ b
+      some_same a b e = cc

@@ -1,8 +1,8 @@
 pub mod OnceLemmas
-pub mod CircleLemmas
 pub mod FolderLemmas
 pub mod SelectLemmas
 pub mod FindLemmas
-pub mod ToldLemmas
 pub mod SaidLemmas
+pub mod RealiseLemmas
+pub mod Interim
 pub mod SoundLemmas

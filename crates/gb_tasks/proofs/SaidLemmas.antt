@@ -7,14 +7,10 @@ use Rattle.gb_plan.proofs.Tests.{all_both, all_of_members, left_of, right_of}
 use Rattle.gb_script.specs.declared.script.Statement.{Statement}
 use Rattle.gb_registry.specs.Projects.{Path, is_among, project_paths}
 use Rattle.gb_registry.specs.Read.{IsRead}
-use Rattle.gb_registry.specs.Said.{Said, all_said, said_by}
+use Rattle.gb_registry.specs.Said.{Said, all_said, paths_of, said_by}
 use Rattle.gb_registry.specs.Source.{Source}
 use Rattle.gb_core.specs.Path.{is_project_path}
-use Rattle.gb_tasks.specs.Named.{is_named, registers_named}
-
--- the statement's project is one of these
-abbrev pub is_said_in : List Path → Said → Bool
-is_said_in projects s = is_among projects s.project
+use Rattle.gb_tasks.specs.Named.{AreNamed, is_named, is_said_in, registers_named}
 
 one_script : (all : List Path) (project : Path) (script : List Statement) → is_among all project ≡ true → list_all (is_said_in all) (said_by (project, script)) ≡ true
 one_script all project [] there = refl
@@ -49,3 +45,11 @@ pub named_behind : (project : Path) (script : List Statement) (others : List Sai
 named_behind project script others path named =
     list_all-append is_named (said_by (project, script)) others
     ∙ ap (λ b. b && list_all is_named others) (named_script project script path named)
+
+-- what is read, with names that are names, is named
+pub read_named : (source : Source) (scripts : List (Path × List Statement)) → IsRead source scripts → list_all is_named source.said ≡ true → AreNamed source
+read_named source scripts read named = record {
+  tasks = ap (λ (s : Source). s.names.tasks) read.said ∙ sym (ap (λ (s : Source). paths_of s.said) read.said);
+  in_projects = said_in_projects source scripts read;
+  named = named;
+}

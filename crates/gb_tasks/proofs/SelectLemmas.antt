@@ -1,12 +1,12 @@
 -- What words select, as plans and scripts say it.
-use Rattle.std.proofs.Common.{◌≡◌, ◌==◌, ℕ, Bool, true, false, not, cond, ◌||◌, ◌&&◌, List, [], ◌∷◌, ◌++◌, filter, refl, sym, ap, subst, ◌∙◌, true≢false, bytes_eq, rules}
+use Rattle.std.proofs.Common.{inl, inr, ◌≡◌, ◌==◌, ℕ, Bool, true, false, not, cond, ◌||◌, ◌&&◌, List, [], ◌∷◌, ◌++◌, filter, refl, sym, ap, subst, ◌∙◌, true≢false, bytes_eq, rules}
 use Rattle.std.specs.Cmp.Lexicographic.{bytes_decides}
-use Rattle.std.specs.Prelude.{codes, if◌then◌else◌, nat_eq}
+use Rattle.std.specs.Prelude.{◌⊎◌, IfErr, IfOk, OnOk, Result, Ok, Err, Some, codes, if◌then◌else◌, nat_eq}
 use Rattle.std.specs.Ordering.{match_ordering}
 use Rattle.std.specs.BTreeSet.{insert_key}
 use Rattle.std.specs.List.{list_all, list_any, slice_split, onto_first, starts_with}
 use Rattle.gb_core.proofs.Found.{same_tied}
-use Rattle.gb_core.specs.Lists.{byte_order}
+use Rattle.gb_core.specs.Lists.{byte_order, first_of}
 use Rattle.gb_core.specs.Name.{is_name}
 use Rattle.gb_core.specs.Path.{is_task_path, project_of, task_name}
 use Rattle.gb_core.specs.Tasks.{with_tasks}
@@ -16,6 +16,7 @@ use Rattle.gb_plan.specs.Graph as plans
 use Rattle.gb_plan.specs.Graph.{Registry}
 use Rattle.gb_plan.specs.Refusal as refusal
 use Rattle.gb_plan.specs.Task.{Path, Text, has_path}
+use Rattle.gb_registry.specs.Faults.{TellsFirst, first_of as first_fault}
 use Rattle.gb_registry.specs.Projects.{absolute, is_among, root_path}
 use Rattle.gb_registry.specs.References.{Names, lookup_faults, reference_faults}
 use Rattle.gb_registry.specs.Select.{is_path, name_word_faults, none_faults, selected, tasks_named, word_faults}
@@ -155,3 +156,24 @@ module _ (names : Names) (word : Text) where
     -- and what it selects is what it selects in plans
     pub same_selected : word_faults names word ≡ [] → selected names word ≡ plans.selected_by registry word
     same_selected none = selected_by_colon (is_path word) none ∙ ap (λ ts. chosen word ts (is_path word)) (sym tasks)
+
+    -- ---- What is answered
+
+    pub selects : (answer : Result (List Path) Fault) → IfOk answer (λ found. found ≡ selected names word) → TellsFirst (word_faults names word) answer
+        → IfOk answer (λ found. found ≡ plans.selected_by registry word)
+    selects (Ok found) is none = is ∙ same_selected none
+    selects (Err fault) is first = tt
+
+    pub without_fault : (answer : Result (List Path) Fault) → TellsFirst (word_faults names word) answer → OnOk answer (refusal.word_faults registry word ≡ [])
+    without_fault (Ok found) none = sym same_faults ∙ none
+    without_fault (Err fault) first = tt
+
+    pub first_told : (answer : Result (List Path) Fault) → TellsFirst (word_faults names word) answer
+        → IfErr answer (λ fault. (fault ≡ faults.OutOfMemory) ⊎ (first_of (refusal.word_faults registry word) ≡ Some fault))
+    first_told (Ok found) none = tt
+    first_told (Err fault) (inl memory) = inl memory
+    first_told (Err fault) (inr first) = inr (ap first_of (sym same_faults) ∙ as_first (word_faults names word) fault first)
+      where
+        as_first : (all : List Fault) (fault : Fault) → first_fault all ≡ Some fault → first_of all ≡ Some fault
+        as_first [] fault first = absurd (cc)
+        as_first (x ∷ all) fault first = first

@@ -20,14 +20,16 @@ use Rattle.gb_registry.specs.Projects.{is_among}
 use Rattle.gb_registry.specs.Said.{Registered, Said, paths_of, registered_by, task_at, tasks_of}
 use Rattle.gb_registry.specs.Source.{Source}
 use Rattle.gb_registry.specs.Tables.{Tables}
-use Rattle.gb_project.specs.Known.{RealisedNamesTasks}
-use Rattle.gb_project.specs.Ready.{IsSound, RealisedIsSound}
+use Rattle.gb_project.proofs.KnownLemmas.{realised_names_tasks}
+use Rattle.gb_project.proofs.ReadyLemmas.{realised_is_sound}
+use Rattle.gb_registry.proofs.OnceLemmas.{paths_are_new}
+use Rattle.gb_tasks.proofs.Interim.{realised_needs_are_registered}
+use Rattle.gb_tasks.proofs.OnceLemmas.{once_said}
 use Rattle.gb_project.specs.Realised.{Trouble, Plain, Endless, realised}
 use Rattle.gb_project.specs.Whole.{build_folder}
 use Rattle.gb_tasks.proofs.FindLemmas.{all_made, paths_made}
 use Rattle.gb_tasks.proofs.FolderLemmas.{same_folder}
-use Rattle.gb_tasks.proofs.SaidLemmas.{is_said_in}
-use Rattle.gb_tasks.specs.Named.{is_named, registers_named}
+use Rattle.gb_tasks.specs.Named.{AreNamed, is_named, is_said_in, registers_named}
 use Rattle.gb_tasks.specs.Scripts.{declaration_of, registry_said, settled}
 
 -- ---- A registered task
@@ -96,27 +98,22 @@ places_in folder other same (output ∷ outputs) h =
     ap (λ b. b && list_all (λ place. is_beneath place other) (map (λ (output : Output). output.place) outputs)) (ap (is_beneath output.place) (sym same) ∙ h.0)
     ∙ places_in folder other same outputs h.1
 
--- the needs of what is realised are registered
-abbrev pub NeedsAreRegistered : {M F Z S A : Type 0} → Tables M F Z S A → Source → Type 0
-NeedsAreRegistered tables source =
-    (path : Path) (task : TaskDeclaration) → realised tables source path ≡ Ok task → AllByRecursion (λ need. is_among source.names.tasks need ≡ true) task.needs
+-- the paths that are registered are those of the tasks
+pub paths_said : {M F Z S A : Type 0} (tables : Tables M F Z S A) (source : Source) → plans.paths_of (registry_said tables source) ≡ paths_of source.said
+paths_said tables source = paths_made (declaration_of tables source) (paths_of source.said)
 
-module _ {M F Z S A : Type 0} (tables : Tables M F Z S A) (source : Source) (told : ℕ → Fault)
-    (tasks : source.names.tasks ≡ paths_of source.said)
-    (among : list_all (is_said_in source.names.projects) source.said ≡ true)
-    (named : list_all is_named source.said ≡ true)
-    (sound : RealisedIsSound tables source) (names : RealisedNamesTasks tables source) (needs : NeedsAreRegistered tables source) where
+module _ {M F Z S A : Type 0} (tables : Tables M F Z S A) (source : Source) (all_named : AreNamed source) (good : configure_faults tables source ≡ []) where
   abbrev registry : Registry
-  registry = registry_said tables source told
+  registry = registry_said tables source
 
   paths_are : plans.paths_of registry ≡ source.names.tasks
-  paths_are = paths_made (declaration_of tables source told) (paths_of source.said) ∙ sym tasks
+  paths_are = paths_said tables source ∙ sym all_named.tasks
 
   realised_declared : (path : Path) (task : TaskDeclaration) → realised tables source path ≡ Ok task → IsDeclared registry path task
   realised_declared path task is =
-      let found = sound path task is in
+      let found = realised_is_sound tables source path task is in
       let at = found.0 in
-      let stands = found_in source.names.projects source.said source.said path at among named found.1 in
+      let stands = found_in source.names.projects source.said source.said path at all_named.in_projects all_named.named found.1 in
       let project : project_of path ≡ at.project = ap project_of (sym stands.0) ∙ stands.1.own in
       let folder : build_folder at.project ≡ plans.build_folder (project_of path) =
       sym (same_folder at.project stands.1.is_path) ∙ ap plans.build_folder (sym project) in
@@ -126,24 +123,24 @@ module _ {M F Z S A : Type 0} (tables : Tables M F Z S A) (source : Source) (tol
         registered =
             ap (λ paths. list_all (has_path paths) (task.needs ++ task.finalizers)) paths_are
             ∙ all_both (has_path source.names.tasks) task.needs task.finalizers
-            (all_of (has_path source.names.tasks) task.needs (needs path task is))
-            (all_of (has_path source.names.tasks) task.finalizers ((names path task is).finalizers));
+            (all_of (has_path source.names.tasks) task.needs (realised_needs_are_registered tables source all_named.tasks good path task is))
+            (all_of (has_path source.names.tasks) task.finalizers ((realised_names_tasks tables source path task is).finalizers));
         shaped = found.2.shaped;
         in_build_folder = places_in (build_folder at.project) (plans.build_folder (project_of path)) folder task.outputs found.2.built;
       }
 
-  declared_if : (path : Path) (r : Result TaskDeclaration Trouble) → realised tables source path ≡ r → IfOk (settled told r) (IsDeclared registry path)
+  declared_if : (path : Path) (r : Result TaskDeclaration Trouble) → realised tables source path ≡ r → IfOk (settled tables source r) (IsDeclared registry path)
   declared_if path (Ok task) is = realised_declared path task is
   declared_if path (Err (Plain fault)) is = tt
   declared_if path (Err (Endless entry)) is = tt
 
-  each_declared : (paths : List Path) → AllByRecursion (λ (entry : Path × Result TaskDeclaration Fault). IfOk entry.1 (IsDeclared registry entry.0)) (all_made (declaration_of tables source told) paths)
+  each_declared : (paths : List Path) → AllByRecursion (λ (entry : Path × Result TaskDeclaration Fault). IfOk entry.1 (IsDeclared registry entry.0)) (all_made (declaration_of tables source) paths)
   each_declared [] = tt
   each_declared (path ∷ paths) = (declared_if path (realised tables source path) refl, each_declared paths)
 
   -- what scripts register is in order
-  pub registry_is_sound : no_repeats (paths_of source.said) ≡ true → IsRegistry registry
-  registry_is_sound once = record {
-    once = ap no_repeats (paths_made (declaration_of tables source told) (paths_of source.said)) ∙ once;
+  pub registry_is_sound : IsRegistry registry
+  registry_is_sound = record {
+    once = ap no_repeats (paths_said tables source) ∙ once_said tables source (paths_are_new tables source) good;
     declared = each_declared (paths_of source.said);
   }

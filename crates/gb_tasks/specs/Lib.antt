@@ -1,4 +1,4 @@
 pub mod Named
-pub mod Told
+pub mod Interim
 pub mod Scripts
 pub mod Props

@@ -3,14 +3,7 @@ use Rattle.std.specs.List.{list_all}
 use Rattle.gb_registry.proofs.Firsts.{left_from}
 use Rattle.gb_registry.specs.Seen.{said_in}
 use Rattle.gb_tasks.specs.Named.{is_named}
-use Rattle.gb_tasks.proofs.OnceLemmas.{once_said}
-use Rattle.gb_tasks.proofs.FolderLemmas.{same_folder}
-use Rattle.gb_tasks.proofs.SelectLemmas.{selects_one}
-use Rattle.gb_tasks.proofs.FindLemmas.{find_made}
 use Rattle.gb_tasks.proofs.SaidLemmas.{named_behind}
-use Rattle.gb_tasks.proofs.SoundLemmas.{registry_is_sound}
-use Rattle.gb_tasks.specs.Told.{told_of}
-use Rattle.gb_tasks.proofs.ToldLemmas.{is_told_by}
 use Rattle.gb_tasks.proofs.named.read_names.Goals as goal
 
 pub loop-scripted-preserved : goal.loop-scripted-preserved
