@@ -4,5 +4,4 @@ pub mod SelectLemmas
 pub mod FindLemmas
 pub mod SaidLemmas
 pub mod RealiseLemmas
-pub mod Interim
 pub mod SoundLemmas

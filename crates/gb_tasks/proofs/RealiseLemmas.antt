@@ -13,9 +13,10 @@ use Rattle.gb_project.specs.Realised.{Trouble, Plain, Endless, realised}
 use Rattle.gb_project.specs.Told.{IsTold}
 use Rattle.gb_asked.specs.Over.{Tells}
 use Rattle.gb_tasks.proofs.FindLemmas.{find_made, found_made}
-use Rattle.gb_tasks.proofs.Interim.{HasRisingNames, realised_names_rise, told_by_names}
+use Rattle.gb_project.proofs.CircleNamesLemmas.{told_by_names}
+use Rattle.gb_project.proofs.RisingLemmas.{realised_names_rise}
 use Rattle.gb_tasks.proofs.SoundLemmas.{paths_said}
-use Rattle.gb_tasks.specs.Scripts.{declaration_of, registry_said, settled}
+use Rattle.gb_tasks.specs.Scripts.{DeclaredNamesRise, declaration_of, registry_said, settled}
 
 module _ {M F Z S A : Type 0} (tables : Tables M F Z S A) (source : Source) where
   -- a trouble is told by the fault that it is settled as
@@ -54,7 +55,6 @@ module _ {M F Z S A : Type 0} (tables : Tables M F Z S A) (source : Source) wher
       settled_ok (Err (Plain fault)) e = absurd (cc)
       settled_ok (Err (Endless entry)) e = absurd (cc)
 
--- ---- For now
-
-pub names_rise : {M F Z S A : Type 0} (tables : Tables M F Z S A) (source : Source) (path : Path) (task : TaskDeclaration) → declaration_at (registry_said tables source) path ≡ Some (Ok task) → HasRisingNames task
-names_rise tables source path task is = realised_names_rise tables source path task (declared_realised tables source path task is)
+  -- so its names rise
+  pub names_rise : DeclaredNamesRise tables source
+  names_rise path task is = realised_names_rise tables source path task (declared_realised path task is)

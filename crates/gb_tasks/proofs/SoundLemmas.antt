@@ -23,7 +23,7 @@ use Rattle.gb_registry.specs.Tables.{Tables}
 use Rattle.gb_project.proofs.KnownLemmas.{realised_names_tasks}
 use Rattle.gb_project.proofs.ReadyLemmas.{realised_is_sound}
 use Rattle.gb_registry.proofs.OnceLemmas.{paths_are_new}
-use Rattle.gb_tasks.proofs.Interim.{realised_needs_are_registered}
+use Rattle.gb_project.proofs.NeededLemmas.{realised_needs_are_registered}
 use Rattle.gb_tasks.proofs.OnceLemmas.{once_said}
 use Rattle.gb_project.specs.Realised.{Trouble, Plain, Endless, realised}
 use Rattle.gb_project.specs.Whole.{build_folder}

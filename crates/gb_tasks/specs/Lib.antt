@@ -1,4 +1,3 @@
 pub mod Named
-pub mod Interim
 pub mod Scripts
 pub mod Props

@@ -1,6 +1,6 @@
 -- What scripts register, as a plan asks for it.
-use Rattle.std.specs.Prelude.{map, Result, Ok, Err}
-use Rattle.gb_plan.specs.Graph.{Registry}
+use Rattle.std.specs.Prelude.{◌≡◌, map, Some, Result, Ok, Err}
+use Rattle.gb_plan.specs.Graph.{Registry, declaration_at}
 use Rattle.gb_plan.specs.Task.{Path}
 use Rattle.gb_plan.specs.declared.task.TaskDeclaration.{TaskDeclaration}
 use Rattle.gb_report.specs.declared.fault.Fault.{Fault}
@@ -8,8 +8,9 @@ use Rattle.gb_registry.specs.Said.{paths_of}
 use Rattle.gb_registry.specs.Select.{default_tasks}
 use Rattle.gb_registry.specs.Source.{Source}
 use Rattle.gb_registry.specs.Tables.{Tables}
+use Rattle.gb_project.specs.Known.{HasRisingNames}
 use Rattle.gb_project.specs.Realised.{Trouble, Plain, Endless, realised}
-use Rattle.gb_tasks.specs.Interim.{told_circle}
+use Rattle.gb_project.specs.Told.{told_circle}
 
 module _ {M F Z S A : Type 0} (tables : Tables M F Z S A) (source : Source) where
   -- what is declared, or the fault by which its trouble is told
@@ -30,3 +31,8 @@ module _ {M F Z S A : Type 0} (tables : Tables M F Z S A) (source : Source) wher
     default_tasks = default_tasks source.said;
   }
 
+  -- What is declared has its values, its file properties and its outputs in the order of their names.
+  abbrev pub DeclaredNamesRise : Type 0
+  DeclaredNamesRise =
+      (path : Path) (task : TaskDeclaration) → declaration_at registry_said path ≡ Some (Ok task)
+      → HasRisingNames task
