@@ -9,6 +9,7 @@ ghost use Rattle.gb_meaning.specs.Events.{State};
 ghost use Rattle.gb_meaning.specs.Headline.{Agrees, TearsAreSeen};
 ghost use Rattle.gb_meaning.specs.Kinds.{Kinds};
 ghost use Rattle.gb_meaning.specs.Memory.{Memory};
+ghost use Rattle.gb_meaning.specs.Outline.{AreOutlines};
 ghost use Rattle.gb_meaning.specs.Turn.{heard_of};
 ghost use Rattle.gb_plan.specs.Graph.{order};
 ghost use Rattle.gb_records.specs.Said.{IsText};
@@ -65,6 +66,8 @@ pub(crate) fn take_turns<A: Actions, F: Folder, L: TaskListener>(
     requires none { reports.old.items ≡ [] }
     requires room { length build.now.tasks.now ≤ vec_capacity reports.old }
     ensures of_tasks { AllZip IsOf build.now.tasks.now reports.new.items }
+    ensures outline { AreOutlines build.now.options build.now.tasks.now [] build.now.tasks.now
+        reports.new.items }
     ensures heard { AllTold (heard_of false reports.new.items) result
         (map L.ear listeners.old.items) (map L.ear listeners.new.items) }
     ensures count { F.failures folder.old ≤ F.failures folder.new }
