@@ -1,14 +1,12 @@
 //! Tasks of scripts, as a plan asks for them.
 ghost use Rattle.std.specs.Prelude.{◌≡◌, [], IfOk};
-ghost use Rattle.std.specs.Coded.{Coded-set, codes};
-ghost use Rattle.gb_script.specs.Coding.{tree_code};
 ghost use Rattle.gb_registry.specs.Configure.{configure_faults};
 ghost use Rattle.gb_plan.specs.Graph.{IsRegistry};
 ghost use Rattle.gb_registry.specs.Said.{paths_of};
 ghost use Rattle.gb_registry.specs.Select.{default_tasks as default_tasks_said};
 ghost use Rattle.gb_registry.specs.Tables.{tables_of};
-ghost use Rattle.gb_tasks.specs.Props.{IsRegistry-prop};
-ghost use Rattle.gb_tasks.specs.Scripts.{registry_said};
+ghost use Rattle.gb_tasks.specs.Props.{IsRegistry-prop, source_set};
+ghost use Rattle.gb_tasks.specs.Scripts.{registry_in, registry_said};
 
 use crate::named::read_names;
 use gb_action::actions::Actions;
@@ -30,14 +28,10 @@ pub struct ScriptTasks<'a, A: Actions, T: Transforms> {
     registry: &'a Registry,
     workspace: Workspace<'a, A, T>,
     default_tasks: Texts,
-    ghost source: { workspace.source ≡ registry.now }
-        by { Coded-set (Prim.hlevel (codes, tree_code)) workspace.source registry.now },
+    ghost source: { workspace.source ≡ registry.now } by { source_set workspace.source registry.now },
     ghost tasks: { workspace.source.names.tasks ≡ paths_of workspace.source.said },
     ghost words: { default_tasks ≡ default_tasks_said workspace.source.said },
-    ghost ordered: { IsRegistry
-        (registry_said (tables_of T.meanings A.meanings workspace.tables) workspace.source) }
-        by { IsRegistry-prop
-        (registry_said (tables_of T.meanings A.meanings workspace.tables) workspace.source) },
+    ghost ordered: { IsRegistry (registry_in T.meanings A.meanings workspace) } by { IsRegistry-prop _ },
 }
 
 impl<'a, A: Actions, T: Transforms> ScriptTasks<'a, A, T> {
@@ -63,8 +57,7 @@ impl<'a, A: Actions, T: Transforms> ScriptTasks<'a, A, T> {
 }
 
 impl<'a, A: Actions, T: Transforms> Tasks for ScriptTasks<'a, A, T> {
-    ghost registry = { λ t.
-        registry_said (tables_of T.meanings A.meanings t.workspace.tables) t.workspace.source };
+    ghost registry = { λ t. registry_in T.meanings A.meanings t.workspace };
 
     ghost sound = { λ t. t.ordered };
 
