@@ -1,5 +1,5 @@
 -- Look-ups of paths.
-use Rattle.std.proofs.Common.{◌≡◌, Bool, true, false, cond, ◌||◌, List, [], ◌∷◌, map, refl, sym, ap, subst, ◌∙◌, bytes_eq}
+use Rattle.std.proofs.Common.{◌≡◌, true, false, cond, ◌||◌, List, [], ◌∷◌, map, refl, sym, ap, ◌∙◌, bytes_eq}
 use Rattle.std.specs.Prelude.{Some}
 use Rattle.std.specs.Cmp.Lexicographic.{bytes_decides}
 use Rattle.std.specs.FinMap.Entries.{find}
@@ -8,7 +8,7 @@ use Rattle.std.specs.declared.cmp.Ordering.TheVariants.{Less, Equal, Greater}
 use Rattle.gb_core.specs.Lists.{byte_order}
 use Rattle.gb_core.proofs.Found.{find-other, find-same, tied_same}
 use Rattle.gb_plan.specs.Task.{Path, has_path}
-use Rattle.gb_plan.proofs.Tests.{itself, not_true}
+use Rattle.gb_plan.proofs.Tests.{not_true}
 use Rattle.std.proofs.Common.{true≢false}
 
 module _ {X : Type 0} (made : Path → X) where

@@ -1,5 +1,5 @@
 -- The build folder of a project, as plans and scripts say it.
-use Rattle.std.proofs.Common.{◌≡◌, ◌==◌, ℕ, Bool, true, false, not, cond, ◌||◌, ◌&&◌, List, [], ◌∷◌, ◌++◌, filter, map, refl, sym, ap, subst, ◌∙◌, append_assoc, true≢false}
+use Rattle.std.proofs.Common.{◌≡◌, ◌==◌, ℕ, Bool, true, false, not, cond, List, [], ◌∷◌, ◌++◌, filter, map, refl, sym, ap, subst, ◌∙◌, append_assoc, true≢false}
 use Rattle.std.proofs.lemmas.List.Concat.{flat_map-append}
 use Rattle.std.specs.Cmp.Lexicographic.{bytes_decides}
 use Rattle.std.specs.Prelude.{None, Some, bytes_eq, codes, drop}
@@ -9,8 +9,8 @@ use Rattle.gb_core.specs.Name.{is_name}
 use Rattle.gb_core.specs.Path.{is_project_path, is_task_path}
 use Rattle.gb_core.specs.Place.{joined}
 use Rattle.gb_folder.specs.Files.{is_empty}
-use Rattle.gb_plan.proofs.Tests.{left_of, right_of}
-use Rattle.gb_plan.specs.Graph.{build_folder, names_of}
+use Rattle.gb_plan.proofs.Tests.{right_of}
+use Rattle.gb_plan.specs.Graph.{build_folder}
 use Rattle.gb_registry.proofs.Folders.{begins_with_colon, names_something}
 use Rattle.gb_registry.specs.Projects.{folder_of, folder_text, slashed}
 

@@ -1,5 +1,5 @@
 -- Scripts without a fault register no path twice.
-use Rattle.std.proofs.Common.{◌≡◌, Bool, true, false, not, ◌||◌, ◌&&◌, cond, List, [], ◌∷◌, ◌++◌, refl, sym, ap, subst, ◌∙◌, append_assoc}
+use Rattle.std.proofs.Common.{◌≡◌, true, false, not, ◌||◌, ◌&&◌, List, [], ◌∷◌, ◌++◌, refl, sym, ap, ◌∙◌, append_assoc}
 use Rattle.std.proofs.lemmas.List.{append-nil}
 use Rattle.std.proofs.lemmas.List.Elements.{filter_map-append}
 use Rattle.std.proofs.lemmas.List.Folds.{list_any-append}
@@ -8,7 +8,7 @@ use Rattle.std.specs.Prelude.{Option, Some, None, bytes_eq}
 use Rattle.std.specs.List.{cons_option, list_any}
 use Rattle.gb_plan.specs.Graph.{no_repeats}
 use Rattle.gb_plan.specs.Task.{Path, has_path}
-use Rattle.gb_plan.proofs.Tests.{itself, neither, none_left, none_right, not_true, or_true, turned}
+use Rattle.gb_plan.proofs.Tests.{itself, neither, none_left, or_true}
 use Rattle.gb_registry.specs.Configure.{configure_faults}
 use Rattle.gb_registry.specs.Once.{PathsAreNew}
 use Rattle.gb_registry.specs.Projects.{is_among}

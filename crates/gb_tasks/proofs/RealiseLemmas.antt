@@ -1,5 +1,5 @@
 -- What a task comes to, as a plan asks for it.
-use Rattle.std.proofs.Common.{◌≡◌, true, inl, inr, refl, sym, ap, ◌∙◌}
+use Rattle.std.proofs.Common.{◌≡◌, true, inl, inr, sym, ap, ◌∙◌}
 use Rattle.std.specs.Prelude.{◌⊎◌, IfErr, IfOk, Result, Ok, Err, Some}
 use Rattle.gb_plan.specs.Graph.{declaration_at, paths_of}
 use Rattle.gb_plan.specs.Task.{Path, has_path}

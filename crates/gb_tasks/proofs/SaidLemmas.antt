@@ -1,8 +1,7 @@
 -- Statements stand in the scripts of projects.
-use Rattle.std.proofs.Common.{◌≡◌, Bool, true, false, ◌||◌, ◌&&◌, List, [], ◌∷◌, ◌++◌, refl, sym, ap, subst, ◌∙◌, bytes_eq}
-use Rattle.std.specs.Prelude.{zip}
+use Rattle.std.proofs.Common.{◌≡◌, true, ◌&&◌, List, [], ◌∷◌, ◌++◌, refl, sym, ap, ◌∙◌}
 use Rattle.std.proofs.lemmas.List.Folds.{list_all-append}
-use Rattle.std.specs.List.{list_all, flat_map}
+use Rattle.std.specs.List.{list_all}
 use Rattle.gb_plan.proofs.Tests.{all_both, all_of_members, left_of, right_of}
 use Rattle.gb_script.specs.declared.script.Statement.{Statement}
 use Rattle.gb_registry.specs.Projects.{Path, is_among, project_paths}

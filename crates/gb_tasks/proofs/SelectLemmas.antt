@@ -1,24 +1,23 @@
 -- What words select, as plans and scripts say it.
-use Rattle.std.proofs.Common.{inl, inr, ◌≡◌, ◌==◌, ℕ, Bool, true, false, not, cond, ◌||◌, ◌&&◌, List, [], ◌∷◌, ◌++◌, filter, refl, sym, ap, subst, ◌∙◌, true≢false, bytes_eq, rules}
+use Rattle.std.proofs.Common.{inl, inr, ◌≡◌, ◌==◌, ℕ, Bool, true, false, not, cond, ◌||◌, ◌&&◌, List, [], ◌∷◌, ◌++◌, filter, refl, sym, ap, subst, ◌∙◌, bytes_eq, rules}
 use Rattle.std.specs.Cmp.Lexicographic.{bytes_decides}
 use Rattle.std.specs.Prelude.{◌⊎◌, IfErr, IfOk, OnOk, Result, Ok, Err, Some, codes, if◌then◌else◌, nat_eq}
 use Rattle.std.specs.Ordering.{match_ordering}
-use Rattle.std.specs.BTreeSet.{insert_key}
 use Rattle.std.specs.List.{list_all, list_any, slice_split, onto_first, starts_with}
 use Rattle.gb_core.proofs.Found.{same_tied}
-use Rattle.gb_core.specs.Lists.{byte_order, first_of}
+use Rattle.gb_core.specs.Lists.{first_of}
 use Rattle.gb_core.specs.Name.{is_name}
 use Rattle.gb_core.specs.Path.{is_task_path, project_of, task_name}
 use Rattle.gb_core.specs.Tasks.{with_tasks}
 use Rattle.gb_folder.specs.Files.{is_empty}
-use Rattle.gb_plan.proofs.Tests.{itself, none_left, none_right, not_true, not_false}
+use Rattle.gb_plan.proofs.Tests.{none_left, none_right, not_true, not_false}
 use Rattle.gb_plan.specs.Graph as plans
 use Rattle.gb_plan.specs.Graph.{Registry}
 use Rattle.gb_plan.specs.Refusal as refusal
 use Rattle.gb_plan.specs.Task.{Path, Text, has_path}
 use Rattle.gb_registry.specs.Faults.{TellsFirst, first_of as first_fault}
 use Rattle.gb_registry.specs.Projects.{absolute, is_among, root_path}
-use Rattle.gb_registry.specs.References.{Names, lookup_faults, reference_faults}
+use Rattle.gb_registry.specs.References.{Names, reference_faults}
 use Rattle.gb_registry.specs.Select.{is_path, name_word_faults, none_faults, selected, tasks_named, word_faults}
 use Rattle.gb_report.specs.declared.fault.Fault.{Fault}
 use Rattle.gb_report.specs.declared.fault.Fault.TheVariants as faults

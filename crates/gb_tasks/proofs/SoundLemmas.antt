@@ -1,15 +1,15 @@
 -- What scripts register is in order.
-use Rattle.std.proofs.Common.{◌≡◌, Bool, true, false, cond, ◌||◌, ◌&&◌, List, ℕ, [], ◌∷◌, ◌++◌, map, refl, sym, ap, subst, ◌∙◌, bytes_eq}
+use Rattle.std.proofs.Common.{◌≡◌, Bool, true, false, cond, ◌&&◌, List, ℕ, [], ◌∷◌, ◌++◌, map, refl, sym, ap, subst, ◌∙◌, bytes_eq}
 use Rattle.std.specs.Cmp.Lexicographic.{bytes_decides}
-use Rattle.std.specs.Prelude.{filter_map, find, codes, Option, Some, None, Result, Ok, Err, IfOk}
+use Rattle.std.specs.Prelude.{filter_map, find, Option, Some, None, Result, Ok, Err, IfOk}
 use Rattle.std.specs.List.{AllByRecursion, cons_option, list_all}
 use Rattle.gb_core.proofs.Parts.{parts_make}
 use Rattle.gb_core.specs.Path.{is_project_path, project_of}
 use Rattle.gb_core.specs.Place.{is_beneath}
-use Rattle.gb_plan.proofs.Tests.{all_both, all_of_members, itself, left_of, not_true, right_of}
+use Rattle.gb_plan.proofs.Tests.{all_both, left_of, right_of}
 use Rattle.gb_plan.specs.Graph as plans
 use Rattle.gb_plan.specs.Graph.{IsDeclared, IsRegistry, Registry, no_repeats}
-use Rattle.gb_plan.specs.Task.{Path, has_path, output_places}
+use Rattle.gb_plan.specs.Task.{Path, has_path}
 use Rattle.gb_plan.specs.declared.task.Output.{Output}
 use Rattle.gb_plan.specs.declared.task.TaskDeclaration.{TaskDeclaration}
 use Rattle.gb_report.specs.declared.fault.Fault.{Fault}
@@ -17,7 +17,7 @@ use Rattle.gb_script.specs.declared.script.Statement.{Statement}
 use Rattle.gb_script.specs.declared.script.Statement.TheVariants as statements
 use Rattle.gb_registry.specs.Configure.{configure_faults}
 use Rattle.gb_registry.specs.Projects.{is_among}
-use Rattle.gb_registry.specs.Said.{Registered, Said, paths_of, registered_by, task_at, tasks_of}
+use Rattle.gb_registry.specs.Said.{Registered, Said, paths_of, registered_by}
 use Rattle.gb_registry.specs.Source.{Source}
 use Rattle.gb_registry.specs.Tables.{Tables}
 use Rattle.gb_project.proofs.KnownLemmas.{realised_names_tasks}
