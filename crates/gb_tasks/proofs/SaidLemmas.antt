@@ -1,5 +1,5 @@
 -- Statements stand in the scripts of projects.
-use Rattle.std.proofs.Common.{◌≡◌, true, ◌&&◌, List, [], ◌∷◌, ◌++◌, refl, sym, ap, ◌∙◌}
+use Rattle.std.proofs.Common.{◌≡◌, Bool, true, ◌&&◌, List, [], ◌∷◌, ◌++◌, refl, sym, ap, ◌∙◌}
 use Rattle.std.proofs.lemmas.List.Folds.{list_all-append}
 use Rattle.std.specs.List.{list_all}
 use Rattle.gb_plan.proofs.Tests.{all_both, all_of_members, left_of, right_of}
@@ -9,7 +9,18 @@ use Rattle.gb_registry.specs.Read.{IsRead}
 use Rattle.gb_registry.specs.Said.{Said, all_said, paths_of, said_by}
 use Rattle.gb_registry.specs.Source.{Source}
 use Rattle.gb_core.specs.Path.{is_project_path}
-use Rattle.gb_tasks.specs.Named.{AreNamed, is_named, is_said_in, registers_named}
+use Rattle.gb_tasks.specs.Named.{is_named, registers_named}
+
+-- it stands in the script of one of these projects
+abbrev pub is_said_in : List Path → Said → Bool
+is_said_in projects s = is_among projects s.project
+
+-- The names of tasks are those that the scripts register, and scripts are those of the projects and name
+-- their tasks. So the path of a task has its project and its name.
+pub record AreNamed (source : Source) : Type 0 where
+  pub tasks : source.names.tasks ≡ paths_of source.said
+  pub in_projects : list_all (is_said_in source.names.projects) source.said ≡ true
+  pub named : list_all is_named source.said ≡ true
 
 one_script : (all : List Path) (project : Path) (script : List Statement) → is_among all project ≡ true → list_all (is_said_in all) (said_by (project, script)) ≡ true
 one_script all project [] there = refl
