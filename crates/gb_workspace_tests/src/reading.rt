@@ -9,6 +9,7 @@ use gb_answer::builtin_runs;
 use gb_core::name::Name;
 use gb_core::path::TaskPath;
 use gb_core::text::Text;
+use gb_graph::plan::plan;
 use gb_kinds::builtin::Builtin;
 use gb_kinds::function_table::{
     FunctionTable, add_other_functions, add_part_functions, add_tests, add_text_functions,
@@ -18,6 +19,7 @@ use gb_kinds::functions::{
 };
 use gb_kinds::stored::{FlatRun, MapRun, TestRun, ZipRun};
 use gb_kinds::table::builtin_table;
+use gb_plan::plan::Plan;
 use gb_provider::transforms::Transforms;
 use gb_registry::projects::projects;
 use gb_registry::registry::Registry;
@@ -25,6 +27,7 @@ use gb_registry::tables::Tables;
 use gb_report::fault::Fault;
 use gb_script::script::{Script, Settings};
 use gb_script::{read_script, read_settings};
+use gb_tasks::script_tasks::ScriptTasks;
 use gb_workspace::workspace::Workspace;
 use std::alloc::Global;
 use std::test::Fail;
@@ -38,7 +41,7 @@ type Handed<A, T> = Tables<
 >;
 
 /// The script of the root, that of `:lib`, tasks with blanks between them, and what they come to, one
-/// behind the other, with bars between them.
+/// behind the other, with bars between them. Behind `plan` stand words, which come to the order of their plan.
 pub type Row<'a> = (&'a str, &'a str, &'a str, &'a str);
 
 /// Values of a command line: `v` is `x`, `w` is `:a`, and `go` is `yes`.
@@ -113,8 +116,46 @@ fn of_registry<A: Actions, T: Transforms>(
 ) -> Result<String, Fail>
     requires { configure_faults (tables_of T.meanings A.meanings tables.now) registry.now ≡ [] }
 {
+    if let Some(words) = tasks.strip_prefix("plan ") {
+        return planned::<A, T>(alloc, tables, registry, words);
+    }
     let mut workspace = Workspace::<'_, A, T>::declare(alloc, tables, registry)?;
     realised::<A, T>(alloc, &mut workspace, tasks)
+}
+
+fn texts(alloc: Global, words: &str) -> Result<Vec<Text>, Fail> {
+    let mut texts = Vec::new(alloc);
+    for word in words.split(' ') {
+        texts.push(Text::from_str(alloc, word)?)?;
+    }
+    Ok(texts)
+}
+
+/// The tasks of a plan of these words, in their order, or why there is none.
+fn planned<A: Actions, T: Transforms>(
+    alloc: Global,
+    tables: &Handed<A, T>,
+    registry: &Registry,
+    words: &str,
+) -> Result<String, Fail>
+    requires { configure_faults (tables_of T.meanings A.meanings tables.now) registry.now ≡ [] }
+{
+    let words = texts(alloc, words)?;
+    let mut tasks = ScriptTasks::<'_, A, T>::declare(alloc, tables, registry)?;
+    match plan(alloc, &mut tasks, words.as_slice(), &[]) {
+        Ok(plan) => in_order(alloc, &plan),
+        Err(fault) => refused(alloc, fault),
+    }
+}
+
+/// The paths of the tasks of a plan, in their order.
+fn in_order(alloc: Global, plan: &Plan) -> Result<String, Fail> {
+    let mut out = String::new(alloc);
+    for planned in plan.as_slice() {
+        out.push_str(if out.is_empty() { "" } else { " " })?;
+        out.push_str(planned.task.path.as_str())?;
+    }
+    Ok(out)
 }
 
 fn refused(alloc: Global, fault: Fault) -> Result<String, Fail> {

@@ -840,3 +840,43 @@ fn functions_give_what_they_say(rt: HostRuntime) -> Result<(), Fail> {
         ],
     )
 }
+
+#[test]
+fn scripts_are_planned(rt: HostRuntime) -> Result<(), Fail> {
+    hold(
+        rt.alloc(),
+        &[
+            (
+                "register a : writeText(\"A\") { outputFile out = buildDir.map(child(\"a\")) } register b { input y = task(\"a\").flatMap(output(\"out\")) finalizedBy \"c\" } register c { }",
+                "",
+                "plan b",
+                ":a :b :c",
+            ),
+            (
+                "register b { } register a { mustRunAfter \"b\" }",
+                "register a { dependsOn \":b\" }",
+                "plan a",
+                ":b :a :lib:a",
+            ),
+            (
+                "defaultTasks \"b\" register a { } register b { dependsOn \"a\" }",
+                "",
+                "plan :a",
+                ":a",
+            ),
+            ("register a { }", "", "plan c", "52 task not found c"),
+            (
+                "register a { input x = p } register b { dependsOn \"a\" }",
+                "",
+                "plan b",
+                "54 unknown property p",
+            ),
+            (
+                "property p set p = p register a { input x = p }",
+                "",
+                "plan a",
+                "30 circular :#p",
+            ),
+        ],
+    )
+}
