@@ -1,0 +1,3 @@
+pub mod Earlier
+pub mod Refusing
+pub mod Asked

@@ -1,0 +1,4 @@
+//! One build of what is asked for.
+#![tactic(auto)]
+
+mod scratch;

@@ -1,0 +1,4 @@
+//! Scratch.
+
+/// Nothing.
+pub fn nothing() {}
