@@ -1,3 +1,11 @@
 pub mod Earlier
 pub mod Refusing
 pub mod Asked
+pub mod Turned
+pub mod Building
+pub mod Built
+pub mod Reports
+pub mod Own
+pub mod Parts
+pub mod Changed
+pub mod Holding

@@ -1,0 +1,58 @@
+-- What a build leaves, over a folder that tells what it holds.
+use Rattle.std.specs.Prelude.{ℕ, Bool, List, Option, IsTrue, Contains}
+use Rattle.std.specs.List.{AllByRecursion, AllZip, flat_map}
+use Rattle.gb_folder.specs.Files.{Bytes, Contents}
+use Rattle.gb_history.specs.Remembered.{Remembered}
+use Rattle.gb_meaning.specs.Edits.{Shown}
+use Rattle.gb_meaning.specs.Events.{Setting, State, own_files, rules_in, world_in}
+use Rattle.gb_meaning.specs.Headline.{StillClear, seen_with, state_of}
+use Rattle.gb_meaning.specs.Kinds.{Kinds}
+use Rattle.gb_meaning.specs.Label.{Moment}
+use Rattle.gb_meaning.specs.Memory.{Memory}
+use Rattle.gb_meaning.specs.TrueRecord.{IsMade, contents_of, outside}
+use Rattle.gb_meaning.specs.Turn.{Builds, Guard, Turn}
+use Rattle.gb_plan.specs.Graph.{Plan, order}
+use Rattle.gb_plan.specs.declared.plan.Planned.{Planned}
+use Rattle.gb_records.specs.Said.{IsReadAt}
+use Rattle.gb_records.specs.Standing.{Standing}
+use Rattle.gb_report.specs.declared.report.Options.{Options}
+use Rattle.gb_report.specs.declared.report.TaskReport.{TaskReport}
+
+-- ---- Before a build
+
+-- The records of what is remembered stand in the folder, and all of it is true; these are what was read of
+-- the plan's tasks; and all contents that are remembered were seen.
+pub record AreWorth (kinds : Kinds) (plan : Plan) (records : List (Option Remembered)) (seen : List Bytes)
+    (folder : Contents) (remembered : Memory) : Type 0 where
+  pub standing : Standing folder.files remembered
+  pub made : AllByRecursion (λ entry. IsMade kinds entry.1) remembered
+  pub read : AllZip (IsReadAt folder.files) (order plan) records
+  pub was_seen : (bytes : Bytes) → Contains (flat_map (λ entry. contents_of entry.1) remembered) bytes
+      → Contains seen bytes
+
+-- ---- One turn
+
+-- It was the turn of a task of the plan, and the records of what is remembered after it stand.
+pub record IsTurnOf (setting : Setting) (options : Options) (plan : Plan) (moment : Moment)
+    (planned : Planned) (report : TaskReport) (old : Contents) (after : ℕ) (new : Contents) : Type 0 where
+  pub memory : Memory
+  pub turn : Turn (rules_in setting (own_files old) options plan) moment planned report
+      (record { world = record { folder = outside new; memory = memory }; failures = after })
+  pub records : Standing new.files memory
+
+-- ---- After a build
+
+-- a build goes by its records where all was clear before it, and no two contents seen in it have one digest
+abbrev pub guard : Setting → Bool → State → Guard
+guard setting clear old = StillClear setting (IsTrue clear) old
+
+-- From a state to this folder it is a build of the plan, as far as what was seen is clear; and if all of that
+-- is, the records of what is remembered stand after it.
+pub record HasBuilt (setting : Setting) (clear : Bool) (seen : List Bytes) (options : Options) (plan : Plan)
+    (old : State) (reports : List TaskReport) (new : Shown) : Type 0 where
+  pub remembered : Memory
+  pub builds : Builds (rules_in setting (own_files old.contents) options plan) (guard setting clear old) seen
+      (record { world = world_in old; failures = old.failures }) reports
+      (record { world = world_in (state_of new remembered); failures = new.failures })
+  pub records : guard setting clear old (seen_with seen old (state_of new remembered))
+      → Standing new.contents.files remembered
