@@ -54,10 +54,10 @@ one_then_other one other (f ∷ files) =
     elim (other f.0) as (λ b. files_where one (cond b (f ∷ files_where other files) (files_where other files))
     ≡ cond (not (not b || not (one f.0))) (f ∷ files_where (λ q. not (not (other q) || not (one q))) files) (files_where (λ q. not (not (other q) || not (one q))) files)) [
       | true ↦ elim (one f.0) as (λ b. cond b (f ∷ files_where one (files_where other files)) (files_where one (files_where other files))
-        ≡ cond (not (not b)) (f ∷ files_where (λ q. not (not (other q) || not (one q))) files) (files_where (λ q. not (not (other q) || not (one q))) files)) [
-          | true ↦ ap (λ (xs : Files). f ∷ xs) rest
-          | false ↦ rest
-        ]
+          ≡ cond (not (not b)) (f ∷ files_where (λ q. not (not (other q) || not (one q))) files) (files_where (λ q. not (not (other q) || not (one q))) files)) [
+            | true ↦ ap (λ (xs : Files). f ∷ xs) rest
+            | false ↦ rest
+          ]
       | false ↦ rest
     ]
 

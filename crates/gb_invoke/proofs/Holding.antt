@@ -97,7 +97,7 @@ module _ (kinds : Kinds) (registry_of : Registering) (may_leave : Tearing) (regi
       builds = builds;
       success = λ given none.
           let all = success_follows one (granted remembered) (spreads remembered) (λ files properties. sound) (state_of old remembered) stands invocation plan planned_so
-              (may_come setting (own_files old.contents) invocation.options) (seen_at remembered) end.failures (world_in (state_of end memory)) report.tasks given none builds in
+          (may_come setting (own_files old.contents) invocation.options) (seen_at remembered) end.failures (world_in (state_of end memory)) report.tasks given none builds in
           (λ wet. all.0 (sym dry_run ∙ wet), all.1);
     },
     λ given. stands_for_memory kinds end.contents memory is_folder
@@ -123,8 +123,8 @@ module _ (kinds : Kinds) (registry_of : Registering) (may_leave : Tearing) (regi
       | inl all ↦
           let same : (built remembered stands).remembered ≡ remembered = ap (λ (w : World). w.memory) all.2 in
           assembled remembered (built remembered stands).remembered stands (inl all)
-              (λ given. subst (Standing end.contents.files) (sym same) (subst (λ (c : Contents). Standing c.files remembered) (sym (dry is_dry))
-              (record { in_order = stands.in_order; of_tasks = stands.of_tasks; records = stands.records })))
+          (λ given. subst (Standing end.contents.files) (sym same) (subst (λ (c : Contents). Standing c.files remembered) (sym (dry is_dry))
+          (record { in_order = stands.in_order; of_tasks = stands.of_tasks; records = stands.records })))
       | inr run ↦ not_true (sym run.0 ∙ is_dry)
     ]
 
@@ -133,15 +133,15 @@ module _ (kinds : Kinds) (registry_of : Registering) (may_leave : Tearing) (regi
     wet_holds remembered stands wet =
         let done = built remembered stands in
         assembled remembered done.remembered stands
-            (builds_since setting (own_files old.contents) invocation.options plan old.failures (granted remembered) (seen_at remembered) (world_in (state_of old remembered)) mid report.tasks
-            (record { world = world_in (state_of end done.remembered); failures = end.failures }) earlier
-            (builds_weaker kinds invocation.options plan (may_come (setting_with kinds registry_of second) (own_files old.contents) invocation.options)
-            (may_come setting (own_files old.contents) invocation.options)
-            (may_alike kinds registry_of may_leave second alike (own_files old.contents) invocation.options)
-            (StillClear (setting_with kinds registry_of second) (IsTrue (not invocation.options.dry_run)) (record { contents = old.contents; remembered = remembered; failures = mid }))
-            (granted remembered) (λ contents given. (ap not wet, given.1))
-            (seen_at remembered) mid end.failures (world_in (state_of old remembered)) (world_in (state_of end done.remembered)) report.tasks done.builds))
-            (λ given. done.records (ap not wet, given.1))
+        (builds_since setting (own_files old.contents) invocation.options plan old.failures (granted remembered) (seen_at remembered) (world_in (state_of old remembered)) mid report.tasks
+        (record { world = world_in (state_of end done.remembered); failures = end.failures }) earlier
+        (builds_weaker kinds invocation.options plan (may_come (setting_with kinds registry_of second) (own_files old.contents) invocation.options)
+        (may_come setting (own_files old.contents) invocation.options)
+        (may_alike kinds registry_of may_leave second alike (own_files old.contents) invocation.options)
+        (StillClear (setting_with kinds registry_of second) (IsTrue (not invocation.options.dry_run)) (record { contents = old.contents; remembered = remembered; failures = mid }))
+        (granted remembered) (λ contents given. (ap not wet, given.1))
+        (seen_at remembered) mid end.failures (world_in (state_of old remembered)) (world_in (state_of end done.remembered)) report.tasks done.builds))
+        (λ given. done.records (ap not wet, given.1))
 
     -- a build of the plan by what was read is the invocation
     pub built_holds : InvocationHolds setting old invocation (Ok report) end

@@ -9,3 +9,4 @@ pub mod Own
 pub mod Parts
 pub mod Changed
 pub mod Holding
+pub mod Read

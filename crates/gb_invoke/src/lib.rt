@@ -1,4 +1,4 @@
-//! One build of what is asked for.
+//! One build of what is asked for: its plan, the records of its tasks, and their turns.
 #![tactic(auto)]
 
-mod scratch;
+mod before;

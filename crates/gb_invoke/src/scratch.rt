@@ -1,4 +1,0 @@
-//! Scratch.
-
-/// Nothing.
-pub fn nothing() {}
