@@ -1,15 +1,15 @@
 -- What is asked of a registry is asked of its tasks; so what holds of each declaration holds of the plan's.
-use Rattle.std.specs.Prelude.{ℕ, ◌≡◌, ◌++◌, Bool, true, false, not, cond, ◌&&◌, List, [], ◌∷◌, Option, Some, None, Result, Ok, Err, IfOk, IfErr, IsTrue, is_some}
-use Rattle.std.specs.List.{AllByRecursion, flat_map, list_any}
+use Rattle.std.specs.Prelude.{◌≡◌, ◌++◌, true, false, not, cond, List, [], ◌∷◌, Some, None, Result, Ok, Err, IfOk, IfErr}
+use Rattle.std.specs.List.{AllByRecursion, flat_map}
 use Rattle.std.specs.FinMap.Entries.{find}
 use Rattle.std.specs.Ordering.{is_eq}
-use Rattle.std.proofs.Common.{refl, sym, ap, subst, ◌∙◌, inl, inr}
+use Rattle.std.proofs.Common.{refl, ap, subst, inl, inr}
 use Rattle.gb_core.specs.Lists.{byte_order, first_of}
 use Rattle.gb_core.specs.Path.{is_task_path}
 use Rattle.gb_folder.specs.Files.{is_empty}
 use Rattle.gb_meaning.specs.Headline.{is_of_device}
 use Rattle.gb_meaning.proofs.Common.{none_some, some_same}
-use Rattle.gb_plan.specs.Graph.{IsSchedule, Plan, Registry, Request, declaration_at, absolute, selected_by, words_of}
+use Rattle.gb_plan.specs.Graph.{IsSchedule, Plan, Registry, Request, absolute, selected_by, words_of}
 use Rattle.gb_plan.specs.Refusal.{IsRefused, IsScheduleFault, has_cycle, has_overlap, has_own_input, is_undeclared, lacks_project, request_of, word_faults}
 use Rattle.gb_plan.specs.Task.{Path, Text}
 use Rattle.gb_plan.specs.declared.plan.Planned.{Planned}

@@ -8,7 +8,7 @@ use Rattle.gb_plan.specs.Graph.{IsSound, Plan, no_repeats, order, stuck}
 use Rattle.gb_plan.specs.Ready.{IsReady, Rows}
 use Rattle.gb_plan.specs.declared.plan.Planned.{Planned}
 use Rattle.gb_plan.specs.declared.task.TaskDeclaration.{TaskDeclaration as Task}
-use Rattle.gb_invoke.proofs.Turned.{is_of_turn}
+use Rattle.gb_task.specs.Turned.{is_of_turn}
 
 -- the actions of the task can be asked, its names rise, and none of its outputs is the tool's own
 pub record IsBuildable {S : Type 0} (meanings : Meanings S) (rows : Rows S) (task : Task) : Type 0 where

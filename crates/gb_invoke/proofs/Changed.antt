@@ -1,8 +1,8 @@
 -- Where the turns of a plan change files: at records of its tasks, and in build folders.
-use Rattle.std.specs.Prelude.{ℕ, ◌≡◌, ◌++◌, ◌&&◌, ◌||◌, Bool, true, false, not, cond, List, [], ◌∷◌, IsTrue, bytes_eq, nat_eq, map}
+use Rattle.std.specs.Prelude.{ℕ, ◌≡◌, ◌++◌, ◌&&◌, ◌||◌, Bool, true, false, not, cond, List, [], ◌∷◌, bytes_eq, nat_eq, map}
 use Rattle.std.specs.List.{AllByRecursion, list_all, list_any, starts_with}
 use Rattle.std.specs.Cmp.Lexicographic.{bytes_decides}
-use Rattle.std.proofs.Common.{refl, sym, ap, subst, ◌∙◌, inl, inr}
+use Rattle.std.proofs.Common.{refl, sym, ap, ◌∙◌, inl, inr}
 use Rattle.gb_core.specs.Path.{project_of}
 use Rattle.gb_core.specs.Place.{is_beneath, is_under}
 use Rattle.gb_folder.specs.Files.{Contents, DiffersOnlyAt, Files, Place, files_where, is_own}
@@ -10,18 +10,18 @@ use Rattle.gb_history.specs.Places.{record_place}
 use Rattle.gb_meaning.specs.Events.{own_files}
 use Rattle.gb_meaning.specs.Headline.{is_of_build}
 use Rattle.gb_meaning.proofs.Lemmas.Clear.{either}
-use Rattle.gb_plan.specs.Graph.{IsDeclared, Plan, Registry, build_folder}
+use Rattle.gb_plan.specs.Graph.{IsDeclared, Registry, build_folder}
 use Rattle.gb_plan.specs.Task.{Path, has_path, is_output_of}
 use Rattle.gb_plan.specs.declared.plan.Planned.{Planned}
 use Rattle.gb_plan.specs.declared.task.Output.{Output}
 use Rattle.gb_plan.specs.declared.task.TaskDeclaration.{TaskDeclaration as Task}
-use Rattle.gb_plan.proofs.Tests.{left_of, neither, no_longer, none_left, none_right, not_false, not_true, open_in, or_right, right_of}
+use Rattle.gb_plan.proofs.Tests.{left_of, neither, no_longer, none_left, none_right, not_false, not_true, or_right, right_of}
 use Rattle.gb_records.proofs.Told.{texts_are_records}
 use Rattle.gb_store.specs.Changes.{ChangesOnly, is_at}
 use Rattle.gb_tree.proofs.Under.{IsUnder, under_parts}
-use Rattle.gb_invoke.proofs.Turned.{is_of_turn}
-use Rattle.gb_invoke.proofs.Own.{kept_at}
-use Rattle.gb_invoke.proofs.Parts.{widened}
+use Rattle.gb_task.specs.Turned.{is_of_turn}
+use Rattle.gb_task.proofs.Own.{kept_at}
+use Rattle.gb_task.proofs.Parts.{widened}
 use Rattle.gb_invoke.proofs.Building.{is_of_turns}
 
 -- ---- Records

@@ -1,11 +1,11 @@
 -- A build from a moment is one from an earlier count of failures too.
-use Rattle.std.specs.Prelude.{ℕ, ◌≡◌, ◌<◌, ◌≤◌, ◌⊎◌, List, [], ◌∷◌, ◌++◌}
-use Rattle.std.proofs.Common.{refl, ◌∙◌, inl, inr, arith}
-use Rattle.std.proofs.lemmas.Bool.{cases_order}
-use Rattle.gb_folder.specs.Files.{Bytes, Files, HasRisen}
+use Rattle.std.specs.Prelude.{ℕ, ◌≤◌, List, [], ◌∷◌}
+use Rattle.std.proofs.Common.{inl, inr, arith}
+use Rattle.gb_folder.specs.Files.{Bytes, Files}
+use Rattle.gb_folder.proofs.Changes.{HasRisen-before}
 use Rattle.gb_meaning.specs.Events.{Setting, may_come, rules_in}
 use Rattle.gb_meaning.specs.Label.{Moment}
-use Rattle.gb_meaning.specs.Memory.{World, folder_contents}
+use Rattle.gb_meaning.specs.Memory.{World}
 use Rattle.gb_meaning.specs.Turn.{Builds, DoesStart, Guard, Standing, Turn, Turns, first_moment}
 use Rattle.gb_plan.specs.Graph.{Plan}
 use Rattle.gb_plan.specs.declared.plan.Planned.{Planned}
@@ -15,15 +15,6 @@ use Rattle.gb_report.specs.declared.fault.Fault.TheVariants as faults
 use Rattle.gb_report.specs.declared.report.Options.{Options}
 use Rattle.gb_report.specs.declared.report.TaskReport.{TaskReport}
 
--- a count that rose since a later moment rose since an earlier one
-pub risen_since : (before mid after : ℕ) → before ≤ mid → mid ≤ after → HasRisen mid after → HasRisen before after
-risen_since before mid after earlier count (inl more) = inl (omega (arith, earlier, more))
-risen_since before mid after earlier count (inr last) = elim (cases_order before mid) [
-  | inl same ↦ inr (same ∙ last)
-  | inr (inl less) ↦ inl (omega (arith, less, count))
-  | inr (inr greater) ↦ absurd (omega (arith, earlier, greater))
-]
-
 module _ (setting : Setting) (own : Files) (options : Options) (plan : Plan) (lower : ℕ) where
   abbrev lowered : Moment → Moment
   lowered moment = record { world = moment.world; outcomes = moment.outcomes; failures = lower }
@@ -31,10 +22,10 @@ module _ (setting : Setting) (own : Files) (options : Options) (plan : Plan) (lo
   may_since : (task : Task) (moment : Moment) (new : Standing) (fault : Fault) → lower ≤ moment.failures → moment.failures ≤ new.failures
       → may_come setting own options task moment new fault → may_come setting own options task (lowered moment) new fault
   may_since task moment new faults.OutOfMemory earlier count may = may
-  may_since task moment new (faults.Device place) earlier count may = (risen_since lower moment.failures new.failures earlier count may.0, may.1, may.2)
+  may_since task moment new (faults.Device place) earlier count may = (HasRisen-before lower moment.failures new.failures earlier count may.0, may.1, may.2)
   may_since task moment new faults.HistoryNotWritten earlier count may = (
     may.0,
-    elim may.1 [ inl risen ↦ inl (risen_since lower moment.failures new.failures earlier count risen) | inr other ↦ inr other ],
+    elim may.1 [ inl risen ↦ inl (HasRisen-before lower moment.failures new.failures earlier count risen) | inr other ↦ inr other ],
   )
   may_since task moment new other earlier count may = absurd may
 

@@ -1,6 +1,6 @@
 -- A build of a plan from true records is an invocation by its definition.
-use Rattle.std.specs.Prelude.{ℕ, ◌≡◌, ◌≤◌, ◌++◌, Bool, true, false, not, List, [], ◌∷◌, Ok, Some, IsTrue, ⊤}
-use Rattle.std.specs.List.{AllByRecursion, list_any}
+use Rattle.std.specs.Prelude.{ℕ, ◌≡◌, ◌≤◌, Bool, true, false, not, List, [], ◌∷◌, Ok, Option, IsTrue, ⊤}
+use Rattle.std.specs.List.{AllZip}
 use Rattle.std.proofs.Common.{refl, sym, ap, subst, ◌∙◌, inl, inr, arith}
 use Rattle.sha2.specs.Sha256.{sha256}
 use Rattle.gb_folder.specs.Files.{Bytes, Contents, Files, IsFolder, SameTearing, Tearing}
@@ -8,7 +8,7 @@ use Rattle.gb_graph.specs.Answer.{IsPlanOf}
 use Rattle.gb_meaning.specs.declared.events.Event.TheVariants as events
 use Rattle.gb_meaning.specs.declared.events.Invocation.{Invocation}
 use Rattle.gb_meaning.specs.Edits.{Shown}
-use Rattle.gb_meaning.specs.Events.{HasPlan, Setting, State, may_come, own_files, rules_in, world_in}
+use Rattle.gb_meaning.specs.Events.{HasPlan, Setting, may_come, own_files, rules_in, world_in}
 use Rattle.gb_meaning.specs.Headline.{InvocationHolds, RunHolds, Stands, StillClear, answer_of, seen_with, state_of}
 use Rattle.gb_meaning.specs.Kinds.{Kinds}
 use Rattle.gb_meaning.specs.Label.{Moment}
@@ -19,9 +19,11 @@ use Rattle.gb_meaning.proofs.Lemmas.Clear.{apart_of_fewer}
 use Rattle.gb_meaning.proofs.Lemmas.Plain.{Spreads}
 use Rattle.gb_meaning.proofs.Lemmas.Success.{success_follows, truth_follows}
 use Rattle.gb_meaning.proofs.Lemmas.Weaker.{builds_weaker}
-use Rattle.gb_plan.specs.Graph.{IsRegistry, Plan, Registry}
+use Rattle.gb_plan.specs.Graph.{IsRegistry, Plan, Registry, order}
 use Rattle.gb_plan.specs.declared.task.TaskDeclaration.{TaskDeclaration as Task}
-use Rattle.gb_plan.proofs.Tests.{not_false, not_true}
+use Rattle.gb_plan.proofs.Tests.{no_longer, not_true}
+use Rattle.gb_history.specs.Remembered.{Remembered}
+use Rattle.gb_records.specs.Said.{IsReadAt}
 use Rattle.gb_records.specs.Standing.{Standing}
 use Rattle.gb_records.proofs.Told.{stands_for_memory}
 use Rattle.gb_report.specs.declared.fault.Fault.{Fault}
@@ -29,9 +31,9 @@ use Rattle.gb_report.specs.declared.fault.Fault.TheVariants as faults
 use Rattle.gb_report.specs.declared.report.Options.{Options}
 use Rattle.gb_report.specs.declared.report.Report.{Report}
 use Rattle.gb_store.specs.Changes.{ChangesOnly}
-use Rattle.gb_invoke.proofs.Turned.{Registering, setting_with}
+use Rattle.gb_task.specs.Turned.{Registering, setting_with}
 use Rattle.gb_invoke.proofs.Building.{is_of_turns}
-use Rattle.gb_invoke.proofs.Built.{HasBuilt}
+use Rattle.gb_invoke.proofs.Built.{AreWorth, HasBuilt}
 use Rattle.gb_invoke.proofs.Changed.{HaveOwnPlaces, records_differ}
 use Rattle.gb_invoke.proofs.Earlier.{builds_since}
 
@@ -113,35 +115,58 @@ module _ (kinds : Kinds) (registry_of : Registering) (may_leave : Tearing) (regi
       planned_so : HasPlan one (outside old.contents) invocation plan
       planned_so = record { registry = registry; scripts = refl; request = is_plan.0; asked = is_plan.1; planned = is_plan.2 }
 
-  module _ (mid : ℕ) (earlier : old.failures ≤ mid) (second : Tearing) (alike : SameTearing may_leave second)
-      (built : (remembered : Memory) → Stands setting old.contents remembered
-      → HasBuilt (setting_with kinds registry_of second) (not invocation.options.dry_run) (seen_at remembered) invocation.options plan
-      (record { contents = old.contents; remembered = remembered; failures = mid }) report.tasks end) where
-    dry_holds : (remembered : Memory) → Stands setting old.contents remembered → invocation.options.dry_run ≡ true
+  -- what a build of the plan is, by what was read before it in a folder of these contents
+  abbrev pub GivesBuild : Tearing → ℕ → List (Option Remembered) → Contents → Type 0
+  GivesBuild second failures records contents =
+      (remembered : Memory) (clear : Bool) (seen : List Bytes) → (IsTrue clear → AreWorth kinds plan records seen contents remembered)
+      → HasBuilt (setting_with kinds registry_of second) clear seen invocation.options plan
+      (record { contents = contents; remembered = remembered; failures = failures }) report.tasks end
+
+  module _ (mid : Shown) (same : mid.contents ≡ old.contents) (earlier : old.failures ≤ mid.failures) (second : Tearing) (alike : SameTearing may_leave second)
+      (records : List (Option Remembered)) (read : invocation.options.dry_run ≡ false → AllZip (IsReadAt old.contents.files) (order plan) records)
+      (builds : GivesBuild second mid.failures records mid.contents) where
+    abbrev IsBuiltFrom : Memory → Type 0
+    IsBuiltFrom remembered =
+        HasBuilt (setting_with kinds registry_of second) (not invocation.options.dry_run) (seen_at remembered) invocation.options plan
+        (record { contents = old.contents; remembered = remembered; failures = mid.failures }) report.tasks end
+
+    -- what is remembered stands in true records, and these were read but in a dry run
+    built_from : (remembered : Memory) → Stands setting old.contents remembered → IsBuiltFrom remembered
+    built_from remembered stands =
+        subst (GivesBuild second mid.failures records) same builds remembered (not invocation.options.dry_run) (seen_at remembered)
+        (λ wet. record {
+          standing = record { in_order = stands.in_order; of_tasks = stands.of_tasks; records = stands.records };
+          made = stands.made;
+          read = read (no_longer invocation.options.dry_run wet);
+          was_seen = λ bytes seen. seen;
+        })
+
+    dry_holds : (remembered : Memory) → Stands setting old.contents remembered → IsBuiltFrom remembered → invocation.options.dry_run ≡ true
         → RunHolds setting ⊤ (seen_at remembered) (state_of old remembered) (events.Invoke invocation ∷ []) (answer_of (Ok report) ∷ []) end
-    dry_holds remembered stands is_dry = elim (built remembered stands).builds [
+    dry_holds remembered stands built is_dry = elim built.builds [
       | inl all ↦
-          let same : (built remembered stands).remembered ≡ remembered = ap (λ (w : World). w.memory) all.2 in
-          assembled remembered (built remembered stands).remembered stands (inl all)
-          (λ given. subst (Standing end.contents.files) (sym same) (subst (λ (c : Contents). Standing c.files remembered) (sym (dry is_dry))
+          assembled remembered built.remembered stands (inl all)
+          (λ given. subst (Standing end.contents.files) (sym (ap (λ (w : World). w.memory) all.2)) (subst (λ (c : Contents). Standing c.files remembered) (sym (dry is_dry))
           (record { in_order = stands.in_order; of_tasks = stands.of_tasks; records = stands.records })))
       | inr run ↦ not_true (sym run.0 ∙ is_dry)
     ]
 
-    wet_holds : (remembered : Memory) → Stands setting old.contents remembered → invocation.options.dry_run ≡ false
+    wet_holds : (remembered : Memory) → Stands setting old.contents remembered → IsBuiltFrom remembered → invocation.options.dry_run ≡ false
         → RunHolds setting ⊤ (seen_at remembered) (state_of old remembered) (events.Invoke invocation ∷ []) (answer_of (Ok report) ∷ []) end
-    wet_holds remembered stands wet =
-        let done = built remembered stands in
-        assembled remembered done.remembered stands
-        (builds_since setting (own_files old.contents) invocation.options plan old.failures (granted remembered) (seen_at remembered) (world_in (state_of old remembered)) mid report.tasks
-        (record { world = world_in (state_of end done.remembered); failures = end.failures }) earlier
-        (builds_weaker kinds invocation.options plan (may_come (setting_with kinds registry_of second) (own_files old.contents) invocation.options)
-        (may_come setting (own_files old.contents) invocation.options)
-        (may_alike kinds registry_of may_leave second alike (own_files old.contents) invocation.options)
-        (StillClear (setting_with kinds registry_of second) (IsTrue (not invocation.options.dry_run)) (record { contents = old.contents; remembered = remembered; failures = mid }))
-        (granted remembered) (λ contents given. (ap not wet, given.1))
-        (seen_at remembered) mid end.failures (world_in (state_of old remembered)) (world_in (state_of end done.remembered)) report.tasks done.builds))
-        (λ given. done.records (ap not wet, given.1))
+    wet_holds remembered stands built wet =
+        let own : Files = own_files old.contents in
+        let first : World = world_in (state_of old remembered) in
+        let last : World = world_in (state_of end built.remembered) in
+        let ready : IsTrue (not invocation.options.dry_run) = ap not wet in
+        assembled remembered built.remembered stands
+        (builds_since setting own invocation.options plan old.failures (granted remembered) (seen_at remembered) first mid.failures report.tasks
+        (record { world = last; failures = end.failures }) earlier
+        (builds_weaker kinds invocation.options plan (may_come (setting_with kinds registry_of second) own invocation.options) (may_come setting own invocation.options)
+        (may_alike kinds registry_of may_leave second alike own invocation.options)
+        (StillClear (setting_with kinds registry_of second) (IsTrue (not invocation.options.dry_run)) (record { contents = old.contents; remembered = remembered; failures = mid.failures }))
+        (granted remembered) (λ contents given. (ready, given.1))
+        (seen_at remembered) mid.failures end.failures first last report.tasks built.builds))
+        (λ given. built.records (ready, given.1))
 
     -- a build of the plan by what was read is the invocation
     pub built_holds : InvocationHolds setting old invocation (Ok report) end
@@ -149,5 +174,5 @@ module _ (kinds : Kinds) (registry_of : Registering) (may_leave : Tearing) (regi
       where
         by : (b : Bool) → invocation.options.dry_run ≡ b
             → RunHolds setting ⊤ (seen_at remembered) (state_of old remembered) (events.Invoke invocation ∷ []) (answer_of (Ok report) ∷ []) end
-        by true is_dry = dry_holds remembered stands is_dry
-        by false wet = wet_holds remembered stands wet
+        by true is_dry = dry_holds remembered stands (built_from remembered stands) is_dry
+        by false wet = wet_holds remembered stands (built_from remembered stands) wet

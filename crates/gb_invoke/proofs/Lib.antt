@@ -1,12 +1,9 @@
 pub mod Earlier
 pub mod Refusing
 pub mod Asked
-pub mod Turned
 pub mod Building
 pub mod Built
 pub mod Reports
-pub mod Own
-pub mod Parts
 pub mod Changed
 pub mod Holding
 pub mod Read

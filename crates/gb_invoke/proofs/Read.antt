@@ -1,10 +1,10 @@
 -- What is read before a build, and why it could not be.
-use Rattle.std.specs.Prelude.{ℕ, ◌≡◌, ◌++◌, ◌&&◌, Bool, true, false, List, [], ◌∷◌, length, map, take, Result, Err}
+use Rattle.std.specs.Prelude.{ℕ, ◌≡◌, ◌++◌, ◌&&◌, Bool, true, false, List, [], ◌∷◌, length, take, Result, Err}
 use Rattle.std.specs.List.{AllByRecursion, AllZip, list_any}
 use Rattle.std.proofs.Common.{refl, sym, ap, subst, ◌∙◌, inl, inr, suc, arith, length-append}
 use Rattle.std.proofs.Math.Seq.{take-length}
 use Rattle.std.proofs.lemmas.List.{length-map}
-use Rattle.gb_folder.specs.Files.{Place, is_own}
+use Rattle.gb_folder.specs.Files.{is_own}
 use Rattle.gb_history.specs.Places.{record_place}
 use Rattle.gb_plan.specs.Graph.{order}
 use Rattle.gb_plan.specs.Task.{Path}

@@ -1,4 +1,4 @@
-use Rattle.std.proofs.Common.{List, arith, sym, subst, ap, ◌∙◌, IfErr}
+use Rattle.std.proofs.Common.{List, arith, sym, subst, ◌∙◌, IfErr}
 use Rattle.std.proofs.lemmas.Result.{err_from_is_err_and}
 use Rattle.std.specs.List.{AllZip}
 use Rattle.gb_plan.proofs.Tests.{not_true}
