@@ -22,7 +22,7 @@ use Rattle.gb_tree.proofs.Under.{IsUnder, under_parts}
 use Rattle.gb_task.specs.Turned.{is_of_turn}
 use Rattle.gb_task.proofs.Own.{kept_at}
 use Rattle.gb_task.proofs.Parts.{widened}
-use Rattle.gb_invoke.proofs.Building.{is_of_turns}
+use Rattle.gb_execute.specs.Building.{is_of_turns}
 
 -- ---- Records
 

@@ -32,8 +32,8 @@ use Rattle.gb_report.specs.declared.report.Options.{Options}
 use Rattle.gb_report.specs.declared.report.Report.{Report}
 use Rattle.gb_store.specs.Changes.{ChangesOnly}
 use Rattle.gb_task.specs.Turned.{Registering, setting_with}
-use Rattle.gb_invoke.proofs.Building.{is_of_turns}
-use Rattle.gb_invoke.proofs.Built.{AreWorth, HasBuilt}
+use Rattle.gb_execute.specs.Building.{is_of_turns}
+use Rattle.gb_execute.specs.Built.{AreWorth, HasBuilt}
 use Rattle.gb_invoke.proofs.Changed.{HaveOwnPlaces, records_differ}
 use Rattle.gb_invoke.proofs.Earlier.{builds_since}
 

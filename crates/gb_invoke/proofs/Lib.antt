@@ -1,9 +1,7 @@
 pub mod Earlier
 pub mod Refusing
 pub mod Asked
-pub mod Building
-pub mod Built
-pub mod Reports
 pub mod Changed
 pub mod Holding
 pub mod Read
+pub mod Planning

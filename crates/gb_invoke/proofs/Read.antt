@@ -14,7 +14,7 @@ use Rattle.gb_report.specs.declared.fault.Fault.{Fault}
 use Rattle.gb_store.specs.Changes.{is_at}
 use Rattle.gb_store.specs.Faults.{BlamesOnly, IsOfMachine}
 use Rattle.gb_store.proofs.Machine.{among_passes}
-use Rattle.gb_invoke.specs.Reading.{IsUnread}
+use Rattle.gb_invoke.specs.Refusing.{IsUnread}
 
 -- ---- Nothing more
 

@@ -1,21 +1,72 @@
--- What a refused invocation leaves is as its definition says.
-use Rattle.std.specs.Prelude.{◌≡◌, ◌≤◌, Err}
-use Rattle.std.proofs.Common.{refl, sym, arith}
+-- What a refused invocation leaves is as its definition says, and it blames the device no more than it failed.
+use Rattle.std.specs.Prelude.{ℕ, ◌≡◌, ◌≤◌, ◌⊎◌, Bool, true, false, cond, codes, Ok, Err, bytes_eq}
+use Rattle.std.proofs.Common.{refl, sym, ap, subst, ◌∙◌, inl, inr, arith}
+use Rattle.gb_folder.specs.Files.{HasRisen, is_own}
 use Rattle.gb_meaning.specs.declared.events.Invocation.{Invocation}
 use Rattle.gb_meaning.specs.Edits.{Shown}
-use Rattle.gb_meaning.specs.Events.{IsNotBuilt, Setting}
-use Rattle.gb_meaning.specs.Headline.{InvocationHolds, state_of}
+use Rattle.gb_meaning.specs.Events.{IsNotBuilt, Setting, State, is_read_first}
+use Rattle.gb_meaning.specs.Headline.{InvocationHolds, answer_of, is_of_device, state_of, times_blamed}
 use Rattle.gb_meaning.specs.Memory.{Memory}
+use Rattle.gb_meaning.specs.TrueRecord.{outside}
+use Rattle.gb_plan.specs.Graph.{Registry}
+use Rattle.gb_plan.proofs.Tests.{or_right}
 use Rattle.gb_report.specs.declared.fault.Fault.{Fault}
+use Rattle.gb_tree.specs.Property.{last_segment}
+use Rattle.gb_invoke.specs.Asking.{NoneBlameDevice}
+use Rattle.gb_invoke.specs.Refusing.{IsNotBegun}
+use Rattle.gb_invoke.proofs.Asked.{refusal_blames_none, request_registry, words_blame_none}
+use Rattle.gb_execute.specs.Failing.{HasFailed}
 
--- the fault is one that the invocation may be refused with, and nothing changed
-pub refused_holds : (setting : Setting) (old end : Shown) (invocation : Invocation) (fault : Fault)
-    → ((remembered : Memory) → IsNotBuilt setting (state_of old remembered) invocation fault end.failures)
+-- ---- What is left
+
+-- why a build is not begun is why an invocation is not built
+not_built : (setting : Setting) (registry : Registry) (old : State) (invocation : Invocation) (fault : Fault) (after : ℕ) → setting.registry_of (outside old.contents).files invocation.properties ≡ Ok registry
+    → IsNotBegun registry invocation old.failures after fault → IsNotBuilt setting old invocation fault after
+not_built setting registry old invocation fault after scripts (inl (inl out)) = inr (inr (inl out))
+not_built setting registry old invocation fault after scripts (inl (inr (inl words))) = inr (inl (registry, scripts, inl words))
+not_built setting registry old invocation fault after scripts (inl (inr (inr plan))) = inr (inl (registry, scripts, inr plan))
+not_built setting registry old invocation fault after scripts (inr (inl out)) = inr (inr (inl out))
+not_built setting registry old invocation fault after scripts (inr (inr device)) =
+    inr (inr (inr (
+      device.0,
+      or_right (bytes_eq device.0 (codes "settings.gb")) _ (or_right (bytes_eq (last_segment device.0) (codes "build.gb")) _ device.1),
+      device.2,
+    )))
+
+-- an invocation that is not begun, and changed nothing
+pub refused_holds : (setting : Setting) (registry : Registry) (old end : Shown) (invocation : Invocation) (fault : Fault)
+    → setting.registry_of (outside old.contents).files invocation.properties ≡ Ok registry → IsNotBegun registry invocation old.failures end.failures fault
     → old.failures ≤ end.failures → end.contents ≡ old.contents → InvocationHolds setting old invocation (Err fault) end
-refused_holds setting old end invocation fault not_built count same = λ remembered stands. (
+refused_holds setting registry old end invocation fault scripts why count same = λ remembered stands. (
   record { contents = old.contents; remembered = remembered; failures = end.failures },
   count,
-  (not_built remembered, refl, refl),
+  (not_built setting registry (state_of old remembered) invocation fault end.failures scripts why, refl, refl),
   λ clear. stands,
   (omega arith, sym same),
 )
+
+-- ---- The device
+
+pub failed_since : (times before mid after : ℕ) → before ≤ mid → HasFailed times mid after → HasFailed times before after
+failed_since times before mid after earlier (inl enough) = inl (omega (arith, earlier, enough))
+failed_since times before mid after earlier (inr last) = inr last
+
+unblamed : (fault : Fault) (before after : ℕ) → before ≤ after → is_of_device fault ≡ false → HasFailed (times_blamed (answer_of (Err fault))) before after
+unblamed fault before after count none = subst (λ (b : Bool). HasFailed (cond b 1 0) before after) (sym none) (inl (omega (arith, count)))
+
+risen_once : (before after : ℕ) → before ≤ after → HasRisen before after → HasFailed 1 before after
+risen_once before after count (inl more) = inl (omega (arith, more))
+risen_once before after count (inr last) = inr (omega (arith, count, last))
+
+-- a refusal blames the device at most once, and then it failed
+pub refused_fails : (registry : Registry) (invocation : Invocation) (fault : Fault) (before after : ℕ) → NoneBlameDevice registry → before ≤ after
+    → IsNotBegun registry invocation before after fault → HasFailed (times_blamed (answer_of (Err fault))) before after
+refused_fails registry invocation fault before after none count (inl (inl out)) = unblamed fault before after count (ap is_of_device out)
+refused_fails registry invocation fault before after none count (inl (inr (inl words))) =
+    unblamed fault before after count (words_blame_none registry invocation.requested invocation.excluded fault words)
+refused_fails registry invocation fault before after none count (inl (inr (inr plan))) =
+    unblamed fault before after count
+    (refusal_blames_none plan.0 fault (subst NoneBlameDevice (sym (request_registry registry invocation.requested invocation.excluded plan.0 plan.1)) none) plan.2)
+refused_fails registry invocation fault before after none count (inr (inl out)) = unblamed fault before after count (ap is_of_device out)
+refused_fails registry invocation fault before after none count (inr (inr device)) =
+    subst (λ (b : Bool). HasFailed (cond b 1 0) before after) (sym (ap is_of_device device.2.1)) (risen_once before after count device.2.0)

@@ -4,7 +4,7 @@ ghost use Rattle.std.specs.List.{AllZip};
 ghost use Rattle.gb_folder.specs.Files.{SameTearing};
 ghost use Rattle.gb_plan.specs.Graph.{order};
 ghost use Rattle.gb_records.specs.Said.{IsReadAt};
-ghost use Rattle.gb_invoke.specs.Reading.{IsUnread};
+ghost use Rattle.gb_invoke.specs.Refusing.{IsUnread};
 
 use gb_core::path::TaskPath;
 use gb_folder::folder::Folder;

@@ -5,7 +5,7 @@ use Rattle.gb_plan.proofs.Tests.{not_true}
 use Rattle.gb_plan.specs.Task.{Path}
 use Rattle.gb_records.specs.Said.{IsReadAt}
 use Rattle.gb_store.specs.Faults.{IsOfMachine}
-use Rattle.gb_invoke.specs.Reading.{IsUnread}
+use Rattle.gb_invoke.specs.Refusing.{IsUnread}
 use Rattle.gb_invoke.proofs.Read.{all_read, unread}
 use Rattle.gb_invoke.proofs.before.records_for.Goals as goal
 use Rattle.gb_invoke.proofs.before.records_for.Goals.{then-dry_run, else-dry_run+in_ok-paths_of+in_ok-records}
