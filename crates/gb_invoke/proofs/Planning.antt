@@ -21,6 +21,11 @@ use Rattle.gb_invoke.proofs.Asked.{planned_all, request_registry}
 use Rattle.gb_execute.specs.Building.{CanBuild, IsBuildable}
 use Rattle.gb_invoke.proofs.Changed.{HaveOwnPlaces}
 
+-- a plan of what the words say
+pub plan_of : (registry : Registry) (one requested other excluded : List Text) (plan : Plan) → one ≡ requested → other ≡ excluded → IsPlanOf registry one other plan → IsPlanOf registry requested excluded plan
+plan_of registry one requested other excluded plan same_requested same_excluded is =
+    subst (λ (words : List Text). IsPlanOf registry requested words plan) same_excluded (subst (λ (words : List Text). IsPlanOf registry words other plan) same_requested is)
+
 module _ (registry : Registry) (requested excluded : List Text) (plan : Plan) (is_plan : IsPlanOf registry requested excluded plan) where
   pub can_build : {S : Type 0} (meanings : Meanings S) (rows : Rows S) → AreBuildable meanings rows registry → CanBuild meanings rows plan
   can_build meanings rows buildable = record {
