@@ -88,7 +88,7 @@ pub returns-clause-elsewhere : goal.returns-clause-elsewhere
 returns-clause-elsewhere g c = λ tells.
     let F = g.F.Folder in
     elsewhere (g.Ts.Tasks.registry c.args.tasks.now) c.in_ok-plan.plan
-    (all_declared (g.Ts.Tasks.registry c.args.tasks.now) c.as_slice-requested.result.now c.as_slice-excluded.result.now c.in_ok-plan.plan c.in_ok-plan.ensures.plan (g.met.Ts.Tasks.sound c.args.tasks.now))
+    (all_declared (g.Ts.Tasks.registry c.args.tasks.now) c.as_slice-requested.result.now c.as_slice-excluded.result.now c.in_ok-plan.plan c.in_ok-plan.ensures.plan (g.Ts.Tasks.sound c.args.tasks.now))
     (F.contents c.args.folder.now) (F.contents c.execute.new.folder)
     (subst (λ (contents : Contents). ChangesOnly (is_of_turns c.in_ok-plan.plan) contents (F.contents c.execute.new.folder)) (c.records_for.ensures.same tells) (c.execute.ensures.changes tells))
 
@@ -103,7 +103,7 @@ returns-clause-holds g c = λ tells kinds registry_of agrees tears scripts.
     let is_plan = plan_of registry c.as_slice-requested.result.now c.args.invocation.now.requested c.as_slice-excluded.result.now c.args.invocation.now.excluded plan
         c.as_slice-requested.ensures c.as_slice-excluded.ensures c.in_ok-plan.ensures.plan in
     let can = can_build registry c.args.invocation.now.requested c.args.invocation.now.excluded plan is_plan g.A.Actions.meanings c.args.table.now c.requires in
-    built_holds kinds registry_of (F.may_leave c.args.folder.now) registry (g.met.Ts.Tasks.sound c.args.tasks.now) c.args.invocation.now plan is_plan
+    built_holds kinds registry_of (F.may_leave c.args.folder.now) registry (g.Ts.Tasks.sound c.args.tasks.now) c.args.invocation.now plan is_plan
     (own_places g.A.Actions.meanings c.args.table.now plan can) old new c.in_ok-report.report c.in_ok-report.ensures.dry_run (g.met.F.Folder.sound c.execute.new.folder)
     (subst (λ (contents : Contents). ChangesOnly (is_of_turns plan) contents new.contents) (c.records_for.ensures.same tells) (c.execute.ensures.changes tells))
     (λ dry. ap F.contents (c.execute.ensures.dry dry) ∙ c.records_for.ensures.same tells)
