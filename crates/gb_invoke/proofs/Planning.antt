@@ -1,17 +1,15 @@
 -- A plan of what was asked of tasks that can be built is one that can be built.
-use Rattle.std.specs.Prelude.{ℕ, ◌≡◌, false, Option, List, IfOk}
-use Rattle.std.specs.List.{AllByRecursion, list_any}
+use Rattle.std.specs.Prelude.{◌≡◌, List}
+use Rattle.std.specs.List.{AllByRecursion}
 use Rattle.std.proofs.Common.{sym, subst}
 use Rattle.gb_action.specs.Meanings.{Meanings}
-use Rattle.gb_core.specs.Path.{is_task_path}
-use Rattle.gb_folder.specs.Files.{Bytes, SameTearing, Tearing, is_own}
+use Rattle.gb_folder.specs.Files.{SameTearing, Tearing}
 use Rattle.gb_graph.specs.Answer.{IsPlanOf}
 use Rattle.gb_history.specs.Places.{record_place}
 use Rattle.gb_meaning.specs.Headline.{TearsAreSeen}
-use Rattle.gb_meaning.specs.declared.events.Invocation.{Invocation}
 use Rattle.gb_plan.specs.Graph.{IsDeclared, IsRegistry, Plan, Registry}
 use Rattle.gb_plan.specs.Ready.{Rows}
-use Rattle.gb_plan.specs.Task.{Path, Text}
+use Rattle.gb_plan.specs.Task.{Text}
 use Rattle.gb_plan.specs.declared.plan.Planned.{Planned}
 use Rattle.gb_plan.proofs.Registered.{planned_declared}
 use Rattle.gb_plan.proofs.Tests.{each_all}

@@ -1,12 +1,11 @@
 -- What a refused invocation leaves is as its definition says, and it blames the device no more than it failed.
-use Rattle.std.specs.Prelude.{ℕ, ◌≡◌, ◌≤◌, ◌⊎◌, ◌||◌, Bool, true, false, List, cond, codes, IfErr, Ok, Err, Result, bytes_eq}
-use Rattle.std.proofs.Common.{refl, sym, ap, subst, ◌∙◌, inl, inr, arith}
-use Rattle.gb_folder.specs.Files.{HasRisen, is_own}
+use Rattle.std.specs.Prelude.{ℕ, ◌≡◌, ◌≤◌, ◌||◌, Bool, false, List, cond, codes, IfErr, Ok, Err, Result, bytes_eq}
+use Rattle.std.proofs.Common.{refl, sym, ap, subst, inl, inr, arith}
+use Rattle.gb_folder.specs.Files.{HasRisen}
 use Rattle.gb_meaning.specs.declared.events.Invocation.{Invocation}
 use Rattle.gb_meaning.specs.Edits.{Shown}
-use Rattle.gb_meaning.specs.Events.{IsNotBuilt, Setting, State, is_read_first}
+use Rattle.gb_meaning.specs.Events.{IsNotBuilt, Setting, State}
 use Rattle.gb_meaning.specs.Headline.{InvocationHolds, answer_of, is_of_device, state_of, times_blamed}
-use Rattle.gb_meaning.specs.Memory.{Memory}
 use Rattle.gb_meaning.specs.TrueRecord.{outside}
 use Rattle.gb_graph.specs.Answer.{IsRefusalOf}
 use Rattle.gb_plan.specs.Graph.{Registry}

@@ -1,7 +1,7 @@
 //! One build of what is asked for: its plan, the records of its tasks, and their turns.
 //!
-//! The one contract is that of [`invoke::build_requested`]: what a build answers and leaves is an invocation by
-//! its definition.
+//! The one contract is that of [`invoke::build_requested`]: what a build answers and leaves is an invocation
+//! by its definition.
 #![tactic(auto)]
 
 mod before;

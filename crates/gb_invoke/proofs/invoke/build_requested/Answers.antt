@@ -1,9 +1,7 @@
-use Rattle.std.proofs.Common.{◌≡◌, ◌≤◌, Bool, List, Option, IsTrue, ap, arith, inl, subst, sym, true, ◌∙◌}
+use Rattle.std.proofs.Common.{List, Option, ap, arith, inl, subst, sym, ◌∙◌}
 use Rattle.std.proofs.lemmas.Result.{err_from_is_err_and}
 use Rattle.std.specs.List.{AllZip}
 use Rattle.gb_folder.specs.Files.{Contents}
-use Rattle.gb_folder.proofs.Changes.{SameTearing-chain}
-use Rattle.gb_graph.specs.Answer.{IsPlanOf}
 use Rattle.gb_history.specs.Remembered.{Remembered}
 use Rattle.gb_meaning.specs.Edits.{Shown}
 use Rattle.gb_plan.specs.declared.plan.Planned.{Planned}
@@ -101,7 +99,7 @@ returns-clause-holds g c = λ tells kinds registry_of agrees tears scripts.
     let mid : Shown = record { contents = F.contents c.records_for.new.folder; failures = F.failures c.records_for.new.folder } in
     let new : Shown = record { contents = F.contents c.execute.new.folder; failures = F.failures c.execute.new.folder } in
     let is_plan = plan_of registry c.as_slice-requested.result.now c.args.invocation.now.requested c.as_slice-excluded.result.now c.args.invocation.now.excluded plan
-        c.as_slice-requested.ensures c.as_slice-excluded.ensures c.in_ok-plan.ensures.plan in
+    c.as_slice-requested.ensures c.as_slice-excluded.ensures c.in_ok-plan.ensures.plan in
     let can = can_build registry c.args.invocation.now.requested c.args.invocation.now.excluded plan is_plan g.A.Actions.meanings c.args.table.now c.requires in
     built_holds kinds registry_of (F.may_leave c.args.folder.now) registry (g.Ts.Tasks.sound c.args.tasks.now) c.args.invocation.now plan is_plan
     (own_places g.A.Actions.meanings c.args.table.now plan can) old new c.in_ok-report.report c.in_ok-report.ensures.dry_run (g.met.F.Folder.sound c.execute.new.folder)
