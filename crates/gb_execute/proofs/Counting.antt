@@ -3,14 +3,14 @@ use Rattle.std.specs.Prelude.{ℕ, ◌≡◌, ◌≤◌, ◌+◌, Bool, true, fa
 use Rattle.std.specs.List.{fold}
 use Rattle.std.proofs.Common.{refl, sym, ap, subst, inl, inr, arith}
 use Rattle.gb_folder.specs.Files.{HasRisen, Place}
-use Rattle.gb_meaning.specs.Headline.{failed_by_device, is_of_device}
+use Rattle.gb_meaning.specs.Headline.{HasFailed, failed_by_device, is_of_device}
 use Rattle.gb_plan.proofs.Tests.{not_true}
 use Rattle.gb_report.specs.declared.fault.Fault.{Fault}
 use Rattle.gb_report.specs.declared.fault.Fault.TheVariants as faults
 use Rattle.gb_report.specs.declared.report.Outcome.{Outcome}
 use Rattle.gb_report.specs.declared.report.Outcome.TheVariants as outcomes
 use Rattle.gb_report.specs.declared.report.TaskReport.{TaskReport}
-use Rattle.gb_execute.specs.Failing.{HasFailed, times_blamed}
+use Rattle.gb_execute.specs.Failing.{times_blamed}
 
 abbrev pub with_blame : ℕ → TaskReport → ℕ
 with_blame count report = count + cond (failed_by_device report.outcome) 1 0

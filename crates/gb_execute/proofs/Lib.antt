@@ -9,3 +9,4 @@ pub mod Knowing
 pub mod Taking
 pub mod Walking
 pub mod Skipping
+pub mod Outlining

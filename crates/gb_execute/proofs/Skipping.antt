@@ -12,7 +12,8 @@ use Rattle.gb_records.specs.Standing.{Standing}
 use Rattle.gb_report.specs.declared.report.Options.{Options}
 use Rattle.gb_task.specs.Turned.{Registering, setting_with}
 use Rattle.gb_execute.specs.Built.{HasBuilt}
-use Rattle.gb_execute.specs.Failing.{HasFailed, times_blamed}
+use Rattle.gb_meaning.specs.Headline.{HasFailed}
+use Rattle.gb_execute.specs.Failing.{times_blamed}
 use Rattle.gb_execute.specs.Reports.{IsOf}
 use Rattle.gb_execute.proofs.Counting.{with_blame}
 

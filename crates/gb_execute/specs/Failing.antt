@@ -1,12 +1,8 @@
 -- How often a build blames the device.
-use Rattle.std.specs.Prelude.{ℕ, ◌≤◌, ◌+◌, ◌-◌, ◌^◌, ◌⊎◌, List, count_by}
+use Rattle.std.specs.Prelude.{ℕ, List, count_by}
 use Rattle.gb_meaning.specs.Headline.{failed_by_device}
 use Rattle.gb_report.specs.declared.report.TaskReport.{TaskReport}
 
 -- how many tasks failed by the device
 abbrev pub times_blamed : List TaskReport → ℕ
 times_blamed reports = count_by (λ report. failed_by_device report.outcome) reports
-
--- The device failed at least so often between these counts; from its last value on the count tells no more.
-abbrev pub HasFailed : ℕ → ℕ → ℕ → Type 0
-HasFailed times before after = (before + times ≤ after) ⊎ (2 ^ 64 - 1 ≤ after)

@@ -3,16 +3,17 @@ ghost use Rattle.std.specs.Prelude.{◌≡◌, ◌≤◌, Bool, List, true, not,
 ghost use Rattle.std.specs.List.{AllZip};
 ghost use Rattle.gb_folder.specs.Files.{Bytes, SameTearing};
 ghost use Rattle.gb_history.specs.Places.{record_place};
-ghost use Rattle.gb_meaning.specs.Headline.{Agrees, HaveHeard, TearsAreSeen};
+ghost use Rattle.gb_meaning.specs.Headline.{Agrees, HasFailed, HaveHeard, TearsAreSeen};
 ghost use Rattle.gb_meaning.specs.Kinds.{Kinds};
 ghost use Rattle.gb_meaning.specs.Memory.{Memory};
+ghost use Rattle.gb_meaning.specs.Outline.{Outlines};
 ghost use Rattle.gb_plan.specs.Graph.{order};
 ghost use Rattle.gb_records.specs.Said.{IsText};
 ghost use Rattle.gb_store.specs.Changes.{ChangesOnly};
 ghost use Rattle.gb_task.specs.Turned.{Registering, setting_with};
 ghost use Rattle.gb_execute.specs.Building.{CanBuild, is_of_turns};
 ghost use Rattle.gb_execute.specs.Built.{AreWorth, HasBuilt};
-ghost use Rattle.gb_execute.specs.Failing.{HasFailed, times_blamed};
+ghost use Rattle.gb_execute.specs.Failing.{times_blamed};
 ghost use Rattle.gb_execute.specs.Reports.{IsOf};
 
 use crate::dry::dry_reports;
@@ -49,6 +50,8 @@ pub fn execute<A: Actions, F: Folder, L: TaskListener>(
     ensures untold { OnErr result (listeners.new ≡ listeners.old) }
     ensures dry_run { IfOk result (λ report. report.dry_run ≡ options.dry_run) }
     ensures of_tasks { IfOk result (λ report. AllZip IsOf plan.now report.tasks) }
+    // Over any folder: which tasks start, and what each may answer.
+    ensures outline { IfOk result (λ report. Outlines options plan.now report.tasks) }
     ensures heard { IfOk result (λ report.
         HaveHeard report (map L.ear listeners.old.items) (map L.ear listeners.new.items)) }
     ensures count { F.failures folder.old ≤ F.failures folder.new }

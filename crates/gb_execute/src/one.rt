@@ -7,6 +7,7 @@ ghost use Rattle.gb_listen.specs.Telling.{AllTold};
 ghost use Rattle.gb_meaning.specs.Headline.{Agrees, TearsAreSeen};
 ghost use Rattle.gb_meaning.specs.Kinds.{Kinds};
 ghost use Rattle.gb_meaning.specs.Label.{Moment};
+ghost use Rattle.gb_meaning.specs.Outline.{IsOutline};
 ghost use Rattle.gb_meaning.specs.TrueRecord.{outside};
 ghost use Rattle.gb_meaning.specs.Turn.{heard_of};
 ghost use Rattle.gb_plan.specs.declared.plan.Planned.{Planned};
@@ -95,6 +96,11 @@ pub(crate) fn take_one<A: Actions, F: Folder, L: TaskListener>(
     ensures changes { IsTrue F.tells → (planned : Planned)
         → slice_get build.now.tasks.now index ≡ Some planned
         → ChangesOnly (is_of_turn planned.task) (F.contents folder.old) (F.contents folder.new) }
+    // Over any folder, at each moment with the outcomes so far, this is what is to hold of its report.
+    ensures outline { (moment : Moment) (planned : Planned)
+        → slice_get build.now.tasks.now index ≡ Some planned
+        → AreEndings build.now.tasks.now moment.outcomes starts.old.endings
+        → IsOutline build.now.options build.now.tasks.now moment planned result.report }
     // Where what was read of the task is known of it, this is its turn.
     ensures turn { IsTrue F.tells → (kinds : Kinds) (registry_of : Registering) (moment : Moment)
         (planned : Planned) → slice_get build.now.tasks.now index ≡ Some planned

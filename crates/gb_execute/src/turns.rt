@@ -6,9 +6,10 @@ ghost use Rattle.gb_folder.specs.Files.{Bytes, SameTearing};
 ghost use Rattle.gb_history.specs.Places.{record_place};
 ghost use Rattle.gb_listen.specs.Telling.{AllTold};
 ghost use Rattle.gb_meaning.specs.Events.{State};
-ghost use Rattle.gb_meaning.specs.Headline.{Agrees, TearsAreSeen};
+ghost use Rattle.gb_meaning.specs.Headline.{Agrees, HasFailed, TearsAreSeen};
 ghost use Rattle.gb_meaning.specs.Kinds.{Kinds};
 ghost use Rattle.gb_meaning.specs.Memory.{Memory};
+ghost use Rattle.gb_meaning.specs.Outline.{AreOutlines};
 ghost use Rattle.gb_meaning.specs.Turn.{heard_of};
 ghost use Rattle.gb_plan.specs.Graph.{order};
 ghost use Rattle.gb_records.specs.Said.{IsText};
@@ -18,7 +19,7 @@ ghost use Rattle.gb_store.specs.Changes.{ChangesOnly};
 ghost use Rattle.gb_task.specs.Turned.{Registering, setting_with};
 ghost use Rattle.gb_execute.specs.Building.{CanBuild, is_of_turns};
 ghost use Rattle.gb_execute.specs.Built.{AreWorth, HasBuilt};
-ghost use Rattle.gb_execute.specs.Failing.{HasFailed, times_blamed};
+ghost use Rattle.gb_execute.specs.Failing.{times_blamed};
 ghost use Rattle.gb_execute.specs.Reports.{IsOf};
 
 use crate::one::{Build, take_one};
@@ -65,6 +66,8 @@ pub(crate) fn take_turns<A: Actions, F: Folder, L: TaskListener>(
     requires none { reports.old.items ≡ [] }
     requires room { length build.now.tasks.now ≤ vec_capacity reports.old }
     ensures of_tasks { AllZip IsOf build.now.tasks.now reports.new.items }
+    ensures outline { AreOutlines build.now.options build.now.tasks.now [] build.now.tasks.now
+        reports.new.items }
     ensures heard { AllTold (heard_of false reports.new.items) result
         (map L.ear listeners.old.items) (map L.ear listeners.new.items) }
     ensures count { F.failures folder.old ≤ F.failures folder.new }

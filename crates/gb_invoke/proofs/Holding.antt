@@ -1,5 +1,5 @@
 -- A build of a plan from true records is an invocation by its definition.
-use Rattle.std.specs.Prelude.{ℕ, ◌≡◌, ◌≤◌, Bool, true, false, not, List, [], ◌∷◌, Ok, Option, IsTrue, ⊤}
+use Rattle.std.specs.Prelude.{ℕ, ◌≡◌, ◌≤◌, Bool, true, false, not, List, [], ◌∷◌, Err, Ok, Option, Result, IsTrue, ⊤}
 use Rattle.std.specs.List.{AllZip}
 use Rattle.std.proofs.Common.{refl, sym, ap, subst, ◌∙◌, inl, inr, arith}
 use Rattle.sha2.specs.Sha256.{sha256}
@@ -52,6 +52,10 @@ may_alike kinds registry_of may_leave second alike own options task moment new (
 may_alike kinds registry_of may_leave second alike own options task moment new faults.HistoryNotWritten may = may
 may_alike kinds registry_of may_leave second alike own options task moment new other may = absurd may
 
+abbrev said_or : Registry → Result Registry Fault → Registry
+said_or other (Ok registry) = registry
+said_or other (Err fault) = other
+
 module _ (kinds : Kinds) (registry_of : Registering) (may_leave : Tearing) (registry : Registry) (sound : IsRegistry registry)
     (invocation : Invocation) (plan : Plan) (is_plan : IsPlanOf registry invocation.requested invocation.excluded plan) (own_places : HaveOwnPlaces plan)
     (old end : Shown) (report : Report) (dry_run : report.dry_run ≡ invocation.options.dry_run) (is_folder : IsFolder end.contents.files)
@@ -98,7 +102,7 @@ module _ (kinds : Kinds) (registry_of : Registering) (may_leave : Tearing) (regi
       dry_keeps = λ is_dry. ap own_files (dry (sym dry_run ∙ is_dry));
       builds = builds;
       success = λ given none.
-          let all = success_follows one (granted remembered) (spreads remembered) (λ files properties. sound) (state_of old remembered) stands invocation plan planned_so
+          let all = success_follows one (granted remembered) (spreads remembered) (λ files properties other is. subst IsRegistry (ap (said_or registry) is) sound) (state_of old remembered) stands invocation plan planned_so
           (may_come setting (own_files old.contents) invocation.options) (seen_at remembered) end.failures (world_in (state_of end memory)) report.tasks given none builds in
           (λ wet. all.0 (sym dry_run ∙ wet), all.1);
     },

@@ -5,7 +5,7 @@ use Rattle.gb_folder.specs.Files.{HasRisen}
 use Rattle.gb_meaning.specs.declared.events.Invocation.{Invocation}
 use Rattle.gb_meaning.specs.Edits.{Shown}
 use Rattle.gb_meaning.specs.Events.{IsNotBuilt, Setting, State}
-use Rattle.gb_meaning.specs.Headline.{InvocationHolds, answer_of, is_of_device, state_of, times_blamed}
+use Rattle.gb_meaning.specs.Headline.{HasFailed, InvocationHolds, answer_of, is_of_device, state_of, times_blamed}
 use Rattle.gb_meaning.specs.TrueRecord.{outside}
 use Rattle.gb_graph.specs.Answer.{IsRefusalOf}
 use Rattle.gb_plan.specs.Graph.{Registry}
@@ -17,12 +17,11 @@ use Rattle.gb_tree.specs.Property.{last_segment}
 use Rattle.gb_invoke.specs.Asking.{NoneBlameDevice}
 use Rattle.gb_invoke.specs.Refusing.{IsNotBegun, IsUnread}
 use Rattle.gb_invoke.proofs.Asked.{refusal_blames_none, request_registry, words_blame_none}
-use Rattle.gb_execute.specs.Failing.{HasFailed}
 
 -- ---- What is left
 
 -- why a build is not begun is why an invocation is not built
-not_built : (setting : Setting) (registry : Registry) (old : State) (invocation : Invocation) (fault : Fault) (after : ℕ) → setting.registry_of (outside old.contents).files invocation.properties ≡ Ok registry
+not_built : (setting : Setting) (registry : Registry) (old : State) (invocation : Invocation) (fault : Fault) (after : ℕ) → setting.registers (outside old.contents).files invocation.properties (Ok registry)
     → IsNotBegun registry invocation old.failures after fault → IsNotBuilt setting old invocation fault after
 not_built setting registry old invocation fault after scripts (inl (inl out)) = inr (inr (inl out))
 not_built setting registry old invocation fault after scripts (inl (inr (inl words))) = inr (inl (registry, scripts, inl words))
@@ -54,7 +53,7 @@ if_told registry invocation result told before after is why = subst (λ (r : Res
 
 -- an invocation that is not begun, and changed nothing
 pub refused_holds : (setting : Setting) (registry : Registry) (old end : Shown) (invocation : Invocation) (fault : Fault)
-    → setting.registry_of (outside old.contents).files invocation.properties ≡ Ok registry → IsNotBegun registry invocation old.failures end.failures fault
+    → setting.registers (outside old.contents).files invocation.properties (Ok registry) → IsNotBegun registry invocation old.failures end.failures fault
     → old.failures ≤ end.failures → end.contents ≡ old.contents → (result : Result Report Fault) → result ≡ Err fault → InvocationHolds setting old invocation result end
 refused_holds setting registry old end invocation fault scripts why count same result is = subst (λ (r : Result Report Fault). InvocationHolds setting old invocation r end) (sym is) (λ remembered stands. (
   record { contents = old.contents; remembered = remembered; failures = end.failures },

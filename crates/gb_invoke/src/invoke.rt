@@ -2,13 +2,12 @@
 ghost use Rattle.std.specs.Prelude.{◌≡◌, ◌≤◌, Ok, map, true, IfErr, IfOk, IsTrue, OnErr};
 ghost use Rattle.gb_folder.specs.Files.{SameTearing};
 ghost use Rattle.gb_history.specs.Places.{record_place};
-ghost use Rattle.gb_meaning.specs.Headline.{Agrees, HaveHeard, InvocationHolds, TearsAreSeen, answer_of, is_of_build, times_blamed};
+ghost use Rattle.gb_meaning.specs.Headline.{Agrees, HasFailed, HaveHeard, InvocationHolds, TearsAreSeen, answer_of, is_of_build, times_blamed};
 ghost use Rattle.gb_meaning.specs.Kinds.{Kinds};
 ghost use Rattle.gb_meaning.specs.TrueRecord.{outside};
 ghost use Rattle.gb_records.specs.Said.{IsText};
 ghost use Rattle.gb_store.specs.Changes.{ChangesOnly};
 ghost use Rattle.gb_task.specs.Turned.{Registering, setting_with};
-ghost use Rattle.gb_execute.specs.Failing.{HasFailed};
 ghost use Rattle.gb_invoke.specs.Asking.{AreBuildable, IsReportOf, NoneBlameDevice};
 ghost use Rattle.gb_invoke.specs.Refusing.{IsNotBegun};
 

@@ -14,10 +14,8 @@ use gb_action::request::Request;
 use gb_action::run::{accepts, incremental, run_action};
 use gb_action::shape::Fit;
 use gb_action::snapshot::{Snapshot, Snapshots};
-use gb_action::table::ActionTable;
 use gb_action::values::{Arguments, NamedValues};
 use gb_core::bytes::Bytes;
-use gb_core::name::Name;
 use gb_core::place::RelPath;
 use gb_core::text::Text;
 use gb_core::value::Value;
@@ -29,8 +27,7 @@ use gb_kinds::shapes::{
     add_file_shape, concat_shape, copy_files_shape, fail_shape, keep_lines_shape,
     replace_tokens_shape, sums_shape, word_index_shape, write_text_shape,
 };
-use gb_kinds::table::{Runs, builtin_table};
-use gb_kinds::texts::{fail, print_line, write_text};
+use gb_kinds::texts::{fail, write_text};
 use std::alloc::Global;
 use std::str;
 use std::test::Fail;
@@ -216,47 +213,6 @@ fn is_each(alloc: Global, stored: &StoredAction, case: &Case) -> Result<(), Fail
         return Ok(());
     }
     Err(Fail::new(case.want))
-}
-
-#[test]
-fn the_table_has_each_kind(rt: HostRuntime) -> Result<(), Fail> {
-    let alloc = rt.alloc();
-    let runs = Runs {
-        print_line: Box::new(alloc, print_line)?,
-        write_text: Box::new(alloc, write_text)?,
-        fail: Box::new(alloc, fail)?,
-        copy_files: Box::new(alloc, copy_files)?,
-        replace_tokens: Box::new(alloc, replace_tokens)?,
-        keep_lines: Box::new(alloc, keep_lines)?,
-        sums: Box::new(alloc, sums)?,
-        word_index: Box::new(alloc, word_index)?,
-        concat: Box::new(alloc, concat)?,
-        add_file: Box::new(alloc, add_file)?,
-    };
-    let table = builtin_table(alloc, runs)?;
-    let has_both = has_kinds(alloc, &table)?;
-    assert!(rt; has_both);
-    Ok(())
-}
-
-fn ask_named(
-    alloc: Global,
-    table: &ActionTable<StoredAction>,
-    name: &str,
-    form: Form,
-    args: &[&str],
-) -> Result<String, Fail> {
-    let stored = table.find(name)?;
-    ask(alloc, stored, form, args, &[("a", "x")], &[], &[])
-}
-
-fn has_kinds(alloc: Global, table: &ActionTable<StoredAction>) -> Result<bool, Fail> {
-    Ok(
-        is(
-            ask_named(alloc, table, "printLine", Form::Dir, &["hello"]),
-            ">hello;",
-        )? && is(ask_named(alloc, table, "sums", Form::File, &[]), "no fit")?,
-    )
 }
 
 /// Three files, where `b` is gone and `a` and `d` do not stand so.

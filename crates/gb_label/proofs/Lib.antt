@@ -1,4 +1,5 @@
 pub mod Cases
+mod Current
 mod Growth
 mod Names
 mod Sources

@@ -1,20 +1,23 @@
 -- What is decided of a task that has a source.
-use Rattle.std.specs.Prelude.{ℕ, ◌≡◌, ◌⊎◌, true, false, Option, None, Some, map, IsTrue, List}
+use Rattle.std.specs.Prelude.{ℕ, ◌≡◌, ◌⊎◌, true, false, Option, None, Some, map, IsTrue, List, ⊤}
 use Rattle.std.specs.List.{filter, flat_map}
 use Rattle.gb_folder.specs.Files.{Contents, Place, is_empty}
 use Rattle.gb_history.specs.Ascending.{ascends}
 use Rattle.gb_history.specs.Decision.{DecidesFrom}
 use Rattle.gb_history.specs.Remembered.{AreInOrder, Prints, Remembered}
 use Rattle.gb_history.specs.declared.decide.Decision.{Decision}
+use Rattle.gb_history.specs.declared.decide.Decision.TheVariants as decisions
 use Rattle.gb_history.specs.declared.decide.Decision.TheVariants.{Full}
 use Rattle.gb_history.specs.declared.decide.Present.{Present}
 use Rattle.gb_history.specs.declared.record.OutputRecord.{OutputRecord}
+use Rattle.gb_meaning.specs.Outline.{MayAnswer}
 use Rattle.gb_meaning.specs.Tree.{trees_of}
 use Rattle.gb_plan.specs.declared.task.FileProperty.{FileProperty}
 use Rattle.gb_plan.specs.declared.task.TaskDeclaration.{TaskDeclaration as Task}
 use Rattle.gb_report.specs.declared.fault.Fault.{Fault}
 use Rattle.gb_report.specs.declared.fault.Fault.TheVariants as faults
 use Rattle.gb_report.specs.declared.report.Options.{Options}
+use Rattle.gb_report.specs.declared.report.Outcome.TheVariants as outcomes
 use Rattle.gb_turn.specs.Reading.{digests_in, print_faults, recorded_of}
 
 -- the names of the task's values, file properties and outputs strictly rise
@@ -51,6 +54,12 @@ pub data IsDecided (options : Options) (task : Task) (folder : Contents) : Optio
       → IsDecided options task folder (Some run) Full
   grown : {run : Remembered} → is_empty (flat_map (print_faults folder) task.outputs) ≡ false
       → IsDecided options task folder (Some run) Full
+
+-- what may be decided over any folder: that a task is up to date only where it may be told so
+abbrev pub MayDecide : Options → Task → Decision → Type 0
+MayDecide options task decisions.UpToDate = MayAnswer options task outcomes.UpToDate
+MayDecide options task (decisions.Incremental changes) = ⊤
+MayDecide options task decisions.Full = ⊤
 
 -- the fault says that an output is such as no run leaves: a file too large, or too many files
 abbrev pub IsGrown : Fault → Type 0

@@ -1,12 +1,12 @@
 -- What a started task's turn is prepared for.
-use Rattle.std.specs.Prelude.{◌≡◌, true, false, Option, Some, None}
+use Rattle.std.specs.Prelude.{◌≡◌, true, false, Option, Some, None, ⊤}
 use Rattle.std.specs.List.{list_any}
 use Rattle.gb_folder.specs.Files.{Contents, is_empty}
 use Rattle.gb_history.specs.Remembered.{Remembered}
 use Rattle.gb_meaning.specs.Label.{HasNoActions, HasNoSource, Skips, early_case}
 use Rattle.gb_plan.specs.declared.task.TaskDeclaration.{TaskDeclaration as Task}
 use Rattle.gb_report.specs.declared.report.Options.{Options}
-use Rattle.gb_label.specs.Deciding.{IsDecided}
+use Rattle.gb_label.specs.Deciding.{IsDecided, MayDecide}
 use Rattle.gb_label.specs.declared.prepare.Prepared.{Prepared}
 use Rattle.gb_label.specs.declared.prepare.Prepared.TheVariants as prepared
 
@@ -26,3 +26,10 @@ MayPrepare task prepared.HasNoSource =
     (task.runs ≡ true) × (is_empty task.actions ≡ false)
     × (list_any (λ property. property.skip_when_empty) task.files ≡ true)
 MayPrepare task (prepared.Decided decision) = (task.runs ≡ true) × (is_empty task.actions ≡ false)
+
+-- what may be decided over any folder, where that is what it comes to
+abbrev pub MayDecideAs : Options → Task → Prepared → Type 0
+MayDecideAs options task prepared.Skips = ⊤
+MayDecideAs options task prepared.HasNoActions = ⊤
+MayDecideAs options task prepared.HasNoSource = ⊤
+MayDecideAs options task (prepared.Decided decision) = MayDecide options task decision

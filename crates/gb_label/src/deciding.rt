@@ -1,7 +1,7 @@
 //! What is decided of a task by its record.
 ghost use Rattle.std.specs.Prelude.{◌≡◌, ◌≤◌, [], map, IsTrue, IfOk, IfErr, option_copied};
 ghost use Rattle.gb_folder.specs.Files.{SameTearing};
-ghost use Rattle.gb_label.specs.Deciding.{HasNamesInOrder, IsDecided, IsGrown};
+ghost use Rattle.gb_label.specs.Deciding.{HasNamesInOrder, IsDecided, IsGrown, MayDecide};
 ghost use Rattle.gb_meaning.specs.Tree.{listing_faults, trees_of};
 ghost use Rattle.gb_plan.specs.Task.{is_output_of};
 ghost use Rattle.gb_store.specs.Faults.{Blames, BlamesOnly, IsOfMachine};
@@ -36,6 +36,8 @@ pub fn decided<F: Folder>(
     ensures blame { Blames result (F.failures folder.old) (F.failures folder.new) }
     ensures blamed { BlamesOnly (is_output_of task.now) result }
     ensures tearing { SameTearing (F.may_leave folder.old) (F.may_leave folder.new) }
+    // Over any folder: what is up to date has outputs, is not stale, and no rerun is asked.
+    ensures may_decide { IfOk result (MayDecide options task.now) }
     ensures same { IsTrue F.tells → F.contents folder.new ≡ F.contents folder.old }
     ensures decided { IsTrue F.tells → inputs.items ≡ digests_in (trees_of task.now (F.contents folder.old).files)
         → IfOk result (IsDecided options task.now (F.contents folder.old) (option_copied old.entry)) }

@@ -3,7 +3,7 @@ ghost use Rattle.std.specs.Prelude.{◌≡◌, ◌≤◌, ◌||◌, true, false,
 ghost use Rattle.gb_folder.specs.Files.{SameTearing, is_empty};
 ghost use Rattle.gb_label.specs.Deciding.{HasNamesInOrder};
 ghost use Rattle.gb_label.specs.Looking.{IsHindered};
-ghost use Rattle.gb_label.specs.Preparing.{IsPrepared, MayPrepare};
+ghost use Rattle.gb_label.specs.Preparing.{IsPrepared, MayDecideAs, MayPrepare};
 ghost use Rattle.gb_plan.specs.Task.{is_output_of};
 ghost use Rattle.gb_store.specs.Faults.{Blames, BlamesOnly};
 ghost use Rattle.gb_turn.specs.Reading.{is_input_of};
@@ -44,8 +44,10 @@ pub fn prepare<F: Folder>(
     ensures blame { Blames result (F.failures folder.old) (F.failures folder.new) }
     ensures blamed { BlamesOnly (λ place. is_input_of task.now place || is_output_of task.now place) result }
     ensures tearing { SameTearing (F.may_leave folder.old) (F.may_leave folder.new) }
-    // Over any folder: which it may be, and that what is skipped or has no actions reads nothing.
+    // Over any folder: which it may be, when it may be up to date, and that what is skipped or has no
+    // actions reads nothing.
     ensures may_be { IfOk result (MayPrepare task.now) }
+    ensures may_decide { IfOk result (MayDecideAs options task.now) }
     ensures reads { OnErr result ((task.now.runs ≡ true) × (is_empty task.now.actions ≡ false)) }
     ensures same { IsTrue F.tells → F.contents folder.new ≡ F.contents folder.old }
     ensures prepared { IsTrue F.tells → IfOk result

@@ -28,12 +28,12 @@ use Rattle.gb_tree.specs.Property.{last_segment}
 use Rattle.gb_meaning.specs.Turn.{May, Rules, Guard, Builds, TouchesRecord, IsWritten}
 use Rattle.gb_meaning.specs.TrueRecord.{Record, RecordTexts, record_of, outside}
 
--- What a run is about: what the kinds mean; what scripts say with the values of `-P`, or their first fault;
--- and how records are read, where each stands, what its text is, and the digest of contents; and what a
+-- What a run is about: what the kinds mean; what scripts register with the values of `-P`, or their first
+-- fault; and how records are read, where each stands, what its text is, and the digest of contents; and what a
 -- stopped write or removal may leave.
 pub record Setting : Type 1 where
   pub kinds : Kinds
-  pub registry_of : Files → List (Name × Text) → Result Registry Fault
+  pub registers : Files → List (Name × Text) → Result Registry Fault → Type 0
   pub digest : Bytes → List ℕ
   pub says : RecordTexts
   pub record_place : Path → Place
@@ -132,7 +132,7 @@ has_failure report = list_any (λ task. is_failed task.outcome) report.tasks
 pub record HasPlan (setting : Setting) (folder : Contents) (invocation : Invocation)
     (plan : Plan) : Type 0 where
   pub registry : Registry
-  pub scripts : setting.registry_of folder.files invocation.properties ≡ Ok registry
+  pub scripts : setting.registers folder.files invocation.properties (Ok registry)
   pub request : Request
   pub asked : request_of registry invocation.requested invocation.excluded ≡ Ok request
   pub planned : IsPlan request plan
@@ -184,9 +184,9 @@ is_read_first options place =
 -- or where the device failed, up to this count, as they or records were read.
 abbrev pub IsNotBuilt : Setting → State → Invocation → Fault → ℕ → Type 0
 IsNotBuilt setting old invocation fault after =
-    (setting.registry_of (outside old.contents).files invocation.properties ≡ Err fault)
+    setting.registers (outside old.contents).files invocation.properties (Err fault)
     ⊎ ((registry : Registry)
-    × (setting.registry_of (outside old.contents).files invocation.properties ≡ Ok registry)
+    × setting.registers (outside old.contents).files invocation.properties (Ok registry)
     × IsRefusedBy registry invocation fault)
     ⊎ (fault ≡ faults.OutOfMemory)
     ⊎ ((place : Place) × IsTrue (is_read_first invocation.options place)

@@ -1,5 +1,5 @@
 -- What a build promises, and a run of many.
-use Rattle.std.specs.Prelude.{is_some, map, ℕ, ◌≡◌, ◌≤◌, ◌+◌, ◌-◌, ◌^◌, ◌↔◌, Bool, true, false, not, cond, ◌⊎◌, ◌||◌, Some, None, List, [], ◌∷◌, ◌++◌, length, bytes_eq, Option, Result, Ok, Err, IfOk, IsTrue, ⊤}
+use Rattle.std.specs.Prelude.{is_some, map, ℕ, ◌≡◌, ◌≤◌, ◌+◌, ◌-◌, ◌^◌, ◌↔◌, Bool, true, false, not, cond, ◌⊎◌, ◌||◌, Some, None, List, [], ◌∷◌, ◌++◌, length, bytes_eq, Option, Result, Ok, Err, IsTrue, ⊤}
 use Rattle.std.specs.List.{AllByRecursion, list_any, count_by, items_where_true, AllZip}
 use Rattle.gb_report.specs.declared.fault.Fault.{Fault}
 use Rattle.gb_report.specs.declared.fault.Fault.TheVariants as faults
@@ -43,10 +43,15 @@ pub record AgreesAt {S : Type 0} (meanings : Meanings S) (kinds : Kinds) (row : 
 abbrev pub Agrees : {S : Type 0} → Meanings S → Rows S → Kinds → Type 0
 Agrees meanings rows kinds = AllByRecursion (AgreesAt meanings kinds) rows
 
--- what scripts say is a registry, whatever the folder holds
-abbrev pub AreRegistries : (Files → List (Name × Text) → Result Registry Fault) → Type 0
-AreRegistries registry_of =
-    (files : Files) (properties : List (Name × Text)) → IfOk (registry_of files properties) IsRegistry
+-- what scripts register, by the files of a folder and the values of `-P`: a registry, or their first fault
+abbrev pub Registering : Type 1
+Registering = Files → List (Name × Text) → Result Registry Fault → Type 0
+
+-- what scripts register is a registry, whatever the folder holds
+abbrev pub AreRegistries : Registering → Type 0
+AreRegistries registers =
+    (files : Files) (properties : List (Name × Text)) (registry : Registry)
+    → registers files properties (Ok registry) → IsRegistry registry
 
 -- ---- The device
 
@@ -82,9 +87,9 @@ abbrev pub times_blamed_in_all : List Answer → ℕ
 times_blamed_in_all [] = 0
 times_blamed_in_all (answer ∷ rest) = times_blamed answer + times_blamed_in_all rest
 
--- The device failed at least so often between these counts; at its last value the count tells no more.
+-- The device failed at least so often between these counts; from its last value on the count tells no more.
 abbrev pub HasFailed : ℕ → ℕ → ℕ → Type 0
-HasFailed times before after = (before + times ≤ after) ⊎ (after ≡ 2 ^ 64 - 1)
+HasFailed times before after = (before + times ≤ after) ⊎ (2 ^ 64 - 1 ≤ after)
 
 -- ---- What stands beside the world
 
@@ -95,10 +100,9 @@ is_of_build projects place =
 
 -- What no build changes, whatever fails: files elsewhere than in `.gb` and in the build folders of the
 -- projects.
-abbrev pub KeepsElsewhere : Result Registry Fault → Contents → Contents → Type 0
-KeepsElsewhere (Ok registry) old new =
+abbrev pub KeepsElsewhere : Registry → Contents → Contents → Type 0
+KeepsElsewhere registry old new =
     DiffersOnlyAt (is_of_build registry.projects) old.files new.files × (new.odd ≡ old.odd)
-KeepsElsewhere (Err fault) old new = new ≡ old
 
 -- an edit that was refused changes nothing, but where the device failed at most its place
 abbrev pub RefusedEditKeeps : Place → Fault → Contents → Contents → Type 0
@@ -108,28 +112,27 @@ RefusedEditKeeps place fault old new = new ≡ old
 
 -- What an event may change, by its answer: a done edit what was asked, a loss `.gb`, a build what a build
 -- may, and a refusal nothing.
-abbrev pub EventKeeps : (Files → List (Name × Text) → Result Registry Fault) → Event → Answer
-    → Contents → Contents → Type 0
-EventKeeps registry_of (events.Put place bytes) answers.Edited old new =
+abbrev pub EventKeeps : Registering → Event → Answer → Contents → Contents → Type 0
+EventKeeps registers (events.Put place bytes) answers.Edited old new =
     new ≡ record old { files = with_file old.files place bytes }
-EventKeeps registry_of (events.Put place bytes) (answers.Refused fault) old new =
+EventKeeps registers (events.Put place bytes) (answers.Refused fault) old new =
     RefusedEditKeeps place fault old new
-EventKeeps registry_of (events.Remove place) answers.Edited old new =
+EventKeeps registers (events.Remove place) answers.Edited old new =
     new ≡ record old { files = files_where (λ other. not (bytes_eq place other)) old.files }
-EventKeeps registry_of (events.Remove place) (answers.Refused fault) old new =
+EventKeeps registers (events.Remove place) (answers.Refused fault) old new =
     RefusedEditKeeps place fault old new
-EventKeeps registry_of events.Lost answer old new =
+EventKeeps registers events.Lost answer old new =
     DiffersOnlyAt is_own old.files new.files × (new.odd ≡ old.odd)
-EventKeeps registry_of (events.Invoke invocation) (answers.Built report) old new =
-    KeepsElsewhere (registry_of (outside old).files invocation.properties) old new
-EventKeeps registry_of event answer old new = new ≡ old
+EventKeeps registers (events.Invoke invocation) (answers.Built report) old new =
+    (registry : Registry) × registers (outside old).files invocation.properties (Ok registry)
+    × KeepsElsewhere registry old new
+EventKeeps registers event answer old new = new ≡ old
 
-abbrev pub AllKeepElsewhere : (Files → List (Name × Text) → Result Registry Fault) → List Event → List Answer
-    → Contents → Contents → Type 0
-AllKeepElsewhere registry_of (event ∷ rest) (answer ∷ others) old new =
-    (mid : Contents) × EventKeeps registry_of event answer old mid
-    × AllKeepElsewhere registry_of rest others mid new
-AllKeepElsewhere registry_of events answered old new = new ≡ old
+abbrev pub AllKeepElsewhere : Registering → List Event → List Answer → Contents → Contents → Type 0
+AllKeepElsewhere registers (event ∷ rest) (answer ∷ others) old new =
+    (mid : Contents) × EventKeeps registers event answer old mid
+    × AllKeepElsewhere registers rest others mid new
+AllKeepElsewhere registers events answered old new = new ≡ old
 
 -- ---- Any list of events
 

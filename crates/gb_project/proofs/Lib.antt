@@ -25,3 +25,4 @@ pub mod EvaluatedLemmas
 pub mod AllLemmas
 pub mod NeededLemmas
 pub mod OneCircleLemmas
+pub mod CircleNamesLemmas

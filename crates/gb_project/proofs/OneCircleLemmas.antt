@@ -31,7 +31,7 @@ use Rattle.gb_project.specs.Whole.{whole}
 
 -- ---- The least of the rounds of names
 
-names_total : IsTotalOrder names_order
+pub names_total : IsTotalOrder names_order
 names_total = lists_total nat_list_cmp_total
 
 -- names of which neither come after the others
@@ -47,10 +47,10 @@ not_after_itself : (a : List (List ℕ)) → names_order a a ≢ Greater
 not_after_itself a greater = let tied = tied_itself names_total a in cc
 
 -- a round that comes after no other, whatever place that is from
-abbrev IsLeast : List (List ℕ) → List (List ℕ) → Type 0
+abbrev pub IsLeast : List (List ℕ) → List (List ℕ) → Type 0
 IsLeast names round = ((i : ℕ) × (round ≡ round_from names i)) × ((k : ℕ) → names_order round (round_from names k) ≢ Greater)
 
-one_least : (names a b : List (List ℕ)) → IsLeast names a → IsLeast names b → a ≡ b
+pub one_least : (names a b : List (List ℕ)) → IsLeast names a → IsLeast names b → a ≡ b
 one_least names a b of_a of_b =
     neither_after a b
     (subst (λ r. names_order a r ≢ Greater) (sym of_b.0.1) (of_a.1 of_b.0.0))
@@ -60,7 +60,7 @@ one_least names a b of_a of_b =
 past_end : (names : List (List ℕ)) (k : ℕ) → length names ≤ k → round_from names k ≡ round_from names 0
 past_end names k past = ap (λ l. l ++ take k names) (drop_all k names past) ∙ take_all k names past ∙ sym (append-nil names)
 
-least_of_all : (names round : List (List ℕ)) → IsLeastRound names round → IsLeast names round
+pub least_of_all : (names round : List (List ℕ)) → IsLeastRound names round → IsLeast names round
 least_of_all names round is = (is.0, λ k. by k (cases_lt k (length names)) (cases_lt 0 (length names)))
   where
     by : (k : ℕ) → (k < length names) ⊎ (length names ≤ k) → (0 < length names) ⊎ (length names ≤ 0) → names_order round (round_from names k) ≢ Greater
@@ -114,7 +114,7 @@ abbrev Different : List ℕ → Type 0
 Different xs = (i j : ℕ) → i < j → j < length xs → slice_index xs i ≢ slice_index xs j
 
 -- x is none of these
-abbrev Lack : ℕ → List ℕ → Type 0
+abbrev pub Lack : ℕ → List ℕ → Type 0
 Lack x xs = (i : ℕ) → i < length xs → slice_index xs i ≢ x
 
 -- different entries, the first of which goes to the end
@@ -133,11 +133,11 @@ different_turned x xs different i j less below same =
 
 module _ {A : Type 0} (rules : List (Rule A)) where
   -- each awaits the one behind it, and the last of them this one
-  abbrev Leads : ℕ → List ℕ → ℕ → Type 0
+  abbrev pub Leads : ℕ → List ℕ → ℕ → Type 0
   Leads x [] last = next_awaited rules x ≡ Some last
   Leads x (y ∷ ys) last = (next_awaited rules x ≡ Some y) × Leads y ys last
 
-  abbrev IsRing : List ℕ → Type 0
+  abbrev pub IsRing : List ℕ → Type 0
   IsRing [] = ⊥
   IsRing (x ∷ xs) = Leads x xs x × Different (x ∷ xs)
 
@@ -155,7 +155,7 @@ module _ {A : Type 0} (rules : List (Rule A)) where
             (ap (λ k. next_awaited rules (slice_index (x ∷ y ∷ ys) k)) at ∙ closed),
       )
 
-  ring_of : (entry : ℕ) (circle : List ℕ) → IsCircle rules entry circle → IsRing circle
+  pub ring_of : (entry : ℕ) (circle : List ℕ) → IsCircle rules entry circle → IsRing circle
   ring_of entry [] is = absurd (let some = is.some in omega (arith, some))
   ring_of entry (x ∷ xs) is = (leads_of x xs x is.next is.closed, is.different)
 
@@ -164,7 +164,7 @@ module _ {A : Type 0} (rules : List (Rule A)) where
   leads_on x (w ∷ ws) y z leads e = (leads.0, leads_on w ws y z leads.1 e)
 
   -- the same circle from its second entry on
-  ring_turned : (x : ℕ) (xs : List ℕ) → IsRing (x ∷ xs) → IsRing (xs ++ x ∷ [])
+  pub ring_turned : (x : ℕ) (xs : List ℕ) → IsRing (x ∷ xs) → IsRing (xs ++ x ∷ [])
   ring_turned x [] ring = ring
   ring_turned x (y ∷ ys) ring = (leads_on y ys x y ring.0.1 ring.0.0, different_turned x (y ∷ ys) ring.1)
 
@@ -185,7 +185,7 @@ module _ {A : Type 0} (rules : List (Rule A)) where
       (λ i below. lacks (suc i) (omega (arith, below))))
       ∙ ap (λ n. n ∷ zs) (sym same)
 
-  lacks_first : (x : ℕ) (xs : List ℕ) → Different (x ∷ xs) → Lack x xs
+  pub lacks_first : (x : ℕ) (xs : List ℕ) → Different (x ∷ xs) → Lack x xs
   lacks_first x xs different i below same = different 0 (suc i) (omega arith) (omega (arith, below)) (sym same)
 
   -- circles with the same first entry
@@ -196,7 +196,7 @@ module _ {A : Type 0} (rules : List (Rule A)) where
       ∙ ap (λ n. n ∷ ys) same
 
   module _ {M F Z : Type 0} (nodes : List (Expression M F Z)) (entry : ℕ) where
-    least_on_turned : (x : ℕ) (xs : List ℕ) (round : List (List ℕ)) → IsLeast (names_on nodes (x ∷ xs)) round → IsLeast (names_on nodes (xs ++ x ∷ [])) round
+    pub least_on_turned : (x : ℕ) (xs : List ℕ) (round : List (List ℕ)) → IsLeast (names_on nodes (x ∷ xs)) round → IsLeast (names_on nodes (xs ++ x ∷ [])) round
     least_on_turned x xs round is =
         let names = names_of (slice_get nodes x) in
         let turned : names_on nodes (xs ++ x ∷ []) ≡ names_on nodes xs ++ names =
@@ -246,7 +246,7 @@ module _ {M F Z S : Type 0} (meanings : Meanings M F Z S) (nodes : List (Express
 
 module _ {M F Z S A : Type 0} (tables : Tables M F Z S A) (source : Source) (entry : ℕ) where
   -- a fault that tells a circle
-  circle_told : (fault : Fault) → IsCircleTold tables source entry fault
+  pub circle_told : (fault : Fault) → IsCircleTold tables source entry fault
       → (names : List (List ℕ)) × (fault ≡ Circular names) × ∥ RunsInto tables.means (whole tables source) entry names ∥₁
   circle_told (Circular names) is = (names, refl, is)
   circle_told other is = absurd is

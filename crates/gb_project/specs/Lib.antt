@@ -8,6 +8,7 @@ pub mod Shapes
 pub mod Spots
 pub mod Whole
 pub mod Realised
+pub mod CircleNames
 pub mod Told
 pub mod Parts
 pub mod Partly

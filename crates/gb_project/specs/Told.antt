@@ -7,6 +7,7 @@ use Rattle.gb_project.specs.Realised.{Trouble, Plain, Endless}
 use Rattle.gb_registry.specs.Tables.{Tables}
 use Rattle.gb_registry.specs.Source.{Source}
 use Rattle.gb_project.specs.Whole.{whole}
+use Rattle.gb_project.specs.CircleNames.{circle_names}
 
 module _ {M F Z S A : Type 0} (tables : Tables M F Z S A) (source : Source) (entry : ℕ) where
   -- The names on the circle that an expression of the whole table runs into. Which circle it is said to be is
@@ -24,3 +25,12 @@ IsTold tables source (Endless entry) fault = IsCircleTold tables source entry fa
 abbrev pub ToldOneWay : {M F Z S A : Type 0} → Tables M F Z S A → Source → Type 0
 ToldOneWay tables source = (trouble : Trouble) (a b : Fault) →
     IsTold tables source trouble a → IsTold tables source trouble b → a ≡ b
+
+-- Whatever tells a circle that an entry of the whole table runs into is what this says of the entry.
+abbrev pub IsToldBy : {M F Z S A : Type 0} → Tables M F Z S A → Source → (ℕ → Fault) → Type 0
+IsToldBy tables source told =
+    (entry : ℕ) (fault : Fault) → IsTold tables source (Endless entry) fault → fault ≡ told entry
+
+-- a circle that an entry of the whole table runs into, told by its names
+abbrev pub told_circle : {M F Z S A : Type 0} → Tables M F Z S A → Source → ℕ → Fault
+told_circle tables source entry = Circular (circle_names tables.means (whole tables source) entry)

@@ -13,7 +13,7 @@ ghost use Rattle.gb_project.specs.Ready.{RealisedIsSound};
 ghost use Rattle.gb_registry.specs.Source.{Source};
 ghost use Rattle.gb_project.specs.Standing.{ExpressionsStand};
 ghost use Rattle.gb_registry.specs.Tables.{Tables};
-ghost use Rattle.gb_project.specs.Told.{ToldOneWay};
+ghost use Rattle.gb_project.specs.Told.{IsToldBy, ToldOneWay, told_circle};
 
 use gb_action::actions::Actions;
 use gb_provider::transforms::Transforms;
@@ -85,4 +85,11 @@ pub fn realised_names_rise<A: Actions, T: Transforms>()
 pub fn troubles_are_told_one_way<A: Actions, T: Transforms>()
     ensures { (tables : Tables T.Map T.FlatMap T.Zip T.Test A.Stored) (source : Source)
         → ToldOneWay tables source }
+{}
+
+/// What tells the circle that an expression runs into is a function of the expression: the names on the
+/// circle that one comes to by going on from it, from the one on where they are the least.
+pub fn circles_are_told_by_their_names<A: Actions, T: Transforms>()
+    ensures { (tables : Tables T.Map T.FlatMap T.Zip T.Test A.Stored) (source : Source)
+        → IsToldBy tables source (told_circle tables source) }
 {}

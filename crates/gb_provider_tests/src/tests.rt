@@ -1,5 +1,5 @@
 //! Vectors from outside, over the functions of the sample.
-use crate::asking::{self, is_absent, is_list, is_text, number};
+use crate::asking::{self, is_absent, is_text, number};
 use crate::sample::{Only, Sample};
 use gb_core::name::Name;
 use gb_core::path::{ProjectPath, TaskPath};

@@ -19,3 +19,4 @@ mod ByChanges
 mod Later
 mod Emptied
 mod Idle
+mod Answering

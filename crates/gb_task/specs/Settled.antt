@@ -9,6 +9,7 @@ use Rattle.gb_label.specs.declared.prepare.Prepared.{Prepared}
 use Rattle.gb_label.specs.declared.prepare.Prepared.TheVariants as prepared
 use Rattle.gb_meaning.specs.Events.{Setting, own_files, rules_in}
 use Rattle.gb_meaning.specs.Label.{HasNoSource, Moment, early_case}
+use Rattle.gb_meaning.specs.Outline.{MayAnswer, PrintsNothing}
 use Rattle.gb_meaning.specs.Turn.{StartedTurn}
 use Rattle.gb_plan.specs.Graph.{Plan}
 use Rattle.gb_plan.specs.Task.{Path, is_output_of}
@@ -73,6 +74,17 @@ abbrev pub IsAnsweredAlone : Bool → Bool → Bool → Outcome → Type 0
 IsAnsweredAlone false idle need outcome = outcome ≡ outcomes.Skipped
 IsAnsweredAlone true true need outcome = outcome ≡ idle_outcome need
 IsAnsweredAlone true false need outcome = ⊤
+
+-- what is told of a task that runs and has actions is an outcome that it may answer
+abbrev pub TellsAnswer : Options → Task → Settled → Type 0
+TellsAnswer options task (settled.Told report) =
+    task.runs ≡ true → is_empty task.actions ≡ false → MayAnswer options task report.outcome
+TellsAnswer options task other = ⊤
+
+-- so it is of a whole turn, which prints nothing where its outcome leaves no choice
+pub record IsAnswer (options : Options) (task : Task) (report : TaskReport) : Type 0 where
+  pub lines : PrintsNothing report.outcome report
+  pub answer : task.runs ≡ true → is_empty task.actions ≡ false → MayAnswer options task report.outcome
 
 -- What is told is the task's turn, which changes nothing; and what is not is the task's case.
 abbrev pub SettlesTurn : Setting → Options → Plan → Task → Moment → Contents → ℕ → Settled → Type 0

@@ -30,7 +30,7 @@ Registering = Files → List (Name × Text) → Result Registry Fault
 abbrev pub setting_with : Kinds → Registering → Tearing → Setting
 setting_with kinds registry_of may_leave = record {
   kinds = kinds;
-  registry_of = registry_of;
+  registers = λ files properties said. registry_of files properties ≡ said;
   digest = sha256;
   says = IsText;
   record_place = record_place;

@@ -9,7 +9,7 @@ ghost use Rattle.gb_meaning.specs.Label.{Moment, some_outcome};
 ghost use Rattle.gb_meaning.specs.TrueRecord.{outside};
 ghost use Rattle.gb_plan.specs.Graph.{Plan, needs_in};
 ghost use Rattle.gb_report.specs.Outcome.{is_executed};
-ghost use Rattle.gb_task.specs.Settled.{AnswersAlone, IsOfTask, SettlesTurn, idle_outcome, settled_as, silent_report};
+ghost use Rattle.gb_task.specs.Settled.{AnswersAlone, IsOfTask, SettlesTurn, TellsAnswer, idle_outcome, settled_as, silent_report};
 ghost use Rattle.gb_task.specs.Turned.{Registering, setting_with};
 
 use gb_case::laws::{idle_turns_are_turns, outside_is_enough, prepared_is_case, runs_are_of_case};
@@ -52,9 +52,11 @@ pub fn settle<F: Folder>(
     requires path { path ≡ task.now.path }
     ensures count { F.failures folder.old ≤ F.failures folder.new }
     ensures tearing { SameTearing (F.may_leave folder.old) (F.may_leave folder.new) }
-    // Over any folder: what is told is of the task, and what is skipped or has no actions is told so.
+    // Over any folder: what is told is of the task, what is skipped or has no actions is told so, and of what
+    // has actions and runs no other outcome is told than it may answer.
     ensures of_task { IsOfTask task.now (F.failures folder.old) (F.failures folder.new) result }
     ensures alone { AnswersAlone task.now.runs (is_empty task.now.actions) has_executed_need result }
+    ensures answer { TellsAnswer options task.now result }
     ensures same { IsTrue F.tells → F.contents folder.new ≡ F.contents folder.old }
     // What is told is the task's turn; what is not told is its case.
     ensures settled { IsTrue F.tells → (kinds : Kinds) (registry_of : Registering) (plan : Plan)

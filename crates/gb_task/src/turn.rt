@@ -19,7 +19,7 @@ ghost use Rattle.gb_report.specs.Outcome.{is_executed, is_started};
 ghost use Rattle.gb_report.specs.declared.report.Options.{Options};
 ghost use Rattle.gb_report.specs.declared.report.Outcome.TheVariants.{Failed};
 ghost use Rattle.gb_store.specs.Changes.{ChangesOnly};
-ghost use Rattle.gb_task.specs.Settled.{IsAnsweredAlone};
+ghost use Rattle.gb_task.specs.Settled.{IsAnswer, IsAnsweredAlone};
 ghost use Rattle.gb_task.specs.Turned.{ComesAt, HasTurned, IsToldOf, Registering, is_of_turn, outcome_of, setting_with};
 ghost use Rattle.gb_turn.specs.Reading.{is_input_of};
 
@@ -67,9 +67,11 @@ pub fn take_turn<A: Actions, F: Folder>(
         → IsTrue (is_input_of task.now place || is_output_of task.now place) }
     ensures tearing { SameTearing (F.may_leave folder.old) (F.may_leave folder.new) }
     ensures started { IsTrue (is_started result.outcome) }
-    // Over any folder: what is skipped or has no actions is told so.
+    // Over any folder: what is skipped or has no actions is told so; what has actions and runs answers as it
+    // may, and prints nothing where its outcome leaves no choice.
     ensures alone { IsAnsweredAlone task.now.runs (is_empty task.now.actions) has_executed_need
         result.outcome }
+    ensures answer { IsAnswer options task.now result }
     ensures changes { IsTrue F.tells
         → ChangesOnly (is_of_turn task.now) (F.contents folder.old) (F.contents folder.new) }
     // Where what was read of the task is known of it, this is its turn.

@@ -382,12 +382,6 @@ fn lists_and_zips_need_all_their_values(rt: HostRuntime) -> Result<(), Fail> {
                 ":t",
                 "35 final p",
             ),
-            (
-                "register t { onlyIf \"true\" is isTrue }",
-                "",
-                ":t",
-                "34 wrong value isTrue",
-            ),
         ],
     )
 }

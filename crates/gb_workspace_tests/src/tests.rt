@@ -733,3 +733,110 @@ fn the_last_statement_of_a_property_counts(rt: HostRuntime) -> Result<(), Fail> 
         ],
     )
 }
+
+#[test]
+fn functions_give_what_they_say(rt: HostRuntime) -> Result<(), Fail> {
+    hold(
+        rt.alloc(),
+        &[
+            (
+                "register t { input a = \"aé\".map(upper) }",
+                "",
+                ":t",
+                "runs a=Aé",
+            ),
+            (
+                "register t { input a = \"ab\".map(append(\"c\")) }",
+                "",
+                ":t",
+                "runs a=abc",
+            ),
+            (
+                "register t { input a = \"ab\".map(append) }",
+                "",
+                ":t",
+                "32 bad arguments append",
+            ),
+            (
+                "property p set p = true register t { input a = p.map(append(\"c\")) }",
+                "",
+                ":t",
+                "34 wrong value append",
+            ),
+            (
+                "register t { input a = \"a,b,\".map(split(\",\")) }",
+                "",
+                ":t",
+                "runs a=[a][b][]",
+            ),
+            (
+                "register t { input a = \"aéééb--ééc\".map(split(\"éé\")) }",
+                "",
+                ":t",
+                "runs a=[a][éb--][c]",
+            ),
+            (
+                "register t { input a = \"a\".map(split(\"\")) }",
+                "",
+                ":t",
+                "32 bad arguments split",
+            ),
+            (
+                "register t { input a = [\"a\", \"b\", \"\"].map(join(\"-\")) }",
+                "",
+                ":t",
+                "runs a=a-b-",
+            ),
+            (
+                "register t { input a = \"a\".map(join(\"-\")) }",
+                "",
+                ":t",
+                "34 wrong value join",
+            ),
+            (
+                "register t { input a = buildDir.map(child(\"x/y\")) }",
+                "",
+                ":t",
+                "runs a=build/x/y",
+            ),
+            (
+                "register t { input a = buildDir.map(child(\"..\")) }",
+                "",
+                ":t",
+                "32 bad arguments child",
+            ),
+            (
+                "register t { input a = \"a\".map(nonEmpty) }",
+                "",
+                ":t",
+                "runs a=a",
+            ),
+            (
+                "register t { input a = \"g\".flatMap(output(\"out\")) }",
+                "",
+                ":t",
+                "34 wrong value output",
+            ),
+            (
+                "register t { input a = \"a\".zip(\"b\", concat) }",
+                "",
+                ":t",
+                "runs a=ab",
+            ),
+            ("register t { onlyIf \"true\" is isTrue }", "", ":t", "runs"),
+            ("register t { onlyIf \"no\" is isTrue }", "", ":t", "skips"),
+            (
+                "register t { onlyIf \"xx\" is equals(\"x\") }",
+                "",
+                ":t",
+                "skips",
+            ),
+            (
+                "register t { onlyIf [\"x\"] is equals(\"x\") }",
+                "",
+                ":t",
+                "34 wrong value equals",
+            ),
+        ],
+    )
+}

@@ -1,6 +1,6 @@
 -- A task that is skipped or has no actions fails by the machine for want of memory alone; so a build that the
 -- machine may hinder is one by its outline.
-use Rattle.std.specs.Prelude.{ℕ, ◌≡◌, ◌⊎◌, Bool, true, false, not, cond, ◌&&◌, ◌||◌, ◌++◌, List, [], Option, Some, None, IfOk}
+use Rattle.std.specs.Prelude.{ℕ, ◌≡◌, ◌⊎◌, Bool, true, false, not, cond, ◌&&◌, ◌||◌, ◌++◌, List, [], Option, Some, None}
 use Rattle.std.specs.List.{list_any}
 use Rattle.std.proofs.Common.{refl, sym, subst, ◌∙◌, inl, inr}
 use Rattle.gb_report.specs.declared.fault.Fault.{Fault}
@@ -15,7 +15,7 @@ use Rattle.gb_meaning.specs.TrueRecord.{outside}
 use Rattle.gb_meaning.proofs.Standing.{rules_of, standing}
 use Rattle.gb_meaning.specs.Tree.{input_faults, listing_faults, has_no_source}
 use Rattle.gb_meaning.specs.Memory.{World}
-use Rattle.gb_plan.specs.Graph.{Plan, IsRegistry}
+use Rattle.gb_plan.specs.Graph.{Plan}
 use Rattle.gb_meaning.specs.Label.{Moment, Early, Skips, HasNoActions, CannotRead, HasNoSource}
 use Rattle.gb_meaning.specs.Turn.{Standing, TouchesRecord, TouchesRecordIn, Builds}
 use Rattle.gb_report.specs.declared.report.Report.{Report}
@@ -97,11 +97,11 @@ may_builds_outline setting own options plan before after old new reports builds 
     [] before after old new reports builds
 
 -- Where no step has a premise, a build is one by its outline.
-pub build_outlined : (setting : Setting) (old new : State) (invocation : Invocation) (report : Report) → AreRegistries setting.registry_of
+pub build_outlined : (setting : Setting) (old new : State) (invocation : Invocation) (report : Report) → AreRegistries setting.registers
     → IsBuild setting always [] old invocation report new → IsOutlined invocation report
 build_outlined setting old new invocation report registries build = record {
   registry = build.planned.registry;
-  is_registry = subst (λ r. IfOk r IsRegistry) build.planned.scripts (registries (outside old.contents).files invocation.properties);
+  is_registry = registries (outside old.contents).files invocation.properties build.planned.registry build.planned.scripts;
   request = build.planned.request;
   asked = build.planned.asked;
   plan = build.plan;

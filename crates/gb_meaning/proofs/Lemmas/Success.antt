@@ -1,5 +1,5 @@
 -- Success is no clause of its own: it follows from the plan, the turns, registries and true records.
-use Rattle.std.specs.Prelude.{ℕ, ◌≡◌, Bool, true, false, not, cond, ◌&&◌, ◌||◌, List, [], ◌∷◌, ◌++◌, Some, None, Result, Ok, Err, IfOk, IsTrue, refl}
+use Rattle.std.specs.Prelude.{ℕ, ◌≡◌, Bool, true, false, not, cond, ◌&&◌, ◌||◌, List, [], ◌∷◌, ◌++◌, Some, None, Result, Ok, Err, IsTrue, refl}
 use Rattle.std.specs.List.{AllByRecursion, list_any, list_all, flat_map}
 use Rattle.std.proofs.Common.{sym, ap, subst, ◌∙◌, inl, inr}
 use Rattle.gb_report.specs.declared.fault.Fault.{Fault}
@@ -76,7 +76,7 @@ asked_of registry requested excluded = checked (words_of registry requested)
 registry_is : (registry : Registry) (requested excluded : List Text) (request : Request) → request_of registry requested excluded ≡ Ok request → registry ≡ request.registry
 registry_is registry requested excluded request e = sym (asked_of registry requested excluded) ∙ ap (registry_in registry) e
 
-pub success_follows : (setting : Setting) (granted : Guard) → Spreads granted → AreRegistries setting.registry_of → (old : State) → Stands setting old.contents old.remembered
+pub success_follows : (setting : Setting) (granted : Guard) → Spreads granted → AreRegistries setting.registers → (old : State) → Stands setting old.contents old.remembered
     → (invocation : Invocation) (plan : Plan) → HasPlan setting (outside old.contents) invocation plan
     → (may : May) (seen : List Bytes) (after : ℕ) (new : World) (reports : List TaskReport)
     → granted (seen ++ contents_outside old.contents ++ folder_contents new)
@@ -92,7 +92,7 @@ success_follows setting granted spreads registries old stands invocation plan pl
     )
   where
     is_registry : IsRegistry planned.registry
-    is_registry = subst (λ r. IfOk r IsRegistry) planned.scripts (registries (outside old.contents).files invocation.properties)
+    is_registry = registries (outside old.contents).files invocation.properties planned.registry planned.scripts
 
     shaped : AllByRecursion (λ (p : Planned). IsShaped p.task) plan
     shaped = planned_shaped planned.request plan (subst IsRegistry (registry_is planned.registry invocation.requested invocation.excluded planned.request planned.asked) is_registry) planned.planned.schedule

@@ -204,7 +204,7 @@ torn_write = (
 abbrev with_device : Tearing → Setting
 with_device may_leave = record {
   kinds = row_kinds;
-  registry_of = λ files properties. Err faults.NoTasks;
+  registers = λ files properties said. Err faults.NoTasks ≡ said;
   digest = λ bytes. bytes;
   says = λ path said bytes. ⊥;
   record_place = λ path. path;

@@ -1,7 +1,8 @@
-use Rattle.std.proofs.Common.{Bool, true, List, map, sym, ap, subst, ◌∙◌}
+use Rattle.std.proofs.Common.{Bool, true, List, [], inl, inr, map, sym, ap, subst, ◌∙◌}
 use Rattle.std.specs.List.{AllZip}
 use Rattle.gb_listen.specs.Telling.{AllTold}
 use Rattle.gb_meaning.specs.Events.{State}
+use Rattle.gb_meaning.specs.Outline.{AreOutlines}
 use Rattle.gb_meaning.specs.Turn.{dry_reports, heard_of}
 use Rattle.gb_plan.specs.declared.plan.Planned.{Planned}
 use Rattle.gb_report.specs.declared.report.TaskReport.{TaskReport}
@@ -9,7 +10,8 @@ use Rattle.gb_store.specs.Changes.{ChangesOnly}
 use Rattle.gb_task.specs.Turned.{setting_with}
 use Rattle.gb_execute.specs.Building.{is_of_turns}
 use Rattle.gb_execute.specs.Built.{HasBuilt}
-use Rattle.gb_execute.specs.Failing.{HasFailed, times_blamed}
+use Rattle.gb_meaning.specs.Headline.{HasFailed}
+use Rattle.gb_execute.specs.Failing.{times_blamed}
 use Rattle.gb_execute.specs.Reports.{IsOf}
 use Rattle.gb_execute.proofs.Skipping.{dry_blames, dry_built, dry_of}
 use Rattle.gb_execute.proofs.Hearing.{untold}
@@ -18,6 +20,10 @@ use Rattle.gb_execute.proofs.execute.execute.Goals as goal
 pub returns-then-options-clause-of_tasks : goal.returns-then-options-clause-of_tasks
 returns-then-options-clause-of_tasks g c =
     subst (AllZip IsOf c.args.plan.now) (sym (c.reported.ensures.tasks ∙ c.in_ok-dry_reports.ensures ∙ ap dry_reports c.as_slice-tasks.ensures)) (dry_of c.args.plan.now)
+
+pub returns-then-options-clause-outline : goal.returns-then-options-clause-outline
+returns-then-options-clause-outline g c =
+    inl (c.if-options.true, c.reported.ensures.tasks ∙ c.in_ok-dry_reports.ensures ∙ ap dry_reports c.as_slice-tasks.ensures)
 
 pub returns-then-options-clause-heard : goal.returns-then-options-clause-heard
 returns-then-options-clause-heard g c =
@@ -39,6 +45,14 @@ returns-then-options-clause-build g c = λ tells kinds registry_of remembered cl
     subst (λ (rs : List TaskReport). HasBuilt (setting_with kinds registry_of (F.may_leave start)) clear seen c.args.options c.args.plan.now old rs (record { contents = F.contents start; failures = F.failures start }))
     (sym (c.reported.ensures.tasks ∙ c.in_ok-dry_reports.ensures ∙ ap dry_reports c.as_slice-tasks.ensures))
     (dry_built kinds registry_of (F.may_leave start) clear seen c.args.options c.args.plan.now old c.if-options.true (λ e. (worth e).standing))
+
+pub returns-clause-outline : goal.returns-clause-outline
+returns-clause-outline g c =
+    inr (
+      c.if-options.false,
+      subst (λ (rs : List TaskReport). AreOutlines c.args.options c.args.plan.now [] c.args.plan.now rs) (sym c.reported-2.ensures.tasks)
+          (subst (λ (ps : List Planned). AreOutlines c.args.options ps [] ps c.take_turns-all_heard.new.reports.items) c.as_slice-tasks.ensures c.take_turns-all_heard.ensures.outline),
+    )
 
 pub returns-clause-heard : goal.returns-clause-heard
 returns-clause-heard g c =

@@ -4,6 +4,7 @@ use Rattle.std.proofs.lemmas.Option.{slice_get-get_or}
 use Rattle.gb_case.specs.Case.{IsKnown}
 use Rattle.gb_listen.specs.Telling.{AllTold}
 use Rattle.gb_meaning.proofs.Common.{some_same}
+use Rattle.gb_meaning.specs.Outline.{IsOutline}
 use Rattle.gb_plan.proofs.Tests.{not_false, not_true}
 use Rattle.gb_plan.specs.declared.plan.Planned.{Planned}
 use Rattle.gb_report.specs.Outcome.{is_started}
@@ -17,6 +18,7 @@ use Rattle.gb_task.specs.Turned.{is_of_turn, setting_with}
 use Rattle.gb_execute.specs.Built.{IsTurnOf}
 use Rattle.gb_execute.specs.Reports.{IsOf, report_with}
 use Rattle.gb_execute.proofs.Hearing.{heard_passed, heard_started, untold}
+use Rattle.gb_execute.proofs.Outlining.{outline_passed, outline_started}
 use Rattle.gb_execute.proofs.Taking.{own_apart, read_so, turn_passed, turn_started}
 use Rattle.gb_execute.proofs.one.take_one.Goals as goal
 use Rattle.gb_execute.proofs.one.take_one.Goals.{then-begun, else-begun}
@@ -26,6 +28,15 @@ returns-then-not-does_start-clause-heard g c =
     let ears = map g.L.TaskListener.ear c.args.listeners.now.items in
     subst (λ (told : List Heard). AllTold told true ears ears)
     (sym (heard_passed c.passed.result (ap (λ (r : TaskReport). is_started r.outcome) c.passed.ensures))) (untold ears)
+
+pub returns-then-not-does_start-clause-outline : goal.returns-then-not-does_start-clause-outline
+returns-then-not-does_start-clause-outline g c = λ moment planned is endings.
+    let tasks = c.args.build.now.tasks.now in
+    let got = slice_get-get_or tasks c.args.index c.index-build-index.result c.requires.index in
+    let same : slice_index_or tasks c.args.index c.index-build-index.result ≡ planned = some_same (sym got ∙ is) in
+    let by_number = c.starts_by_number.ensures c.args.build.now.options tasks c.args.starts.now moment c.args.index planned c.requires.can.once c.requires.of_plan endings is in
+    outline_passed c.args.build.now.options tasks moment planned c.passed.result (c.passed.ensures ∙ ap (report_with NotRun) same)
+    (λ starts. not_false (sym (c.does_start.ensures.starts.1 (by_number.0 starts)) ∙ c.if-not-does_start.true))
 
 pub returns-then-not-does_start-clause-turn : goal.returns-then-not-does_start-clause-turn
 returns-then-not-does_start-clause-turn g c = λ tells kinds registry_of moment planned is agrees seen folder failures stands endings known.
@@ -92,6 +103,23 @@ returns-clause-changes g c = λ tells planned is.
     let got = slice_get-get_or tasks c.args.index c.index-build-index.result c.requires.index in
     let same : slice_index_or tasks c.args.index c.index-build-index.result ≡ planned = some_same (sym got ∙ is) in
     subst (λ (p : Planned). ChangesOnly (is_of_turn p.task) (F.contents c.args.folder.now) (F.contents c.take_turn-report.new.folder)) same (c.take_turn-report.ensures.changes tells)
+
+pub returns-clause-outline : goal.returns-clause-outline
+returns-clause-outline g c = λ moment planned is endings.
+    let build = c.args.build.now in
+    let tasks = build.tasks.now in
+    let index = c.args.index in
+    let task = slice_index_or tasks index c.index-build-index.result in
+    let got = slice_get-get_or tasks index c.index-build-index.result c.requires.index in
+    let same : task ≡ planned = some_same (sym got ∙ is) in
+    let need = c.needs_by_number.ensures tasks c.args.starts.now moment index task c.requires.can.once c.requires.of_plan endings got
+    ∙ sym (c.has_executed_need-need.ensures ∙ ap (λ (p : Progress). has_executed_need p index) c.does_start.ensures.same) in
+    let by_number = c.starts_by_number.ensures build.options tasks c.args.starts.now moment index task c.requires.can.once c.requires.of_plan endings got in
+    let report = c.take_turn-report in
+    subst (λ (p : Planned). IsOutline build.options tasks moment p report.result) same
+    (outline_started build.options tasks moment task report.result c.has_executed_need-need.result
+    (record { path = report.ensures.path; has_actions = report.ensures.has_actions })
+    (by_number.1 (c.does_start.ensures.starts.0 c.if-not-does_start.false)) need report.ensures.alone report.ensures.answer)
 
 pub returns-clause-turn : goal.returns-clause-turn
 returns-clause-turn g c = λ tells kinds registry_of moment planned is agrees seen folder failures stands endings known.

@@ -9,6 +9,7 @@ use Rattle.gb_folder.specs.Files.{Contents, IsFolder, are_placed, is_own}
 use Rattle.gb_folder.proofs.Changes.{SameTearing-chain, SameTearing-same}
 use Rattle.gb_listen.specs.Telling.{AllTold}
 use Rattle.gb_meaning.specs.Events.{State}
+use Rattle.gb_meaning.specs.Outline.{AreOutlines, moment_by}
 use Rattle.gb_meaning.specs.Turn.{heard_of}
 use Rattle.gb_meaning.proofs.Lemmas.Success.{folder_where}
 use Rattle.gb_plan.proofs.Tests.{not_false, not_true}
@@ -28,12 +29,14 @@ use Rattle.gb_store.proofs.Machine.{changes_none}
 use Rattle.gb_task.proofs.Parts.{differs_outside}
 use Rattle.gb_task.proofs.Recorded.{seen_later}
 use Rattle.gb_execute.specs.Building.{IsBuildable, is_of_turns}
-use Rattle.gb_execute.specs.Failing.{HasFailed, times_blamed}
+use Rattle.gb_meaning.specs.Headline.{HasFailed}
+use Rattle.gb_execute.specs.Failing.{times_blamed}
 use Rattle.gb_execute.specs.Reports.{IsOf}
 use Rattle.gb_execute.proofs.Counting.{failed_more}
 use Rattle.gb_execute.proofs.Ending.{endings_more, none_ended}
 use Rattle.gb_execute.proofs.Hearing.{heard_more, untold}
 use Rattle.gb_execute.proofs.Knowing.{knows}
+use Rattle.gb_execute.proofs.Outlining.{outlines_more}
 use Rattle.gb_execute.proofs.Shut.{HasOwnPlaces}
 use Rattle.gb_execute.proofs.Underway.{IsUnderway, begun, built, goes_on, outcome_in}
 use Rattle.gb_execute.proofs.Walking.{all_more, at_index, changes_more, drop_at, each_at, left_less, next_path, once_behind, placed_where, take_at, whole_at, zip_more}
@@ -68,6 +71,7 @@ loop-path-init g c =
       endings = subst (λ (rs : List TaskReport). AreEndings tasks (map outcome_in rs) c.args.starts.now.endings) (sym none)
           (none_ended tasks c.args.starts.now.endings (all_come c.args.starts.now.endings (length tasks) c.requires.to_come));
       of_tasks = subst (AllZip IsOf []) (sym none) tt;
+      outline = subst (λ (rs : List TaskReport). AreOutlines c.args.build.now.options tasks [] [] rs) (sym none) tt;
       places = tt;
       heard = subst (λ (rs : List TaskReport). AllTold (heard_of false rs) true ears ears) (sym none) (untold ears);
       count = omega arith;
@@ -139,6 +143,10 @@ loop-path-preserved g c =
           (sym (ap (map outcome_in) items ∙ map-append outcome_in reports (report ∷ []))) ended);
       of_tasks = subst (λ (ps : List Planned). AllZip IsOf ps c.push_reserved.new.reports.items) (sym take_is)
           (subst (AllZip IsOf (take i tasks ++ planned ∷ [])) (sym items) (zip_more IsOf (take i tasks) reports planned report inv.of_tasks of_task));
+      outline = subst (λ (ps : List Planned). AreOutlines build.options tasks [] ps c.push_reserved.new.reports.items) (sym take_is)
+          (subst (λ (rs : List TaskReport). AreOutlines build.options tasks [] (take i tasks ++ planned ∷ []) rs) (sym items)
+          (outlines_more build.options tasks [] (take i tasks) planned reports report inv.outline
+          (c.take_one-taken.ensures.outline (moment_by outcomes) planned is inv.endings)));
       places = subst (AllByRecursion HasOwnPlaces) (sym take_is) (all_more HasOwnPlaces (take i tasks) planned inv.places places);
       heard = subst (λ (b : Bool). AllTold (heard_of false c.push_reserved.new.reports.items) b first last) (sym both)
           (subst (λ (hs : List Heard). AllTold hs (c.loop-path.all_heard && c.take_one-taken.result.all_heard) first last)
@@ -180,6 +188,17 @@ loop-path-preserved g c =
     on_false : (a b : Bool) → a ≡ false → false ≡ (a && b)
     on_false true b e = not_false e
     on_false false b e = refl
+
+pub returns-clause-outline : goal.returns-clause-outline
+returns-clause-outline g c =
+    let tasks = c.args.build.now.tasks.now in
+    let i = c.loop-path.index in
+    let inv = c.loop-path.invariant in
+    let empty : length (into_iter_items c.loop-path.path-iterator) ≡ 0 = omega (arith, c.loop-path.path-iterator.rest.ok.0, c.in-None.ensures.steps.0) in
+    let mapped : length (order (drop i tasks)) ≡ length (drop i tasks) = length-map _ _ in
+    let dropped : length (drop i tasks) ≡ length tasks - i = length-drop i tasks in
+    let all : length tasks ≤ i = omega (arith, empty, ap length inv.left, mapped, dropped) in
+    subst (λ (ps : List Planned). AreOutlines c.args.build.now.options tasks [] ps c.loop-path.reports.items) (take_all i tasks all) inv.outline
 
 pub returns-clause-build : goal.returns-clause-build
 returns-clause-build g c = λ tells kinds registry_of remembered clear seen agrees tears worth.

@@ -1,13 +1,14 @@
-use Rattle.std.proofs.Common.{◌≡◌, ◌≤◌, Bool, false, List, IsTrue, drop, length, map, take}
+use Rattle.std.proofs.Common.{◌≡◌, ◌≤◌, Bool, false, List, [], IsTrue, drop, length, map, take}
 use Rattle.std.specs.List.{AllByRecursion, AllZip}
 use Rattle.std.specs.Vec.{vec_capacity}
 use Rattle.std.specs.Vec.Iter.{into_iter_items}
 use Rattle.gb_folder.specs.Files.{Bytes, SameTearing}
 use Rattle.gb_history.specs.Places.{record_place}
 use Rattle.gb_listen.specs.Telling.{AllTold}
-use Rattle.gb_meaning.specs.Headline.{Agrees, TearsAreSeen}
+use Rattle.gb_meaning.specs.Headline.{Agrees, HasFailed, TearsAreSeen}
 use Rattle.gb_meaning.specs.Kinds.{Kinds}
 use Rattle.gb_meaning.specs.Memory.{Memory}
+use Rattle.gb_meaning.specs.Outline.{AreOutlines}
 use Rattle.gb_meaning.specs.Turn.{heard_of}
 use Rattle.gb_plan.specs.Graph.{order}
 use Rattle.gb_records.specs.Said.{IsText}
@@ -16,7 +17,7 @@ use Rattle.gb_store.specs.Changes.{ChangesOnly}
 use Rattle.gb_task.specs.Turned.{Registering}
 use Rattle.gb_execute.specs.Building.{is_of_turns}
 use Rattle.gb_execute.specs.Built.{AreWorth}
-use Rattle.gb_execute.specs.Failing.{HasFailed, times_blamed}
+use Rattle.gb_execute.specs.Failing.{times_blamed}
 use Rattle.gb_execute.specs.Reports.{IsOf}
 use Rattle.gb_execute.proofs.Shut.{HasOwnPlaces}
 use Rattle.gb_execute.proofs.Underway.{IsUnderway, outcome_in}
@@ -38,6 +39,7 @@ invariant-loop-path g l =
       lasting : length l.starts.endings ≡ length tasks;
       endings : AreEndings tasks (map outcome_in l.reports.items) l.starts.endings;
       of_tasks : AllZip IsOf done l.reports.items;
+      outline : AreOutlines l.build.options tasks [] done l.reports.items;
       places : AllByRecursion HasOwnPlaces done;
       heard : AllTold (heard_of false l.reports.items) l.all_heard (map ear l.fn.listeners.items) (map ear l.listeners.items);
       count : F.failures start ≤ F.failures l.folder;

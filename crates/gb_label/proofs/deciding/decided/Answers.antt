@@ -1,15 +1,15 @@
-use Rattle.std.proofs.Common.{◌≡◌, Option, List, Some, None, IfOk, IfErr, map, option_copied, Bor, Result, Ok, Err, sym, ap, subst, ◌∙◌, inl, inr}
+use Rattle.std.proofs.Common.{Option, List, Some, option_copied, Bor, sym, subst, inl, inr}
 use Rattle.gb_folder.specs.Files.{Contents}
-use Rattle.gb_history.specs.Remembered.{Prints, Remembered}
+use Rattle.gb_history.specs.Remembered.{Prints}
 use Rattle.gb_history.specs.declared.decide.Decision.{Decision}
 use Rattle.gb_history.specs.declared.decide.Decision.TheVariants.{Full}
 use Rattle.gb_history.specs.declared.record.OutputRecord.{OutputRecord}
 use Rattle.gb_history.specs.declared.record.Record.{Record}
 use Rattle.gb_meaning.specs.Tree.{trees_of}
-use Rattle.gb_report.specs.declared.fault.Fault.{Fault}
 use Rattle.gb_store.specs.Faults.{IsOfMachine}
-use Rattle.gb_turn.specs.Reading.{digests_in, recorded_of}
-use Rattle.gb_label.specs.Deciding.{IsDecided, IsPresentOf, anew, by_record, forgotten, grown}
+use Rattle.gb_turn.specs.Reading.{digests_in}
+use Rattle.gb_label.specs.Deciding.{IsDecided, IsPresentOf, MayDecide, anew, by_record, forgotten, grown}
+use Rattle.gb_label.proofs.Current.{may_decide}
 use Rattle.gb_label.proofs.Growth.{err_as, has_grown, of_machine, ok_as}
 use Rattle.gb_label.proofs.deciding.decided.Goals as goal
 use Rattle.gb_label.proofs.deciding.decided.Goals.{then-options-via-then-options, then-options-via-else-options+then-task}
@@ -53,3 +53,13 @@ returns-in-Err-clause-err g c = λ tells.
     err_as c.unless_grown.result c.unless_grown.ensures.err (λ fault same.
     subst (IsOfMachine (g.F.Folder.failures c.args.folder.now) (g.F.Folder.failures c.print_outputs.new.folder)) (sym same.0)
     (of_machine c.args.task.now old _ _ c.in-Err.fault (c.requires.listed tells) same.1 (c.in-Err.ensures.err tells)))
+
+pub returns-in_ok-decide-in-Ok-clause-may_decide : goal.returns-in_ok-decide-in-Ok-clause-may_decide
+returns-in_ok-decide-in-Ok-clause-may_decide g c =
+    may_decide c.args.options c.args.task.now c.in-Some.run'.now _ _ c.in_ok-present-in-Ok.present c.in_ok-decide-in-Ok.field-0
+    c.in_ok-present-in-Ok.ensures c.in-Ok.ensures.named c.in_ok-decide-in-Ok.ensures
+
+pub returns-in-Err-clause-may_decide : goal.returns-in-Err-clause-may_decide
+returns-in-Err-clause-may_decide g c =
+    ok_as c.unless_grown.result c.unless_grown.ensures.ok (λ decision full.
+    subst (λ (d : Decision). MayDecide c.args.options c.args.task.now d) (sym full.0) tt)

@@ -1,8 +1,9 @@
 use Rattle.std.proofs.Common.{option_copied, sym, subst}
 use Rattle.gb_folder.specs.Files.{is_empty}
-use Rattle.gb_task.specs.Settled.{AnswersAlone, IsOfTask, SettlesTurn}
+use Rattle.gb_task.specs.Settled.{AnswersAlone, IsOfTask, SettlesTurn, TellsAnswer}
 use Rattle.gb_task.specs.Turned.{setting_with}
 use Rattle.gb_task.specs.declared.settle.Settled.{Settled}
+use Rattle.gb_task.proofs.Answering.{tells as tells_answer}
 use Rattle.gb_task.proofs.Idle.{alone, of_task, settles}
 use Rattle.gb_task.proofs.settle.settle.Goals as goal
 
@@ -20,6 +21,12 @@ returns-clause-alone g c =
     let found = c.prepare-prepared in
     subst (λ (s : Settled). AnswersAlone c.args.task.now.runs (is_empty c.args.task.now.actions) c.args.has_executed_need s) (sym c.settled_by.ensures)
     (alone c.args.task.now c.args.path c.requires.path (F.failures c.args.folder.now) (F.failures found.new.folder) c.args.has_executed_need found.result found.ensures.may_be found.ensures.reads)
+
+pub returns-clause-answer : goal.returns-clause-answer
+returns-clause-answer g c =
+    let found = c.prepare-prepared in
+    subst (λ (s : Settled). TellsAnswer c.args.options c.args.task.now s) (sym c.settled_by.ensures)
+    (tells_answer c.args.options c.args.task.now c.args.path c.args.has_executed_need found.result found.ensures.may_be found.ensures.may_decide)
 
 pub returns-clause-settled : goal.returns-clause-settled
 returns-clause-settled g c = λ tells kinds registry_of plan moment folder count needed known.

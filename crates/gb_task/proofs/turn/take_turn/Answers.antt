@@ -2,12 +2,24 @@ use Rattle.std.proofs.Common.{◌≡◌, ◌≤◌, ℕ, Bool, option_copied, sy
 use Rattle.gb_folder.specs.Files.{Contents}
 use Rattle.gb_meaning.specs.Label.{Moment}
 use Rattle.gb_task.specs.Turned.{ComesAt, HasTurned, setting_with}
+use Rattle.gb_task.proofs.Answering.{cleared_answers, run_answers, told_answers}
 use Rattle.gb_task.proofs.Later.{cleared_started, comes_later, copied_some, known_made, run_started, told_turned, turned_before}
 use Rattle.gb_task.proofs.Recorded.{seen_later}
 use Rattle.gb_task.proofs.turn.take_turn.Goals as goal
 
 pub returns-in-Told-clause-blame : goal.returns-in-Told-clause-blame
 returns-in-Told-clause-blame g c = λ place is. (c.in-Told.ensures.of_task.3 place is).0
+
+pub returns-in-Told-clause-answer : goal.returns-in-Told-clause-answer
+returns-in-Told-clause-answer g c = told_answers c.args.options c.args.task.now c.in-Told.report c.in-Told.ensures.of_task.2 c.in-Told.ensures.answer
+
+pub returns-in-Sourceless-clause-answer : goal.returns-in-Sourceless-clause-answer
+returns-in-Sourceless-clause-answer g c =
+    let cleared = c.take_turn_without_source in
+    cleared_answers c.args.options c.args.task.now cleared.result cleared.ensures.lines c.in-Sourceless.ensures.of_task.1 cleared.ensures.outcome
+
+pub returns-in-Due-clause-answer : goal.returns-in-Due-clause-answer
+returns-in-Due-clause-answer g c = run_answers c.args.options c.args.task.now c.run.result c.run.ensures.outcome
 
 pub returns-in-Told-clause-turn : goal.returns-in-Told-clause-turn
 returns-in-Told-clause-turn g c = λ tells kinds registry_of plan moment agrees seen at needed known.
