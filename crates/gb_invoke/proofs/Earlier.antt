@@ -1,0 +1,82 @@
+-- A build from a moment is one from an earlier count of failures too.
+use Rattle.std.specs.Prelude.{ℕ, ◌≤◌, List, [], ◌∷◌}
+use Rattle.std.proofs.Common.{inl, inr, arith}
+use Rattle.gb_folder.specs.Files.{Bytes, Files}
+use Rattle.gb_folder.proofs.Changes.{HasRisen-before}
+use Rattle.gb_meaning.specs.Events.{Setting, may_come, rules_in}
+use Rattle.gb_meaning.specs.Label.{Moment}
+use Rattle.gb_meaning.specs.Memory.{World}
+use Rattle.gb_meaning.specs.Turn.{Builds, DoesStart, Guard, Standing, Turn, Turns, first_moment}
+use Rattle.gb_plan.specs.Graph.{Plan}
+use Rattle.gb_plan.specs.declared.plan.Planned.{Planned}
+use Rattle.gb_plan.specs.declared.task.TaskDeclaration.{TaskDeclaration as Task}
+use Rattle.gb_report.specs.declared.fault.Fault.{Fault}
+use Rattle.gb_report.specs.declared.fault.Fault.TheVariants as faults
+use Rattle.gb_report.specs.declared.report.Options.{Options}
+use Rattle.gb_report.specs.declared.report.TaskReport.{TaskReport}
+
+module _ (setting : Setting) (own : Files) (options : Options) (plan : Plan) (lower : ℕ) where
+  abbrev lowered : Moment → Moment
+  lowered moment = record { world = moment.world; outcomes = moment.outcomes; failures = lower }
+
+  may_since : (task : Task) (moment : Moment) (new : Standing) (fault : Fault) → lower ≤ moment.failures → moment.failures ≤ new.failures
+      → may_come setting own options task moment new fault → may_come setting own options task (lowered moment) new fault
+  may_since task moment new faults.OutOfMemory earlier count may = may
+  may_since task moment new (faults.Device place) earlier count may = (HasRisen-before lower moment.failures new.failures earlier count may.0, may.1, may.2)
+  may_since task moment new faults.HistoryNotWritten earlier count may = (
+    may.0,
+    elim may.1 [ inl risen ↦ inl (HasRisen-before lower moment.failures new.failures earlier count risen) | inr other ↦ inr other ],
+  )
+  may_since task moment new other earlier count may = absurd may
+
+  starts_since : (moment : Moment) (planned : Planned) → DoesStart options plan moment planned → DoesStart options plan (lowered moment) planned
+  starts_since moment planned starts = record { needs_ended_well = starts.needs_ended_well; is_called = starts.is_called; goes_on = starts.goes_on }
+
+  started_before : (moment : Moment) (planned : Planned) → DoesStart options plan (lowered moment) planned → DoesStart options plan moment planned
+  started_before moment planned starts = record { needs_ended_well = starts.needs_ended_well; is_called = starts.is_called; goes_on = starts.goes_on }
+
+  turn_since : (moment : Moment) (planned : Planned) (report : TaskReport) (new : Standing) → lower ≤ moment.failures → moment.failures ≤ new.failures
+      → Turn (rules_in setting own options plan) moment planned report new → Turn (rules_in setting own options plan) (lowered moment) planned report new
+  turn_since moment planned report new earlier count turn = (
+    turn.0,
+    turn.1,
+    elim turn.2 [
+      | inl started ↦ inl (
+        starts_since moment planned started.0,
+        record {
+          label = elim started.1.label [ inl label ↦ inl label | inr comes ↦ inr (comes.0, may_since planned.task moment new comes.0 earlier count comes.1, comes.2) ];
+          leaves = started.1.leaves;
+          prints = started.1.prints;
+          reading = started.1.reading;
+          begun = started.1.begun;
+        },
+      )
+      | inr passed ↦ inr (λ starts. passed.0 (started_before moment planned starts), passed.1)
+    ],
+  )
+
+  turns_since : (granted : Guard) (seen : List Bytes) (rest : List Planned) (moment : Moment) (reports : List TaskReport) (new : Standing) → lower ≤ moment.failures
+      → Turns (rules_in setting own options plan) granted seen rest moment reports new → Turns (rules_in setting own options plan) granted seen rest (lowered moment) reports new
+  turns_since granted seen [] moment [] new earlier turns = (turns.0, omega (arith, earlier, turns.1))
+  turns_since granted seen [] moment (report ∷ reports) new earlier turns = absurd turns
+  turns_since granted seen (planned ∷ rest) moment [] new earlier turns = absurd turns
+  turns_since granted seen (planned ∷ rest) moment (report ∷ reports) new earlier turns = (
+    turns.0,
+    record {
+      folder = turns.1.folder;
+      files = turns.1.files;
+      odd = turns.1.odd;
+      count = omega (arith, earlier, turns.1.count);
+      turn = λ given. turn_since moment planned report turns.0 earlier turns.1.count (turns.1.turn given);
+    },
+    turns.2,
+  )
+
+  -- a build that began when the device had failed more often
+  pub builds_since : (granted : Guard) (seen : List Bytes) (world : World) (later : ℕ) (reports : List TaskReport) (new : Standing) → lower ≤ later
+      → Builds (rules_in setting own options plan) granted seen (record { world = world; failures = later }) reports new
+      → Builds (rules_in setting own options plan) granted seen (record { world = world; failures = lower }) reports new
+  builds_since granted seen world later reports new earlier builds = elim builds [
+    | inl dry ↦ inl dry
+    | inr run ↦ inr (run.0, turns_since granted seen plan (first_moment (record { world = world; failures = later })) reports new earlier run.1)
+  ]
