@@ -1,15 +1,15 @@
 -- An invocation passes to what scripts register elsewhere, if here they register the same.
-use Rattle.std.specs.Prelude.{ℕ, ◌≡◌, ◌≤◌, ◌||◌, Bool, true, List, [], ◌∷◌, Err, Ok, Result, ⊤, bytes_eq, codes, MatchResult}
-use Rattle.std.proofs.Common.{refl, sym, ap, subst, inl, inr, arith}
+use Rattle.std.specs.Prelude.{ℕ, ◌≡◌, ◌≤◌, List, [], ◌∷◌, Err, Ok, Result, ⊤}
+use Rattle.std.proofs.Common.{refl, sym, subst, inl, inr, arith}
 use Rattle.sha2.specs.Sha256.{sha256}
-use Rattle.gb_folder.specs.Files.{Contents, Files, SameTearing, Tearing, is_own}
+use Rattle.gb_folder.specs.Files.{Contents, Files, SameTearing, Tearing}
 use Rattle.gb_folder.proofs.Changes.{HasRisen-before}
 use Rattle.gb_history.specs.Places.{record_place}
 use Rattle.gb_meaning.specs.declared.events.Event.TheVariants as events
 use Rattle.gb_meaning.specs.declared.events.Invocation.{Invocation}
 use Rattle.gb_meaning.specs.Edits.{Shown}
-use Rattle.gb_meaning.specs.Events.{HasPlan, IsBuild, IsNotBuilt, Setting, State, Step, is_read_first, may_come, own_files, rules_in, world_in}
-use Rattle.gb_meaning.specs.Headline.{InvocationHolds, Registering, RunHolds, Stands, StillClear, answer_of, seen_with, state_of}
+use Rattle.gb_meaning.specs.Events.{HasPlan, IsBuild, IsNotBuilt, Setting, State, Step, may_come, own_files, world_in}
+use Rattle.gb_meaning.specs.Headline.{InvocationHolds, Registering, RunHolds, StillClear, answer_of, state_of}
 use Rattle.gb_meaning.specs.Kinds.{Kinds}
 use Rattle.gb_meaning.specs.Label.{Moment}
 use Rattle.gb_meaning.specs.Memory.{Memory}
@@ -24,9 +24,6 @@ use Rattle.gb_report.specs.declared.fault.Fault.{Fault}
 use Rattle.gb_report.specs.declared.fault.Fault.TheVariants as faults
 use Rattle.gb_report.specs.declared.report.Options.{Options}
 use Rattle.gb_report.specs.declared.report.Report.{Report}
-use Rattle.gb_scripts.specs.Scripts.{is_script_place}
-use Rattle.gb_store.specs.Faults.{BlamesOnly, IsOfMachine}
-use Rattle.gb_task.specs.Turned.{setting_with}
 
 -- what an invocation is about, where scripts register so
 abbrev pub setting_by : Kinds → Registering → Tearing → Setting
@@ -115,7 +112,7 @@ module _ (kinds : Kinds) (registry : Registry) (registers : Registering) (may_le
     refusal_too fault after count (inr (inl (other, scripts, refused))) =
         inr (inl (other, subst (registers (outside contents).files invocation.properties) scripts says, refused))
     refusal_too fault after count (inr (inr (inl out))) = inr (inr (inl out))
-    refusal_too fault after count (inr (inr (inr (place, first, risen, is)))) = inr (inr (inr (place, first, HasRisen-before before later after earlier count risen, is)))
+    refusal_too fault after count (inr (inr (inr (place, first, (risen, is))))) = inr (inr (inr (place, first, (HasRisen-before before later after earlier count risen, is))))
 
     step_too : (result : Result Report Fault) (next : State) → later ≤ next.failures
         → Step one granted seen (from_later remembered) (events.Invoke invocation) (answer_of result) next

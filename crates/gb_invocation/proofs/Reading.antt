@@ -7,7 +7,6 @@ use Rattle.gb_meaning.specs.Events.{IsNotBuilt, State}
 use Rattle.gb_meaning.specs.Kinds.{Kinds}
 use Rattle.gb_meaning.specs.TrueRecord.{outside}
 use Rattle.gb_report.specs.declared.fault.Fault.{Fault}
-use Rattle.gb_report.specs.declared.fault.Fault.TheVariants as faults
 use Rattle.gb_registry.specs.Source.{Source}
 use Rattle.gb_registry.specs.Tables.{Tables}
 use Rattle.gb_scripts.proofs.OwnLemmas.{own_say_nothing}
@@ -38,8 +37,7 @@ module _ {M F Z S A : Type 0} (tables : Tables M F Z S A) (contents : Contents) 
       inr (inr (inr (
         place,
         ap (λ b. b || (is_own place && not invocation.options.dry_run)) (blamed place (was ∙ ap Err device)),
-        subst (λ (n : ℕ). HasRisen n after) (sym now) risen,
-        is ∙ device,
+        (subst (λ (n : ℕ). HasRisen n after) (sym now) risen, is ∙ device),
       )))
   not_read kinds may_leave invocation given same read fault told before after was is blamed (inr says) old here now =
       inl (subst (λ (c : Contents). FolderSays tables (outside c).files invocation.properties (Err told)) (sym here)

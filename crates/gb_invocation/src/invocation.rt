@@ -89,7 +89,14 @@ fn build_registered<A: Actions, T: Transforms, F: Folder, L: TaskListener>(
 {
     let _scripts = registry.scripts();
     let mut tasks = ScriptTasks::<A, T>::declare(alloc, tables, registry)?;
-    build_requested::<A, F, L, _>(alloc, folder, &mut tasks, &tables.actions, invocation, listeners)
+    build_requested::<A, F, L, _>(
+        alloc,
+        folder,
+        &mut tasks,
+        &tables.actions,
+        invocation,
+        listeners,
+    )
 }
 
 /// The values of properties that are given, once more.
