@@ -1,0 +1,111 @@
+//! One invocation over the scripts of a folder.
+ghost use Rattle.std.specs.Prelude.{◌≡◌, ◌≤◌, [], Ok, map, IfOk, IsTrue, OnErr};
+ghost use Rattle.gb_folder.specs.Files.{SameTearing};
+ghost use Rattle.gb_history.specs.Places.{record_place};
+ghost use Rattle.gb_meaning.specs.Headline.{Agrees, HaveHeard, InvocationHolds, TearsAreSeen};
+ghost use Rattle.gb_meaning.specs.Kinds.{Kinds};
+ghost use Rattle.gb_records.specs.Said.{IsText};
+ghost use Rattle.gb_registry.specs.Configure.{configure_faults};
+ghost use Rattle.gb_registry.specs.Tables.{tables_of};
+ghost use Rattle.gb_task.specs.Turned.{setting_with};
+ghost use Rattle.gb_tasks.specs.Scripts.{registry_said};
+ghost use Rattle.gb_invocation.specs.Scripts.{setting_of};
+
+use gb_action::actions::Actions;
+use gb_core::name::Name;
+use gb_core::text::Text;
+use gb_folder::folder::Folder;
+use gb_invoke::invoke::build_requested;
+use gb_listen::listener::TaskListener;
+use gb_meaning::events::{Invocation, Properties};
+use gb_provider::transforms::Transforms;
+use gb_registry::registry::Registry;
+use gb_registry::tables::Tables;
+use gb_report::fault::Fault;
+use gb_report::report::Report;
+use gb_scripts::reading::read_registry;
+use gb_tasks::script_tasks::ScriptTasks;
+use std::alloc::{AllocError, Global};
+
+/// Reads the scripts of a folder with the values that the invocation gives, and builds what is asked of the
+/// tasks that they register. Each task that starts is told to all listeners. Refused before the first task,
+/// with nothing changed and nothing told, for the first fault of the scripts, of the words or of the plan,
+/// where memory runs out, or where scripts or records cannot be read.
+pub fn invoke<A: Actions, T: Transforms, F: Folder, L: TaskListener>(
+    alloc: Global,
+    folder: &mut F,
+    tables: &Tables<A::Stored, T::Map, T::FlatMap, T::Zip, T::Test>,
+    invocation: &Invocation,
+    listeners: &mut Vec<L>,
+) -> Result<Report, Fault>
+    ensures dry_run { IfOk result (λ report. report.dry_run ≡ invocation.now.options.dry_run) }
+    ensures heard { IfOk result (λ report.
+        HaveHeard report (map L.ear listeners.old.items) (map L.ear listeners.new.items)) }
+    ensures untold { OnErr result (listeners.new ≡ listeners.old) }
+    ensures count { F.failures folder.old ≤ F.failures folder.new }
+    ensures tearing { SameTearing (F.may_leave folder.old) (F.may_leave folder.new) }
+    ensures refused { IsTrue F.tells → OnErr result (F.contents folder.new ≡ F.contents folder.old) }
+    // It is one invocation by its definition, with what the scripts of the folder register.
+    ensures holds { IsTrue F.tells → (kinds : Kinds)
+        → Agrees A.meanings tables.now.actions kinds
+        → TearsAreSeen IsText record_place (F.may_leave folder.old)
+        → InvocationHolds
+        (setting_of (tables_of T.meanings A.meanings tables.now) kinds (F.may_leave folder.old))
+        (record { contents = F.contents folder.old; failures = F.failures folder.old })
+        invocation.now result
+        (record { contents = F.contents folder.new; failures = F.failures folder.new }) }
+{
+    let given = copy_given(alloc, &invocation.properties)?;
+    let registry = read_registry::<A, T, F>(alloc, folder, tables, given)?;
+    build_registered::<A, T, F, L>(alloc, folder, tables, &registry, invocation, listeners)
+}
+
+/// Builds what is asked of the tasks of these scripts.
+fn build_registered<A: Actions, T: Transforms, F: Folder, L: TaskListener>(
+    alloc: Global,
+    folder: &mut F,
+    tables: &Tables<A::Stored, T::Map, T::FlatMap, T::Zip, T::Test>,
+    registry: &Registry,
+    invocation: &Invocation,
+    listeners: &mut Vec<L>,
+) -> Result<Report, Fault>
+    requires { configure_faults (tables_of T.meanings A.meanings tables.now) registry.now ≡ [] }
+    ensures dry_run { IfOk result (λ report. report.dry_run ≡ invocation.now.options.dry_run) }
+    ensures heard { IfOk result (λ report.
+        HaveHeard report (map L.ear listeners.old.items) (map L.ear listeners.new.items)) }
+    ensures untold { OnErr result (listeners.new ≡ listeners.old) }
+    ensures count { F.failures folder.old ≤ F.failures folder.new }
+    ensures tearing { SameTearing (F.may_leave folder.old) (F.may_leave folder.new) }
+    ensures refused { IsTrue F.tells → OnErr result (F.contents folder.new ≡ F.contents folder.old) }
+    ensures holds { IsTrue F.tells → (kinds : Kinds)
+        → Agrees A.meanings tables.now.actions kinds
+        → TearsAreSeen IsText record_place (F.may_leave folder.old)
+        → InvocationHolds (setting_with kinds
+        (λ files given. Ok (registry_said (tables_of T.meanings A.meanings tables.now) registry.now))
+        (F.may_leave folder.old))
+        (record { contents = F.contents folder.old; failures = F.failures folder.old })
+        invocation.now result
+        (record { contents = F.contents folder.new; failures = F.failures folder.new }) }
+{
+    let _scripts = registry.scripts();
+    let mut tasks = ScriptTasks::<A, T>::declare(alloc, tables, registry)?;
+    build_requested::<A, F, L, _>(
+        alloc,
+        folder,
+        &mut tasks,
+        &tables.actions,
+        invocation,
+        listeners,
+    )
+}
+
+/// The values of properties that are given, once more.
+fn copy_given(alloc: Global, properties: &Properties) -> Result<Vec<(Name, Text)>, AllocError>
+    ensures { IfOk result (λ given. given.items ≡ properties.now) }
+{
+    let mut given = Vec::new(alloc);
+    for property in properties.as_slice() {
+        given.push((property.0.copy()?, property.1.copy()?))?;
+    }
+    Ok(given)
+}
