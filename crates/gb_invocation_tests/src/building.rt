@@ -1,4 +1,4 @@
-//! Builds of a folder in memory, with all kinds and functions that every build has.
+//! Builds of a folder in memory, with all kinds that every build has and no function.
 use gb_action::actions::Actions;
 use gb_action::table::ActionTable;
 use gb_answer::builtin_runs;
@@ -7,9 +7,7 @@ use gb_folder::folder::Folder;
 use gb_folder::memory::MemoryFolder;
 use gb_invocation::invocation::invoke;
 use gb_kinds::builtin::{Builtin, StoredAction};
-use gb_kinds::function_table::{FunctionTable, add_part_functions, add_tests};
-use gb_kinds::functions::{child, equals, is_true, join, split};
-use gb_kinds::stored::{MapRun, TestRun};
+use gb_kinds::function_table::FunctionTable;
 use gb_kinds::table::builtin_table;
 use gb_listen::listener::Recorder;
 use gb_provider::transforms::Transforms;
@@ -32,19 +30,6 @@ pub type Step<'a> = (&'a str, &'a str, &'a str);
 
 fn actions(alloc: Global) -> Result<ActionTable<StoredAction>, Fail> {
     Ok(builtin_table(alloc, builtin_runs!(alloc))?)
-}
-
-fn put_parts(alloc: Global, table: &mut FunctionTable) -> Result<(), Fail> {
-    let splits: MapRun = Box::new(alloc, split)?;
-    let joins: MapRun = Box::new(alloc, join)?;
-    let goes: MapRun = Box::new(alloc, child)?;
-    Ok(add_part_functions(alloc, table, splits, joins, goes)?)
-}
-
-fn put_tests(alloc: Global, table: &mut FunctionTable) -> Result<(), Fail> {
-    let tells: TestRun = Box::new(alloc, is_true)?;
-    let compares: TestRun = Box::new(alloc, equals)?;
-    Ok(add_tests(alloc, table, tells, compares)?)
 }
 
 fn words_of(alloc: Global, line: &str) -> Result<Vec<String>, Fail> {
@@ -110,9 +95,7 @@ fn all_go_on<A: Actions, T: Transforms>(
 /// Goes through these steps over one folder, up to the first build that prints something else.
 pub fn hold(alloc: Global, steps: &[Step<'_>]) -> Result<(), Fail> {
     let actions = actions(alloc)?;
-    let mut transforms = FunctionTable::new(alloc);
-    put_parts(alloc, &mut transforms)?;
-    put_tests(alloc, &mut transforms)?;
+    let transforms = FunctionTable::new(alloc);
     let tables = Tables {
         actions,
         transforms,
