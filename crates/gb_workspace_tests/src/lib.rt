@@ -13,3 +13,5 @@ mod reading;
 mod showing;
 #[cfg(test)]
 mod tests;
+#[cfg(test)]
+mod values;

@@ -5,12 +5,13 @@ ghost use Rattle.gb_registry.specs.Tables.{tables_of};
 
 use crate::showing::{push_fault, push_task};
 use gb_action::actions::Actions;
+use gb_action::table::ActionTable;
 use gb_answer::builtin_runs;
 use gb_core::name::Name;
 use gb_core::path::TaskPath;
 use gb_core::text::Text;
 use gb_graph::plan::plan;
-use gb_kinds::builtin::Builtin;
+use gb_kinds::builtin::{Builtin, StoredAction};
 use gb_kinds::function_table::{
     FunctionTable, add_other_functions, add_part_functions, add_tests, add_text_functions,
 };
@@ -205,17 +206,11 @@ fn hold_all<A: Actions, T: Transforms>(
     Ok(())
 }
 
-fn hold_with(alloc: Global, transforms: FunctionTable, rows: &[Row<'_>]) -> Result<(), Fail> {
-    let actions = builtin_table(alloc, builtin_runs!(alloc))?;
-    let tables = Tables {
-        actions,
-        transforms,
-    };
-    hold_all::<Builtin, Builtin>(alloc, &tables, rows)
+fn actions(alloc: Global) -> Result<ActionTable<StoredAction>, Fail> {
+    Ok(builtin_table(alloc, builtin_runs!(alloc))?)
 }
 
-/// Fails at the first row that comes to something else.
-pub fn hold(alloc: Global, rows: &[Row<'_>]) -> Result<(), Fail> {
+fn functions(alloc: Global) -> Result<FunctionTable, Fail> {
     let mut table = FunctionTable::new(alloc);
     let raises: MapRun = Box::new(alloc, upper)?;
     let appends: MapRun = Box::new(alloc, append)?;
@@ -231,5 +226,15 @@ pub fn hold(alloc: Global, rows: &[Row<'_>]) -> Result<(), Fail> {
     let tells: TestRun = Box::new(alloc, is_true)?;
     let compares: TestRun = Box::new(alloc, equals)?;
     add_tests(alloc, &mut table, tells, compares)?;
-    hold_with(alloc, table, rows)
+    Ok(table)
+}
+
+/// Fails at the first row that comes to something else.
+pub fn hold(alloc: Global, rows: &[Row<'_>]) -> Result<(), Fail> {
+    let transforms = functions(alloc)?;
+    let tables = Tables {
+        actions: actions(alloc)?,
+        transforms,
+    };
+    hold_all::<Builtin, Builtin>(alloc, &tables, rows)
 }
