@@ -58,7 +58,7 @@ not_listed before after old own fault at blamed (inl (inl memory)) = inl memory
 not_listed before after old own fault at blamed (inl (inr device)) = inr (inl (device.1 ∙ ap faults.Device ((bytes_decides device.0 own).0 (blamed device.0 device.1) ∙ at), device.2))
 not_listed before after old own fault at blamed (inr odd) = inr (inr (subst (λ place. IsTrue (is_odd_under old place)) at odd.0, odd.1 ∙ ap faults.BadFileName at))
 
-cut_before : (first second : Tearing) (places : List Place) (old new : Contents) (fault : Fault) → SameTearing first second → IsCutShort second places old fault new → IsCutShort first places old fault new
+pub cut_before : (first second : Tearing) (places : List Place) (old new : Contents) (fault : Fault) → SameTearing first second → IsCutShort second places old fault new → IsCutShort first places old fault new
 cut_before first second places old new fault same cut = record {
   gone = cut.gone;
   place = cut.place;

@@ -1,1 +1,6 @@
 pub mod Editing
+pub mod Outside
+pub mod Kept
+pub mod Losing
+pub mod Alike
+pub mod Running
