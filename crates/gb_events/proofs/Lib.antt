@@ -4,3 +4,4 @@ pub mod Kept
 pub mod Losing
 pub mod Alike
 pub mod Running
+pub mod Blaming
