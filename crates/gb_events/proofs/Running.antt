@@ -1,6 +1,8 @@
 -- Runs of events, one event more at a time.
-use Rattle.std.specs.Prelude.{ℕ, ◌≡◌, ◌≤◌, ◌+◌, ◌++◌, ◌⊎◌, Bool, true, false, IsTrue, List, [], ◌∷◌, length, ⊤}
-use Rattle.std.proofs.Common.{arith, refl, sym, ap, subst, inl, inr}
+use Rattle.std.specs.Prelude.{ℕ, ◌≡◌, ◌≤◌, ◌<◌, ◌+◌, ◌++◌, ◌⊎◌, Bool, true, false, IsTrue, List, [], ◌∷◌, length, suc, take, zero, ⊤}
+use Rattle.std.proofs.Common.{arith, refl, sym, ap, subst, ◌∙◌, inl, inr, append_assoc}
+use Rattle.std.proofs.lemmas.List.{append-nil, length-take-le}
+use Rattle.std.proofs.Math.Seq.{take-nil}
 use Rattle.gb_folder.specs.Files.{Bytes, Contents}
 use Rattle.gb_meaning.specs.declared.events.Answer.{Answer}
 use Rattle.gb_meaning.specs.declared.events.Answer.TheVariants as answers
@@ -98,3 +100,25 @@ heard_more (answers.Edited ∷ told) answer old mid new heard more = heard_more 
 heard_more (answers.Refused fault ∷ told) answer old mid new heard more = heard_more told answer old mid new heard more
 heard_more (answers.Built report ∷ told) answer old mid new heard more = (heard.0, heard.1, heard_more told answer heard.0 mid new heard.2 more)
 heard_more (answers.NotBuilt fault ∷ told) answer old mid new heard more = heard_more told answer old mid new heard more
+
+-- ---- Lists, one element more
+
+pub more_ahead : (setting : Setting) (old end : Shown) (all : List Event) (event : Event) (rest : List Event) (told : List Answer) (answer : Answer) (others : List Answer)
+    → RunsFrom setting old (all ++ event ∷ rest) (told ++ answer ∷ others) end → RunsFrom setting old (all ++ event ∷ [] ++ rest) (told ++ answer ∷ [] ++ others) end
+more_ahead setting old end all event rest told answer others runs =
+    subst (λ (events : List Event). RunsFrom setting old events (told ++ answer ∷ [] ++ others) end) (sym (append_assoc all (event ∷ []) rest))
+    (subst (λ (answers : List Answer). RunsFrom setting old (all ++ event ∷ rest) answers end) (sym (append_assoc told (answer ∷ []) others)) runs)
+
+pub taken_all : {X Y : Type 0} (index : ℕ) (xs : List X) (ys : List Y) → length ys ≡ index → index < length xs → length (take index xs) ≡ length ys
+taken_all index xs ys same less = length-take-le index xs (omega (arith, less)) ∙ sym same
+
+take_all : {X : Type 0} (index : ℕ) (xs : List X) → length xs ≤ index → take index xs ≡ xs
+take_all index [] less = take-nil index
+take_all zero (x ∷ xs) less = absurd (omega arith)
+take_all (suc index) (x ∷ xs) less = ap (λ rest. x ∷ rest) (take_all index xs (omega (arith, less)))
+
+pub to_the_end : (setting : Setting) (old end : Shown) (index : ℕ) (all : List Event) (told : List Answer) → length all ≤ index
+    → RunsFrom setting old (take index all ++ []) (told ++ []) end → RunsFrom setting old all told end
+to_the_end setting old end index all told less runs =
+    subst (λ (events : List Event). RunsFrom setting old events told end) (append-nil (take index all) ∙ take_all index all less)
+    (subst (λ (answers : List Answer). RunsFrom setting old (take index all ++ []) answers end) (append-nil told) runs)

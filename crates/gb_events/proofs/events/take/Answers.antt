@@ -1,0 +1,69 @@
+use Rattle.std.proofs.Common.{sym, subst}
+use Rattle.gb_folder.specs.Files.{Contents}
+use Rattle.gb_invocation.specs.Scripts.{registers_in}
+use Rattle.gb_invoke.specs.Leading.{Leads}
+use Rattle.gb_meaning.specs.declared.events.Answer.{Answer}
+use Rattle.gb_meaning.specs.declared.events.Event.{Event}
+use Rattle.gb_meaning.specs.declared.events.Event.TheVariants as events
+use Rattle.gb_meaning.specs.Edits.{Shown}
+use Rattle.gb_meaning.specs.Headline.{EventKeeps}
+use Rattle.gb_registry.specs.Tables.{tables_of}
+use Rattle.gb_events.specs.Answers.{edit_answer}
+use Rattle.gb_events.proofs.Editing.{shows}
+use Rattle.gb_events.proofs.Kept.{put_keeps, remove_keeps}
+use Rattle.gb_events.proofs.Losing.{loss_leads}
+use Rattle.gb_events.proofs.Outside.{put_leads, remove_leads, setting_by}
+use Rattle.gb_events.proofs.events.take.Goals as goal
+
+pub returns-in-Put-clause-keeps : goal.returns-in-Put-clause-keeps
+returns-in-Put-clause-keeps g c = λ tells.
+    let F = g.F.Folder in
+    let registers = registers_in (tables_of g.T.Transforms.meanings g.A.Actions.meanings c.args.tables.now) in
+    let old : Shown = shows (F.contents c.args.folder.now) (F.failures c.args.folder.now) in
+    let new : Shown = shows (F.contents c.put.new.folder) (F.failures c.put.new.folder) in
+    subst (λ (event : Event). EventKeeps registers event c.edited.result old.contents new.contents) (sym c.in-Put.is)
+    (subst (λ (answer : Answer). EventKeeps registers (events.Put c.in-Put.place c.in-Put.bytes) answer old.contents new.contents) (sym c.edited.ensures)
+    (put_keeps registers (F.may_leave c.args.folder.now) c.in-Put.place c.in-Put.bytes old new (edit_answer c.put.result) (c.put.ensures.step tells)))
+
+pub returns-in-Put-clause-leads : goal.returns-in-Put-clause-leads
+returns-in-Put-clause-leads g c = λ tells kinds agrees tears.
+    let F = g.F.Folder in
+    let registers = registers_in (tables_of g.T.Transforms.meanings g.A.Actions.meanings c.args.tables.now) in
+    let may_leave = F.may_leave c.args.folder.now in
+    let old : Shown = shows (F.contents c.args.folder.now) (F.failures c.args.folder.now) in
+    let new : Shown = shows (F.contents c.put.new.folder) (F.failures c.put.new.folder) in
+    subst (λ (event : Event). Leads (setting_by kinds registers may_leave) old event c.edited.result new) (sym c.in-Put.is)
+    (subst (λ (answer : Answer). Leads (setting_by kinds registers may_leave) old (events.Put c.in-Put.place c.in-Put.bytes) answer new) (sym c.edited.ensures)
+    (put_leads kinds registers may_leave old new (g.met.F.Folder.sound c.put.new.folder) c.in-Put.place c.in-Put.bytes (edit_answer c.put.result) (c.put.ensures.step tells)))
+
+pub returns-in-Remove-clause-keeps : goal.returns-in-Remove-clause-keeps
+returns-in-Remove-clause-keeps g c = λ tells.
+    let F = g.F.Folder in
+    let registers = registers_in (tables_of g.T.Transforms.meanings g.A.Actions.meanings c.args.tables.now) in
+    let old : Shown = shows (F.contents c.args.folder.now) (F.failures c.args.folder.now) in
+    let new : Shown = shows (F.contents c.remove.new.folder) (F.failures c.remove.new.folder) in
+    subst (λ (event : Event). EventKeeps registers event c.edited-in-Remove.result old.contents new.contents) (sym c.in-Remove.is)
+    (subst (λ (answer : Answer). EventKeeps registers (events.Remove c.in-Remove.place) answer old.contents new.contents) (sym c.edited-in-Remove.ensures)
+    (remove_keeps registers (F.may_leave c.args.folder.now) c.in-Remove.place old new (edit_answer c.remove.result) (c.remove.ensures.step tells)))
+
+pub returns-in-Remove-clause-leads : goal.returns-in-Remove-clause-leads
+returns-in-Remove-clause-leads g c = λ tells kinds agrees tears.
+    let F = g.F.Folder in
+    let registers = registers_in (tables_of g.T.Transforms.meanings g.A.Actions.meanings c.args.tables.now) in
+    let may_leave = F.may_leave c.args.folder.now in
+    let old : Shown = shows (F.contents c.args.folder.now) (F.failures c.args.folder.now) in
+    let new : Shown = shows (F.contents c.remove.new.folder) (F.failures c.remove.new.folder) in
+    subst (λ (event : Event). Leads (setting_by kinds registers may_leave) old event c.edited-in-Remove.result new) (sym c.in-Remove.is)
+    (subst (λ (answer : Answer). Leads (setting_by kinds registers may_leave) old (events.Remove c.in-Remove.place) answer new) (sym c.edited-in-Remove.ensures)
+    (remove_leads kinds registers may_leave old new (g.met.F.Folder.sound c.remove.new.folder) c.in-Remove.place (edit_answer c.remove.result) (c.remove.ensures.step tells)))
+
+pub returns-in-Lost-clause-leads : goal.returns-in-Lost-clause-leads
+returns-in-Lost-clause-leads g c = λ tells kinds agrees tears.
+    let F = g.F.Folder in
+    let registers = registers_in (tables_of g.T.Transforms.meanings g.A.Actions.meanings c.args.tables.now) in
+    let may_leave = F.may_leave c.args.folder.now in
+    let old : Shown = shows (F.contents c.args.folder.now) (F.failures c.args.folder.now) in
+    let new : Shown = shows (F.contents c.lose.new.folder) (F.failures c.lose.new.folder) in
+    subst (λ (event : Event). Leads (setting_by kinds registers may_leave) old event c.edited-in-Lost.result new) (sym c.in-Lost.is)
+    (subst (λ (answer : Answer). Leads (setting_by kinds registers may_leave) old events.Lost answer new) (sym c.edited-in-Lost.ensures)
+    (loss_leads kinds registers may_leave tears old new (g.met.F.Folder.sound c.lose.new.folder) (edit_answer c.lose.result) (c.lose.ensures.step tells)))
