@@ -5,7 +5,8 @@ ghost use Rattle.gb_history.specs.Places.{record_place};
 ghost use Rattle.gb_invocation.specs.Scripts.{registers_in, setting_of};
 ghost use Rattle.gb_invoke.specs.Leading.{Leads};
 ghost use Rattle.gb_meaning.specs.Headline.{Agrees, AllKeepElsewhere, EventKeeps, EventsHold, HaveHeardAll};
-ghost use Rattle.gb_meaning.specs.Headline.{TearsAreSeen, answer_of};
+ghost use Rattle.gb_meaning.specs.Headline.{HasFailed, TearsAreSeen, answer_of, times_blamed};
+ghost use Rattle.gb_meaning.specs.Headline.{times_blamed_in_all};
 ghost use Rattle.gb_meaning.specs.Kinds.{Kinds};
 ghost use Rattle.gb_records.specs.Said.{IsText};
 ghost use Rattle.gb_registry.specs.Tables.{tables_of};
@@ -38,6 +39,9 @@ pub fn run_events<A: Actions, T: Transforms, F: Folder, L: TaskListener>(
     ensures tearing { SameTearing (F.may_leave folder.old) (F.may_leave folder.new) }
     // One answer for each event.
     ensures each { IfOk result (λ answers. length answers.items ≡ length events.now) }
+    // The device is blamed no more often than it failed.
+    ensures device { IfOk result (λ answers.
+        HasFailed (times_blamed_in_all answers.items) (F.failures folder.old) (F.failures folder.new)) }
     // Each listener heard the builds, one after another.
     ensures heard { IfOk result (λ answers.
         HaveHeardAll answers.items (map L.ear listeners.old.items) (map L.ear listeners.new.items)) }
@@ -72,6 +76,7 @@ fn take<A: Actions, T: Transforms, F: Folder, L: TaskListener>(
 ) -> Answer
     ensures count { F.failures folder.old ≤ F.failures folder.new }
     ensures tearing { SameTearing (F.may_leave folder.old) (F.may_leave folder.new) }
+    ensures device { HasFailed (times_blamed result) (F.failures folder.old) (F.failures folder.new) }
     ensures heard {
         HaveHeardAll (result ∷ []) (map L.ear listeners.old.items) (map L.ear listeners.new.items) }
     ensures keeps { IsTrue F.tells

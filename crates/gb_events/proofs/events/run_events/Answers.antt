@@ -6,9 +6,10 @@ use Rattle.gb_invoke.proofs.Planning.{tears_alike}
 use Rattle.gb_meaning.specs.declared.events.Answer.{Answer}
 use Rattle.gb_meaning.specs.declared.events.Event.{Event}
 use Rattle.gb_meaning.specs.Edits.{Shown}
-use Rattle.gb_meaning.specs.Headline.{AllKeepElsewhere, HaveHeardAll}
+use Rattle.gb_meaning.specs.Headline.{AllKeepElsewhere, HasFailed, HaveHeardAll, times_blamed_in_all}
 use Rattle.gb_registry.specs.Tables.{tables_of}
 use Rattle.gb_events.proofs.Alike.{leads_alike}
+use Rattle.gb_events.proofs.Blaming.{blamed_more}
 use Rattle.gb_events.proofs.Editing.{shows}
 use Rattle.gb_events.proofs.Outside.{setting_by}
 use Rattle.gb_events.proofs.Running.{RunsFrom, heard_more, keeps_more, more_ahead, runs_hold, runs_nowhere, runs_on, taken_all, to_the_end}
@@ -34,6 +35,8 @@ loop-event-preserved g c =
       each = grind arith;
       count = omega (arith, so_far.count, c.take.ensures.count);
       tearing = SameTearing-chain first second (F.may_leave c.take.new.folder) so_far.tearing c.take.ensures.tearing;
+      device = subst (λ (told : List Answer). HasFailed (times_blamed_in_all told) start.failures next.failures) (sym items)
+          (blamed_more c.loop-event.answers.items c.take.result start.failures here.failures next.failures so_far.device c.take.ensures.device c.take.ensures.count);
       heard = subst (λ (told : List Answer). HaveHeardAll told (map ear c.args.listeners.now.items) (map ear c.take.new.listeners.items)) (sym items)
           (heard_more c.loop-event.answers.items c.take.result _ _ _ so_far.heard c.take.ensures.heard);
       elsewhere = λ tells.

@@ -6,7 +6,7 @@ use Rattle.gb_invocation.specs.Scripts.{registers_in}
 use Rattle.gb_meaning.specs.declared.events.Answer.{Answer}
 use Rattle.gb_meaning.specs.declared.events.Event.{Event}
 use Rattle.gb_meaning.specs.Edits.{Shown}
-use Rattle.gb_meaning.specs.Headline.{Agrees, AllKeepElsewhere, HaveHeardAll, TearsAreSeen}
+use Rattle.gb_meaning.specs.Headline.{Agrees, AllKeepElsewhere, HasFailed, HaveHeardAll, TearsAreSeen, times_blamed_in_all}
 use Rattle.gb_meaning.specs.Kinds.{Kinds}
 use Rattle.gb_records.specs.Said.{IsText}
 use Rattle.gb_registry.specs.Tables.{tables_of}
@@ -25,6 +25,7 @@ invariant-loop-event g l =
       each : length l.answers.items ≡ l.event-index;
       count : F.failures l.fn.folder ≤ F.failures l.folder;
       tearing : SameTearing (F.may_leave l.fn.folder) (F.may_leave l.folder);
+      device : HasFailed (times_blamed_in_all l.answers.items) (F.failures l.fn.folder) (F.failures l.folder);
       heard : HaveHeardAll l.answers.items (map g.L.TaskListener.ear l.fn.listeners.items) (map g.L.TaskListener.ear l.listeners.items);
       elsewhere : IsTrue F.tells → AllKeepElsewhere (registers_in tables) (take l.event-index l.events) l.answers.items (F.contents l.fn.folder) (F.contents l.folder);
       -- whatever run goes on from here, these events and it are one run

@@ -6,9 +6,10 @@ use Rattle.gb_meaning.specs.declared.events.Answer.{Answer}
 use Rattle.gb_meaning.specs.declared.events.Event.{Event}
 use Rattle.gb_meaning.specs.declared.events.Event.TheVariants as events
 use Rattle.gb_meaning.specs.Edits.{Shown}
-use Rattle.gb_meaning.specs.Headline.{EventKeeps}
+use Rattle.gb_meaning.specs.Headline.{EventKeeps, HasFailed, times_blamed}
 use Rattle.gb_registry.specs.Tables.{tables_of}
 use Rattle.gb_events.specs.Answers.{edit_answer}
+use Rattle.gb_events.proofs.Blaming.{edit_blames}
 use Rattle.gb_events.proofs.Editing.{shows}
 use Rattle.gb_events.proofs.Kept.{put_keeps, remove_keeps}
 use Rattle.gb_events.proofs.Losing.{loss_leads}
@@ -67,3 +68,21 @@ returns-in-Lost-clause-leads g c = λ tells kinds agrees tears.
     subst (λ (event : Event). Leads (setting_by kinds registers may_leave) old event c.edited-in-Lost.result new) (sym c.in-Lost.is)
     (subst (λ (answer : Answer). Leads (setting_by kinds registers may_leave) old events.Lost answer new) (sym c.edited-in-Lost.ensures)
     (loss_leads kinds registers may_leave tears old new (g.met.F.Folder.sound c.lose.new.folder) (edit_answer c.lose.result) (c.lose.ensures.step tells)))
+
+pub returns-in-Put-clause-device : goal.returns-in-Put-clause-device
+returns-in-Put-clause-device g c =
+    let F = g.F.Folder in
+    subst (λ (answer : Answer). HasFailed (times_blamed answer) (F.failures c.args.folder.now) (F.failures c.put.new.folder)) (sym c.edited.ensures)
+    (edit_blames c.put.result (F.failures c.args.folder.now) (F.failures c.put.new.folder) c.put.ensures.count c.put.ensures.blame)
+
+pub returns-in-Remove-clause-device : goal.returns-in-Remove-clause-device
+returns-in-Remove-clause-device g c =
+    let F = g.F.Folder in
+    subst (λ (answer : Answer). HasFailed (times_blamed answer) (F.failures c.args.folder.now) (F.failures c.remove.new.folder)) (sym c.edited-in-Remove.ensures)
+    (edit_blames c.remove.result (F.failures c.args.folder.now) (F.failures c.remove.new.folder) c.remove.ensures.count c.remove.ensures.blame)
+
+pub returns-in-Lost-clause-device : goal.returns-in-Lost-clause-device
+returns-in-Lost-clause-device g c =
+    let F = g.F.Folder in
+    subst (λ (answer : Answer). HasFailed (times_blamed answer) (F.failures c.args.folder.now) (F.failures c.lose.new.folder)) (sym c.edited-in-Lost.ensures)
+    (edit_blames c.lose.result (F.failures c.args.folder.now) (F.failures c.lose.new.folder) c.lose.ensures.count c.lose.ensures.blame)
