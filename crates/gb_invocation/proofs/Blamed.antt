@@ -37,7 +37,7 @@ pub reading_fails : {X : Type 0} (read : Result X Fault) (fault told : Fault) (b
     → (result : Result Report Fault) → result ≡ Err told → HasFailed (times_blamed (answer_of result)) before after
 reading_fails read fault told before after count was same blames result is = told_so result told before after is (elim (device_or_not fault) [
   | inl device ↦
-    subst (λ (b : Bool). HasFailed (cond b 1 0) before after) (sym (ap is_of_device (same ∙ device.1))) (risen_once before after count (blames device.0 (was ∙ ap Err device.1)))
+      subst (λ (b : Bool). HasFailed (cond b 1 0) before after) (sym (ap is_of_device (same ∙ device.1))) (risen_once before after count (blames device.0 (was ∙ ap Err device.1)))
   | inr none ↦ unblamed told before after count (ap is_of_device same ∙ none)
 ])
 

@@ -45,13 +45,12 @@ use Rattle.gb_script.specs.declared.script.Clause.TheVariants as clauses
 use Rattle.gb_script.specs.declared.script.Condition.{Condition}
 use Rattle.gb_script.specs.declared.script.InputFiles.{InputFiles}
 use Rattle.gb_tasks.specs.Scripts.{declaration_of, registry_said, settled}
-use Rattle.gb_tree.specs.Pattern.{is_pattern}
 use Rattle.gb_invocation.proofs.Blameless.{AreBlameless, IsFair, all_after, all_append, all_flat, lookup_blameless, none_or_one, one_or_none, reference_blameless, test_blameless, tree_blameless}
 
 -- ---- Clauses
 
 pattern_blameless : (text : List ℕ) → AreBlameless (pattern_faults text)
-pattern_blameless text = none_or_one (is_pattern text) (faults.BadPattern text) refl
+pattern_blameless text = none_or_one _ (faults.BadPattern text) refl
 
 clash_blameless : (path : Path) (before : List Clause) (clause : Clause) → AreBlameless (clash_faults path before clause)
 clash_blameless path before clause = one_or_none (list_any (λ earlier. clash (heading earlier) (heading clause)) before) (faults.BadShape path) refl
