@@ -1,6 +1,6 @@
 -- What an invocation changes, by what it answers.
 use Rattle.std.specs.Prelude.{◌≡◌, Err, OnErr, Ok, Result}
-use Rattle.std.proofs.Common.{refl, sym, subst}
+use Rattle.std.proofs.Common.{sym, subst}
 use Rattle.gb_folder.specs.Files.{Contents}
 use Rattle.gb_meaning.specs.declared.events.Event.TheVariants as events
 use Rattle.gb_meaning.specs.declared.events.Invocation.{Invocation}

@@ -1,6 +1,6 @@
 -- An invocation passes to what scripts register elsewhere, if here they register the same.
 use Rattle.std.specs.Prelude.{ℕ, ◌≡◌, ◌≤◌, Bool, IsTrue, List, Err, Ok, Result}
-use Rattle.std.proofs.Common.{refl, sym, subst, inl, inr, arith}
+use Rattle.std.proofs.Common.{refl, sym, subst, inl, inr}
 use Rattle.sha2.specs.Sha256.{sha256}
 use Rattle.gb_folder.specs.Files.{Contents, Files, SameTearing, Tearing}
 use Rattle.gb_folder.proofs.Changes.{HasRisen-before}

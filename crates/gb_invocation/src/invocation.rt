@@ -5,7 +5,7 @@ ghost use Rattle.gb_history.specs.Places.{record_place};
 ghost use Rattle.gb_invoke.specs.Leading.{Leads};
 ghost use Rattle.gb_meaning.specs.declared.events.Event.TheVariants as events;
 ghost use Rattle.gb_meaning.specs.Headline.{Agrees, EventKeeps, HaveHeard, InvocationHolds, KeepsElsewhere};
-ghost use Rattle.gb_meaning.specs.Headline.{TearsAreSeen, answer_of};
+ghost use Rattle.gb_meaning.specs.Headline.{HasFailed, TearsAreSeen, answer_of, times_blamed};
 ghost use Rattle.gb_meaning.specs.Kinds.{Kinds};
 ghost use Rattle.gb_records.specs.Said.{IsText};
 ghost use Rattle.gb_registry.specs.Configure.{configure_faults};
@@ -46,6 +46,9 @@ pub fn invoke<A: Actions, T: Transforms, F: Folder, L: TaskListener>(
         HaveHeard report (map L.ear listeners.old.items) (map L.ear listeners.new.items)) }
     ensures untold { OnErr result (listeners.new ≡ listeners.old) }
     ensures count { F.failures folder.old ≤ F.failures folder.new }
+    // The device is blamed no more often than it failed.
+    ensures device { HasFailed (times_blamed (answer_of result))
+        (F.failures folder.old) (F.failures folder.new) }
     ensures tearing { SameTearing (F.may_leave folder.old) (F.may_leave folder.new) }
     ensures refused { IsTrue F.tells → OnErr result (F.contents folder.new ≡ F.contents folder.old) }
     // A build changes nothing but `.gb` and the build folders of the projects, and a refusal nothing.
@@ -90,6 +93,9 @@ fn build_registered<A: Actions, T: Transforms, F: Folder, L: TaskListener>(
         HaveHeard report (map L.ear listeners.old.items) (map L.ear listeners.new.items)) }
     ensures untold { OnErr result (listeners.new ≡ listeners.old) }
     ensures count { F.failures folder.old ≤ F.failures folder.new }
+    // The device is blamed no more often than it failed.
+    ensures device { HasFailed (times_blamed (answer_of result))
+        (F.failures folder.old) (F.failures folder.new) }
     ensures tearing { SameTearing (F.may_leave folder.old) (F.may_leave folder.new) }
     ensures refused { IsTrue F.tells → OnErr result (F.contents folder.new ≡ F.contents folder.old) }
     ensures keeps { IsTrue F.tells

@@ -1,6 +1,6 @@
-use Rattle.std.proofs.Common.{◌≡◌, Ok, refl, subst, sym}
+use Rattle.std.proofs.Common.{◌≡◌, Ok, arith, refl, subst, sym}
 use Rattle.std.proofs.lemmas.Result.{err_from_is_err_and}
-use Rattle.gb_invoke.specs.Asking.{AreBuildable}
+use Rattle.gb_invoke.specs.Asking.{AreBuildable, NoneBlameDevice}
 use Rattle.gb_meaning.specs.Edits.{Shown}
 use Rattle.gb_invoke.specs.Leading.{Leads}
 use Rattle.gb_meaning.specs.declared.events.Event.TheVariants as events
@@ -10,6 +10,8 @@ use Rattle.gb_registry.specs.Seen.{scripts_in}
 use Rattle.gb_registry.specs.Tables.{tables_of}
 use Rattle.gb_task.specs.Turned.{setting_with}
 use Rattle.gb_tasks.specs.Scripts.{registry_in, registry_said}
+use Rattle.gb_invocation.proofs.Blamed.{memory_blames_none}
+use Rattle.gb_invocation.proofs.BlamelessTasks.{declared_blame_none}
 use Rattle.gb_invocation.proofs.Buildable.{are_buildable}
 use Rattle.gb_invocation.proofs.Passing.{out_of_memory}
 use Rattle.gb_invocation.proofs.invocation.build_registered.Goals as goal
@@ -52,3 +54,15 @@ returns-clause-keeps g c = λ tells.
 
 pub returns-in_err-tasks-clause-keeps : goal.returns-in_err-tasks-clause-keeps
 returns-in_err-tasks-clause-keeps g c = λ tells. (refl, refl)
+
+pub returns-in_err-tasks-clause-device : goal.returns-in_err-tasks-clause-device
+returns-in_err-tasks-clause-device g c =
+    let F = g.F.Folder in
+    let p = err_from_is_err_and c.from_residual.result c.from_residual.ensures.1 in
+    memory_blames_none c.from_residual.result p.0 (F.failures c.args.folder.now) (F.failures c.args.folder.now) (omega arith) p.1 p.2
+
+pub returns-clause-device : goal.returns-clause-device
+returns-clause-device g c =
+    let tables = tables_of g.T.Transforms.meanings g.A.Actions.meanings c.args.tables.now in
+    let same : registry_in g.T.Transforms.meanings g.A.Actions.meanings c.in_ok-tasks.tasks.workspace ≡ registry_said tables c.args.registry.now = c.in_ok-tasks.ensures.registry in
+    c.build_requested.ensures.device (subst NoneBlameDevice (sym same) (declared_blame_none tables c.args.registry.now))

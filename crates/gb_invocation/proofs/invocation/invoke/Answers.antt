@@ -6,10 +6,11 @@ use Rattle.gb_invoke.proofs.Leading.{led_holds}
 use Rattle.gb_invoke.proofs.Planning.{tears_alike}
 use Rattle.gb_meaning.specs.Edits.{Shown}
 use Rattle.gb_meaning.specs.declared.events.Event.TheVariants as events
-use Rattle.gb_meaning.specs.Headline.{KeepsElsewhere, answer_of, state_of}
+use Rattle.gb_meaning.specs.Headline.{KeepsElsewhere, answer_of, state_of, times_blamed}
 use Rattle.gb_registry.specs.Tables.{tables_of}
 use Rattle.gb_tasks.specs.Scripts.{registry_said}
 use Rattle.gb_invocation.specs.Scripts.{registers_in, setting_of}
+use Rattle.gb_invocation.proofs.Blamed.{failed_since, memory_blames_none, reading_fails}
 use Rattle.gb_invocation.proofs.Keeping.{invoked_keeps, refusal_keeps}
 use Rattle.gb_invocation.proofs.Passing.{always, out_of_memory, refused_leads, setting_by, shows, since_read}
 use Rattle.gb_invocation.proofs.Reading.{not_read, registered}
@@ -106,3 +107,22 @@ returns-in_err-registry-clause-keeps g c = λ tells.
     let p = err_from_is_err_and c.from_residual-in_err-registry.result c.from_residual-in_err-registry.ensures.1 in
     refusal_keeps (registers_in tables) c.args.invocation.now c.from_residual-in_err-registry.result p.0 p.1 (F.contents c.args.folder.now) (F.contents c.read_registry.new.folder)
     (c.read_registry.ensures.same tells)
+
+pub returns-in_err-given-clause-device : goal.returns-in_err-given-clause-device
+returns-in_err-given-clause-device g c =
+    let F = g.F.Folder in
+    let p = err_from_is_err_and c.from_residual.result c.from_residual.ensures.1 in
+    memory_blames_none c.from_residual.result p.0 (F.failures c.args.folder.now) (F.failures c.args.folder.now) (omega arith) p.1 p.2
+
+pub returns-in_err-registry-clause-device : goal.returns-in_err-registry-clause-device
+returns-in_err-registry-clause-device g c =
+    let F = g.F.Folder in
+    let p = err_from_is_err_and c.from_residual-in_err-registry.result c.from_residual-in_err-registry.ensures.1 in
+    reading_fails c.read_registry.result c.in_err-registry.field-0.0 p.0 (F.failures c.args.folder.now) (F.failures c.read_registry.new.folder) c.read_registry.ensures.count c.in_err-registry.was
+    p.2 c.read_registry.ensures.blame c.from_residual-in_err-registry.result p.1
+
+pub returns-clause-device : goal.returns-clause-device
+returns-clause-device g c =
+    let F = g.F.Folder in
+    failed_since (times_blamed (answer_of c.build_registered.result)) (F.failures c.args.folder.now) (F.failures c.read_registry.new.folder) (F.failures c.build_registered.new.folder)
+    c.read_registry.ensures.count c.build_registered.ensures.device
