@@ -1,7 +1,7 @@
 -- What leads a run on where a folder tears as another does leads it on there.
-use Rattle.std.specs.Prelude.{ℕ, ◌≡◌, ◌⊎◌, List, Option, None, Some}
+use Rattle.std.specs.Prelude.{List, Option, None, Some}
 use Rattle.std.proofs.Common.{inl, inr}
-use Rattle.gb_folder.specs.Files.{Bytes, Contents, Files, Place, SameTearing, Tearing, file_at, places_under}
+use Rattle.gb_folder.specs.Files.{Bytes, Files, Place, SameTearing, Tearing, file_at, places_under}
 use Rattle.gb_meaning.specs.declared.events.Answer.{Answer}
 use Rattle.gb_meaning.specs.declared.events.Answer.TheVariants as answers
 use Rattle.gb_meaning.specs.declared.events.Event.{Event}

@@ -1,7 +1,7 @@
 -- Edits, by what the folder answers.
-use Rattle.std.proofs.Common.{◌≡◌, ◌≢◌, ◌≤◌, ◌<◌, ◌⊎◌, ℕ, true, false, List, Option, None, Some, Ok, Err, OnOk, IfErr, IsTrue, length, refl, ap, subst, ◌∙◌, inl, inr}
+use Rattle.std.proofs.Common.{◌≡◌, ◌≢◌, ◌≤◌, ◌<◌, ◌⊎◌, ℕ, true, false, List, None, Some, Ok, Err, OnOk, IfErr, IsTrue, length, refl, ap, subst, ◌∙◌, inl, inr}
 use Rattle.std.specs.Cmp.Lexicographic.{bytes_decides}
-use Rattle.gb_folder.specs.Files.{Place, Bytes, Contents, IsFolder, HasRisen, SameTearing, Tearing, file_at, is_blocked, is_odd_under, is_own, places_under}
+use Rattle.gb_folder.specs.Files.{Place, Contents, IsFolder, HasRisen, SameTearing, Tearing, file_at, is_blocked, is_odd_under, is_own, places_under}
 use Rattle.gb_folder.specs.declared.folder.FolderFault.{FolderFault}
 use Rattle.gb_folder.specs.declared.folder.FolderFault.TheVariants as folders
 use Rattle.gb_folder.specs.Limits.{max_file}

@@ -1,5 +1,5 @@
 -- The loss of the tool's own: what is remembered after it stands in true records.
-use Rattle.std.specs.Prelude.{ℕ, ◌≡◌, ◌≢◌, ◌++◌, ◌⊎◌, Bool, true, false, not, cond, IsTrue, List, [], ◌∷◌, map, Option, None, Some, bytes_eq, Contains, fold}
+use Rattle.std.specs.Prelude.{◌≡◌, ◌≢◌, ◌++◌, ◌⊎◌, Bool, true, false, not, cond, IsTrue, List, [], ◌∷◌, Option, None, Some, bytes_eq, Contains, fold}
 use Rattle.std.specs.Cmp.Lexicographic.{bytes_decides}
 use Rattle.std.specs.FinMap.Entries.{find-where_key, is_sorted-where_key, where_key}
 use Rattle.std.specs.List.{AllByRecursion, flat_map}
@@ -13,11 +13,11 @@ use Rattle.gb_meaning.specs.declared.events.Answer.{Answer}
 use Rattle.gb_meaning.specs.declared.events.Answer.TheVariants as answers
 use Rattle.gb_meaning.specs.declared.events.Event.TheVariants as events
 use Rattle.gb_meaning.specs.Edits.{LossStep, Shown, own_place}
-use Rattle.gb_meaning.specs.Events.{KeepsWhatStands, RemembersAfter, Setting, world_in}
+use Rattle.gb_meaning.specs.Events.{KeepsWhatStands, RemembersAfter, Setting}
 use Rattle.gb_meaning.specs.Headline.{Registering, TearsAreSeen, contents_outside, state_of}
 use Rattle.gb_meaning.specs.Kinds.{Kinds}
 use Rattle.gb_meaning.specs.Memory.{Entry, Memory, recalled}
-use Rattle.gb_meaning.specs.TrueRecord.{IsMade, SaysNoRecord, Stores, contents_of, memory_contents}
+use Rattle.gb_meaning.specs.TrueRecord.{IsMade, SaysNoRecord, Stores, contents_of}
 use Rattle.gb_folder.proofs.Sound.{same_from}
 use Rattle.gb_meaning.proofs.Lemmas.Files.{of_T, T_of}
 use Rattle.gb_meaning.proofs.Lemmas.Clear.{Among, in_left, in_one, in_right}
@@ -28,8 +28,8 @@ use Rattle.gb_records.proofs.Told.{stands_for_memory, texts_are_records}
 use Rattle.gb_report.specs.declared.fault.Fault.{Fault}
 use Rattle.gb_store.specs.Changes.{IsCutShort, without_all}
 use Rattle.gb_plan.specs.Task.{Path, has_path}
-use Rattle.gb_invoke.specs.Leading.{AreAmong, Leads, StandsSeen}
-use Rattle.gb_invoke.proofs.Fewer.{among_of, are_among}
+use Rattle.gb_invoke.specs.Leading.{Leads}
+use Rattle.gb_invoke.proofs.Fewer.{are_among}
 use Rattle.gb_invoke.proofs.Leading.{seen_more}
 use Rattle.gb_events.proofs.Outside.{setting_by}
 
@@ -176,13 +176,13 @@ module _ (kinds : Kinds) (registers : Registering) (may_leave : Tearing) (seen_t
     step = (step, after remembered);
     stands = λ given. let stood = worth given.0 in (
       stands_for_memory kinds end.contents kept is_folder (all_where (λ entry. IsMade kinds entry.1) still remembered stood.0.made)
-      (record {
-        in_order = of_T _ (is_sorted-where_key byte_order still remembered (T_of _ stood.0.in_order));
-        of_tasks = all_where (λ entry. IsTrue (is_task_path entry.0)) still remembered stood.0.of_tasks;
-        records = λ path good. stored path good (stood.0.records path good) (still path) refl;
-      }),
+          (record {
+            in_order = of_T _ (is_sorted-where_key byte_order still remembered (T_of _ stood.0.in_order));
+            of_tasks = all_where (λ entry. IsTrue (is_task_path entry.0)) still remembered stood.0.of_tasks;
+            records = λ path good. stored path good (stood.0.records path good) (still path) refl;
+          }),
       seen_more (all_contents kept) (seen ++ contents_outside old.contents) (contents_outside end.contents)
-      (λ bytes within. stood.1 bytes (are_among (all_contents kept) (all_contents remembered) (fewer_contents still remembered) bytes within)),
+          (λ bytes within. stood.1 bytes (are_among (all_contents kept) (all_contents remembered) (fewer_contents still remembered) bytes within)),
     );
   }
     where
@@ -224,11 +224,11 @@ module _ (kinds : Kinds) (registers : Registering) (may_leave : Tearing) (seen_t
     step = (step, refl);
     stands = λ given. (
       stands_for_memory kinds end.contents [] is_folder tt
-      (record {
-        in_order = refl;
-        of_tasks = tt;
-        records = λ path good. subst (λ (bytes : Option Bytes). SaysNoRecord IsText path bytes) (sym (all_gone step path)) tt;
-      }),
+          (record {
+            in_order = refl;
+            of_tasks = tt;
+            records = λ path good. subst (λ (bytes : Option Bytes). SaysNoRecord IsText path bytes) (sym (all_gone step path)) tt;
+          }),
       λ bytes within. absurd (none_within bytes within),
     );
   }

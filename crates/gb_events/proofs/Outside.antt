@@ -1,10 +1,10 @@
 -- Edits outside of the tool's own: what they change, and that they lead a run on.
-use Rattle.std.specs.Prelude.{ℕ, ◌≡◌, ◌++◌, Bool, true, false, not, IsTrue, List, Option, None, Some}
+use Rattle.std.specs.Prelude.{ℕ, ◌≡◌, ◌++◌, Bool, true, false, not, IsTrue, List}
 use Rattle.std.specs.Cmp.Lexicographic.{bytes_decides}
 use Rattle.std.specs.Prelude.{bytes_eq}
-use Rattle.std.proofs.Common.{refl, sym, ap, subst, ◌∙◌, inl, inr}
+use Rattle.std.proofs.Common.{refl, sym, ap, ◌∙◌, inl, inr}
 use Rattle.sha2.specs.Sha256.{sha256}
-use Rattle.gb_folder.specs.Files.{Bytes, Contents, IsFolder, Place, SameTearing, Tearing, is_own, without}
+use Rattle.gb_folder.specs.Files.{Bytes, IsFolder, Place, Tearing, is_own}
 use Rattle.gb_history.specs.Places.{record_place}
 use Rattle.gb_meaning.specs.declared.events.Answer.{Answer}
 use Rattle.gb_meaning.specs.declared.events.Answer.TheVariants as answers
@@ -12,7 +12,7 @@ use Rattle.gb_meaning.specs.declared.events.Event.{Event}
 use Rattle.gb_meaning.specs.declared.events.Event.TheVariants as events
 use Rattle.gb_meaning.specs.Edits.{PutStep, RemoveStep, Shown}
 use Rattle.gb_meaning.specs.Events.{Setting, Step, world_in}
-use Rattle.gb_meaning.specs.Headline.{EventKeeps, Registering, StillClear, contents_outside, state_of}
+use Rattle.gb_meaning.specs.Headline.{Registering, StillClear, contents_outside, state_of}
 use Rattle.gb_meaning.specs.Kinds.{Kinds}
 use Rattle.gb_meaning.specs.Memory.{Memory}
 use Rattle.gb_meaning.specs.TrueRecord.{memory_contents}
@@ -85,8 +85,8 @@ module _ (kinds : Kinds) (registers : Registering) (may_leave : Tearing) (old en
     stands = λ given.
         let stood = worth given.0 in (
           stands_for_memory kinds end.contents remembered is_folder stood.0.made
-          (stands_elsewhere old.contents.files end.contents.files remembered changes.elsewhere
-          (record { in_order = stood.0.in_order; of_tasks = stood.0.of_tasks; records = stood.0.records })),
+              (stands_elsewhere old.contents.files end.contents.files remembered changes.elsewhere
+              (record { in_order = stood.0.in_order; of_tasks = stood.0.of_tasks; records = stood.0.records })),
           seen_more (memory_contents (world_in (state_of old remembered))) (seen ++ contents_outside old.contents) (contents_outside end.contents) stood.1,
         );
   }

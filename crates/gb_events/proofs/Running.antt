@@ -1,5 +1,5 @@
 -- Runs of events, one event more at a time.
-use Rattle.std.specs.Prelude.{ℕ, ◌≡◌, ◌≤◌, ◌<◌, ◌+◌, ◌++◌, ◌⊎◌, Bool, true, false, IsTrue, List, [], ◌∷◌, length, suc, take, zero, ⊤}
+use Rattle.std.specs.Prelude.{ℕ, ◌≡◌, ◌≤◌, ◌<◌, ◌++◌, ◌⊎◌, Bool, true, false, IsTrue, List, [], ◌∷◌, length, suc, take, zero, ⊤}
 use Rattle.std.proofs.Common.{arith, refl, sym, ap, subst, ◌∙◌, inl, inr, append_assoc}
 use Rattle.std.proofs.lemmas.List.{append-nil, length-take-le}
 use Rattle.std.proofs.Math.Seq.{take-nil}
@@ -31,7 +31,7 @@ run_weaker setting one other weaker seen old (event ∷ rest) (answer ∷ others
   step_weaker setting (StillClear setting one old) (StillClear setting other old) (λ contents given. (weaker given.0, given.1)) seen old event answer run.0 run.2,
   λ given. run.3 (weaker given.0, given.1),
   run_weaker setting (StillClear setting one old (seen_with seen old run.0)) (StillClear setting other old (seen_with seen old run.0))
-  (λ given. (weaker given.0, given.1)) (seen ++ contents_outside old.contents) run.0 rest others end run.4,
+      (λ given. (weaker given.0, given.1)) (seen ++ contents_outside old.contents) run.0 rest others end run.4,
 )
 
 -- a run of these events from what a folder shows, whatever is remembered
@@ -61,15 +61,14 @@ runs_on setting old mid end event answer rest others count leads runs remembered
     let start : State = state_of old remembered in
     let led = leads remembered clear seen worth in
     let next : State = state_of mid led.remembered in
-    let decided = clear_or_not setting start clear (seen_with seen start next) in
-    (
+    let decided = clear_or_not setting start clear (seen_with seen start next) in (
       next,
       count,
       led.step,
       λ given. (led.stands given).0,
       run_weaker setting (IsTrue (yes_of decided)) (StillClear setting (IsTrue clear) start (seen_with seen start next)) (is_yes decided)
-      (seen ++ contents_outside old.contents) next rest others end
-      (runs led.remembered (yes_of decided) (seen ++ contents_outside old.contents) (λ yes. led.stands (is_so decided yes))),
+          (seen ++ contents_outside old.contents) next rest others end
+          (runs led.remembered (yes_of decided) (seen ++ contents_outside old.contents) (λ yes. led.stands (is_so decided yes))),
     )
 
 pub runs_nowhere : (setting : Setting) (old : Shown) → RunsFrom setting old [] [] old

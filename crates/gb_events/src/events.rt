@@ -77,8 +77,7 @@ fn take<A: Actions, T: Transforms, F: Folder, L: TaskListener>(
     ensures count { F.failures folder.old ≤ F.failures folder.new }
     ensures tearing { SameTearing (F.may_leave folder.old) (F.may_leave folder.new) }
     ensures device { HasFailed (times_blamed result) (F.failures folder.old) (F.failures folder.new) }
-    ensures heard {
-        HaveHeardAll (result ∷ []) (map L.ear listeners.old.items) (map L.ear listeners.new.items) }
+    ensures heard { HaveHeardAll (result ∷ []) (map L.ear listeners.old.items) (map L.ear listeners.new.items) }
     ensures keeps { IsTrue F.tells
         → EventKeeps (registers_in (tables_of T.meanings A.meanings tables.now)) event.now result
         (F.contents folder.old) (F.contents folder.new) }

@@ -1,11 +1,10 @@
 -- What was seen and what stands there need not be counted twice.
-use Rattle.std.specs.Prelude.{ℕ, ◌≡◌, ◌<◌, ◌||◌, ◌++◌, ◌&&◌, ◌⊎◌, Bool, true, false, List, [], ◌∷◌, Contains, zero, suc, bytes_eq}
-use Rattle.std.specs.List.{list_any}
+use Rattle.std.specs.Prelude.{◌≡◌, ◌||◌, ◌++◌, true, List, [], ◌∷◌, Contains, zero, suc, bytes_eq}
 use Rattle.std.specs.Cmp.Lexicographic.{bytes_decides}
-use Rattle.std.proofs.Common.{refl, sym, ap, inl, inr, arith}
+use Rattle.std.proofs.Common.{sym, ap, inl, inr, arith}
 use Rattle.gb_folder.specs.Files.{Bytes}
 use Rattle.gb_meaning.specs.Label.{Moment}
-use Rattle.gb_meaning.specs.Memory.{World, folder_contents}
+use Rattle.gb_meaning.specs.Memory.{folder_contents}
 use Rattle.gb_meaning.specs.Turn.{Builds, Guard, Rules, Standing, Turns, first_moment, moment_after}
 use Rattle.gb_meaning.proofs.Lemmas.Clear.{Among, in_left, in_one, in_right, right}
 use Rattle.gb_meaning.proofs.Lemmas.Plain.{Spreads}

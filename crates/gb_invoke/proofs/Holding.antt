@@ -1,7 +1,7 @@
 -- A build of a plan is a step of a run by its definition.
 use Rattle.std.specs.Prelude.{ℕ, ◌≡◌, ◌≤◌, ◌++◌, ◌&&◌, Bool, true, false, not, List, Err, Ok, Option, Result, IsTrue}
 use Rattle.std.specs.List.{AllZip}
-use Rattle.std.proofs.Common.{refl, sym, ap, subst, ◌∙◌, inl, inr, arith}
+use Rattle.std.proofs.Common.{refl, sym, ap, subst, ◌∙◌, inl, inr}
 use Rattle.sha2.specs.Sha256.{sha256}
 use Rattle.gb_folder.specs.Files.{Bytes, Contents, Files, IsFolder, SameTearing, Tearing}
 use Rattle.gb_graph.specs.Answer.{IsPlanOf}
@@ -9,7 +9,7 @@ use Rattle.gb_meaning.specs.declared.events.Event.TheVariants as events
 use Rattle.gb_meaning.specs.declared.events.Invocation.{Invocation}
 use Rattle.gb_meaning.specs.Edits.{Shown}
 use Rattle.gb_meaning.specs.Events.{HasPlan, Setting, may_come, own_files, rules_in, world_in}
-use Rattle.gb_meaning.specs.Headline.{Stands, StillClear, answer_of, contents_outside, seen_with, state_of}
+use Rattle.gb_meaning.specs.Headline.{StillClear, answer_of, contents_outside, seen_with, state_of}
 use Rattle.gb_meaning.specs.Kinds.{Kinds}
 use Rattle.gb_meaning.specs.Label.{Moment}
 use Rattle.gb_meaning.specs.Memory.{Memory, World}
@@ -113,16 +113,16 @@ module _ (kinds : Kinds) (registry_of : Registering) (may_leave : Tearing) (regi
     };
     stands = λ given. (
       stands_for_memory kinds end.contents memory is_folder
-      (truth_follows one (granted clear remembered) (spreads clear remembered) (state_of old remembered) (worth given.0).0 invocation plan planned_so
-      (may_come setting (own_files old.contents) invocation.options) seen end.failures (world_in (state_of end memory)) report.tasks given builds)
-      (records given),
+          (truth_follows one (granted clear remembered) (spreads clear remembered) (state_of old remembered) (worth given.0).0 invocation plan planned_so
+          (may_come setting (own_files old.contents) invocation.options) seen end.failures (world_in (state_of end memory)) report.tasks given builds)
+          (records given),
       are_among (memory_contents (world_in (state_of end memory))) ((seen ++ here) ++ contents_outside end.contents)
-      (λ c h. once_more seen here (contents_outside end.contents) c
-      (remembered_was_seen kinds invocation.options (may_come setting (own_files old.contents) invocation.options) plan (seen ++ here) old.failures end.failures
-      (world_in (state_of old remembered)) (world_in (state_of end memory)) report.tasks is_plan.2.sound.outputs_apart
-      (among_of (memory_contents (world_in (state_of old remembered))) (seen ++ here) (worth given.0).1)
-      (plain_builds one (granted clear remembered) (spreads clear remembered) (may_come setting (own_files old.contents) invocation.options) invocation.options is_plan.0 plan
-      seen (seen ++ here) old.failures end.failures (world_in (state_of old remembered)) (world_in (state_of end memory)) report.tasks is_plan.2 given builds) c h)),
+          (λ c h. once_more seen here (contents_outside end.contents) c
+          (remembered_was_seen kinds invocation.options (may_come setting (own_files old.contents) invocation.options) plan (seen ++ here) old.failures end.failures
+          (world_in (state_of old remembered)) (world_in (state_of end memory)) report.tasks is_plan.2.sound.outputs_apart
+          (among_of (memory_contents (world_in (state_of old remembered))) (seen ++ here) (worth given.0).1)
+          (plain_builds one (granted clear remembered) (spreads clear remembered) (may_come setting (own_files old.contents) invocation.options) invocation.options is_plan.0 plan
+          seen (seen ++ here) old.failures end.failures (world_in (state_of old remembered)) (world_in (state_of end memory)) report.tasks is_plan.2 given builds) c h)),
     );
   }
     where
@@ -166,13 +166,13 @@ module _ (kinds : Kinds) (registry_of : Registering) (may_leave : Tearing) (regi
     built_from =
         subst (GivesBuild second mid.failures records) same builds remembered reads all_seen
         (λ ready.
-            let is_clear : IsTrue clear = left_of clear (not invocation.options.dry_run) ready in
-            record {
-              standing = stood is_clear;
-              made = (worth is_clear).0.made;
-              read = read (no_longer invocation.options.dry_run (right_of clear (not invocation.options.dry_run) ready));
-              was_seen = (worth is_clear).1;
-            })
+        let is_clear : IsTrue clear = left_of clear (not invocation.options.dry_run) ready in
+        record {
+          standing = stood is_clear;
+          made = (worth is_clear).0.made;
+          read = read (no_longer invocation.options.dry_run (right_of clear (not invocation.options.dry_run) ready));
+          was_seen = (worth is_clear).1;
+        })
 
     dry_leads : IsBuiltFrom → invocation.options.dry_run ≡ true
         → LeadsTo setting clear seen (state_of old remembered) (events.Invoke invocation) (answer_of (Ok report)) end
@@ -201,10 +201,12 @@ module _ (kinds : Kinds) (registry_of : Registering) (may_leave : Tearing) (regi
         (StillClear (setting_with kinds registry_of second) (IsTrue reads) (record { contents = old.contents; remembered = remembered; failures = mid.failures }))
         (granted clear remembered) (λ contents given. (ready given.0, given.1))
         all_seen mid.failures end.failures first last report.tasks built.builds)))
-        (λ given. built.records
-        (ready given.0, (spreads clear remembered (seen_with seen (state_of old remembered) (state_of end built.remembered))
-        (seen_with all_seen (state_of old remembered) (state_of end built.remembered))
-        (once_more seen (contents_outside old.contents) (contents_outside end.contents)) given).1))
+        (λ given. built.records (
+          ready given.0,
+          (spreads clear remembered (seen_with seen (state_of old remembered) (state_of end built.remembered))
+              (seen_with all_seen (state_of old remembered) (state_of end built.remembered))
+              (once_more seen (contents_outside old.contents) (contents_outside end.contents)) given).1,
+        ))
 
     -- a build of the plan by what was read is a step
     pub built_leads : LeadsTo setting clear seen (state_of old remembered) (events.Invoke invocation) (answer_of (Ok report)) end

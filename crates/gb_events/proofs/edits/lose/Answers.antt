@@ -1,13 +1,9 @@
 use Rattle.std.proofs.Common.{◌≡◌, ℕ, List, true, Err, ap, sym, subst, ◌∙◌, inl}
 use Rattle.std.proofs.lemmas.Result.{err_from_is_err_and}
-use Rattle.std.specs.List.{AllByRecursion, list_all}
-use Rattle.std.specs.Prelude.{bytes_eq, ◌||◌}
-use Rattle.std.proofs.lemmas.List.Sums.{list_all-from_AllPass}
-use Rattle.gb_core.specs.Place.{is_beneath, is_under}
-use Rattle.gb_store.specs.Changes.{is_at}
+use Rattle.std.specs.List.{AllByRecursion}
 use Rattle.gb_folder.specs.Files.{is_own, places_under}
 use Rattle.gb_store.proofs.Emptied.{all_under}
-use Rattle.gb_store.proofs.Machine.{among_all, handed_on, at_err, changes_chain, changes_none}
+use Rattle.gb_store.proofs.Machine.{at_err, changes_chain, changes_none}
 use Rattle.gb_meaning.specs.Edits.{LossStep, own_place}
 use Rattle.gb_events.specs.Answers.{edit_answer}
 use Rattle.gb_events.proofs.Editing.{lost_from, not_listed, shows}

@@ -1,11 +1,9 @@
-use Rattle.std.proofs.Common.{◌<◌, ℕ, List, Some, length, subst, Err, ap, sym, ◌∙◌, inl, inr}
+use Rattle.std.proofs.Common.{◌<◌, ℕ, List, Some, length, subst, Err, ap, sym, ◌∙◌}
 use Rattle.gb_folder.specs.Limits.{max_file}
-use Rattle.gb_store.specs.Changes.{IsTorn, is_at}
+use Rattle.gb_store.specs.Changes.{IsTorn}
 use Rattle.gb_store.specs.Faults.{told_at}
 use Rattle.gb_events.proofs.Editing.{put_failed}
 use Rattle.gb_events.proofs.edits.put.Goals as goal
-
-
 
 pub returns-in-Err-clause-step : goal.returns-in-Err-clause-step
 returns-in-Err-clause-step g c = λ tells.

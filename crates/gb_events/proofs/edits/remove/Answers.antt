@@ -1,10 +1,7 @@
-use Rattle.std.proofs.Common.{Err, ap, sym, ◌∙◌, inl, inr}
-use Rattle.gb_store.specs.Changes.{is_at}
+use Rattle.std.proofs.Common.{Err, ap, sym, ◌∙◌}
 use Rattle.gb_store.specs.Faults.{told_at}
 use Rattle.gb_events.proofs.Editing.{remove_failed}
 use Rattle.gb_events.proofs.edits.remove.Goals as goal
-
-
 
 pub returns-in-Err-clause-step : goal.returns-in-Err-clause-step
 returns-in-Err-clause-step g c = λ tells.

@@ -1,5 +1,4 @@
 use Rattle.std.proofs.Common.{sym, subst}
-use Rattle.gb_folder.specs.Files.{Contents}
 use Rattle.gb_invocation.specs.Scripts.{registers_in}
 use Rattle.gb_invoke.specs.Leading.{Leads}
 use Rattle.gb_meaning.specs.declared.events.Answer.{Answer}
