@@ -4,7 +4,7 @@
 pub const EXAMPLES_1: [(&str, &str, u8); 8] = [
     (
         "put build.gb register hello {\\n    doLast printLine(\"hello\")\\n}\\nregister gen : writeText(\"abc\") {\\n    outputFile out = buildDir.map(child(\"a.txt\"))\\n}\\n\nrun hello gen\nrun hello gen\nshow build\n",
-        "> Task :gen\n> Task :hello\nhello\nBUILD SUCCESSFUL\n2 actionable tasks: 2 executed\n> Task :gen UP-TO-DATE\n> Task :hello\nhello\nBUILD SUCCESSFUL\n2 actionable tasks: 1 executed, 1 up-to-date\n== build/a.txt 3\nabc\n",
+        "> Task :hello\nhello\n> Task :gen\nBUILD SUCCESSFUL\n2 actionable tasks: 2 executed\n> Task :hello\nhello\n> Task :gen UP-TO-DATE\nBUILD SUCCESSFUL\n2 actionable tasks: 1 executed, 1 up-to-date\n== build/a.txt 3\nabc\n",
         0,
     ),
     (
@@ -200,7 +200,7 @@ pub const EXAMPLES_5: [(&str, &str, u8); 9] = [
     ),
     (
         "put a/b one\\n\\ttwo \\\\ three\nshow a\nput a/c/d\nput a/b/e x\ndel a/e\nput .gb/tasks/x.record x\ndel a/b\nshow a\nshow b\n",
-        "== a/b 17\none\n\ttwo \\ three\nREFUSED 12 blocked a/b/e\nREFUSED 11 missing a/e\nREFUSED 94 own state .gb/tasks/x.record\n== a/c/d 0\n== none\n",
+        "== a/b 16\none\n\ttwo \\ three\nREFUSED 12 blocked a/b/e\nREFUSED 11 missing a/e\nREFUSED 94 own state .gb/tasks/x.record\n== a/c/d 0\n== none\n",
         0,
     ),
     ("put a 1\n\njump\nshow a\n", "REFUSED 95 bad line 3\n", 2),
