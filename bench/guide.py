@@ -6,6 +6,7 @@
     bench/guide.py --list         each example: its number, its line in the guide, its array
     bench/guide.py --input N      the input of example N, as gb_replay reads it
     bench/guide.py --run PROGRAM  runs each example by PROGRAM and fails where one differs
+    bench/guide.py --cases FOLDER writes each example and its output there, for rt try --cases FOLDER
 
 An example is a block ```replay and the block ```output behind it; `status N` behind `output` tells a status
 that is not 0. Lines that begin with four spaces are the text of the `put` above them.
@@ -143,6 +144,15 @@ def run(program):
     return 1 if differ else 0
 
 
+def write_cases(folder):
+    os.makedirs(folder, exist_ok=True)
+    for number, example in enumerate(examples(), 1):
+        name = os.path.join(folder, f"{number:02}")
+        for path, text in ((name, example.input), (name + ".stdout", example.output)):
+            with open(path, "w", encoding="utf-8") as file:
+                file.write(text)
+
+
 def main(words):
     if not words:
         text = rows_text()
@@ -160,8 +170,10 @@ def main(words):
         sys.stdout.write(examples()[int(words[1]) - 1].input)
     elif len(words) == 2 and words[0] == "--run":
         return run(words[1])
+    elif len(words) == 2 and words[0] == "--cases":
+        write_cases(words[1])
     else:
-        fail("usage: guide.py [--check | --list | --input N | --run PROGRAM]")
+        fail("usage: guide.py [--check | --list | --input N | --run PROGRAM | --cases FOLDER]")
     return 0
 
 
