@@ -108,22 +108,22 @@ def literal(text):
     return '"' + text + '"'
 
 
-def row(example):
-    parts = [literal(example.input), literal(example.output), str(example.status)]
-    flat = "    (" + ", ".join(parts) + "),"
-    if len(flat) <= 100:
-        return [flat]
+def row(number, example):
+    parts = [literal(f"example {number}"), literal(example.input), literal(example.output), str(example.status)]
+    flat = ", ".join(parts)
+    if len(flat) <= 60:
+        return ["    (" + flat + "),"]
     return ["    ("] + ["        " + part + "," for part in parts] + ["    ),"]
 
 
 def rows_text():
-    lines = ["//! The examples of docs/GUIDE.md, made by bench/guide.py."]
+    lines = ["//! The examples of docs/GUIDE.md, made by bench/guide.py.", "use crate::tests::Row;"]
     for name, part in arrays(examples()):
         section = part[0][1].section
-        lines += ["", f"/// From section {section} on: each an input, its output and the status."]
-        lines.append(f"pub const {name}: [(&str, &str, u8); {len(part)}] = [")
-        for _, example in part:
-            lines += row(example)
+        lines += ["", f"/// From section {section} on."]
+        lines.append(f"pub const {name}: [Row<'static>; {len(part)}] = [")
+        for number, example in part:
+            lines += row(number, example)
         lines.append("];")
     if len(lines) > MOST_LINES:
         fail(f"{len(lines)} lines")
