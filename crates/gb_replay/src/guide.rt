@@ -191,8 +191,8 @@ pub const EXAMPLES_4: [Row<'static>; 8] = [
     ),
     (
         "example 30",
-        "put build.gb register a : writeText(\"A\") {\\n    onlyIf gradleProperty(\"go\") is equals(\"yes\")\\n    outputFile out = buildDir.map(child(\"x\"))\\n}\\nregister b : concat {\\n    inputFiles src from task(\"a\").flatMap(output(\"out\"))\\n    outputFile out = buildDir.map(child(\"y\"))\\n}\\n\nrun b -Pgo=yes\nrun b\nput build/x Z\nrun b\nshow build/y\n",
-        "> Task :a\n> Task :b\nBUILD SUCCESSFUL\n2 actionable tasks: 2 executed\n> Task :a SKIPPED\n> Task :b UP-TO-DATE\nBUILD SUCCESSFUL\n1 actionable task: 1 up-to-date\n> Task :a SKIPPED\n> Task :b\nBUILD SUCCESSFUL\n1 actionable task: 1 executed\n== build/y 1\nZ\n",
+        "put build.gb register a : writeText(\"A\") {\\n    onlyIf gradleProperty(\"go\") is equals(\"yes\")\\n    outputFile out = buildDir.map(child(\"x\"))\\n}\\nregister b : concat {\\n    inputFiles src from task(\"a\").flatMap(output(\"out\"))\\n    outputFile out = buildDir.map(child(\"y\"))\\n}\\nregister c {\\n    dependsOn \"b\"\\n    enabled false\\n    doLast printLine(\"c\")\\n}\\n\nrun c -Pgo=yes\nrun b\nput build/x Z\nrun b\nshow build/y\n",
+        "> Task :a\n> Task :b\n> Task :c SKIPPED\nBUILD SUCCESSFUL\n2 actionable tasks: 2 executed\n> Task :a SKIPPED\n> Task :b UP-TO-DATE\nBUILD SUCCESSFUL\n1 actionable task: 1 up-to-date\n> Task :a SKIPPED\n> Task :b\nBUILD SUCCESSFUL\n1 actionable task: 1 executed\n== build/y 1\nZ\n",
         0,
     ),
     (
