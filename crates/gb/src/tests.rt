@@ -26,8 +26,7 @@ const GEN: &str =
 const DONE: &str = "> Task :gen\nBUILD SUCCESSFUL\n1 actionable task: 1 executed\n";
 
 /// What is printed where the file stands already.
-const STANDS: &str =
-    "> Task :gen UP-TO-DATE\nBUILD SUCCESSFUL\n1 actionable task: 1 up-to-date\n";
+const STANDS: &str = "> Task :gen UP-TO-DATE\nBUILD SUCCESSFUL\n1 actionable task: 1 up-to-date\n";
 
 fn actions(alloc: Global) -> Result<ActionTable<StoredAction>, Fail> {
     Ok(builtin_table(alloc, builtin_runs!(alloc))?)
@@ -329,7 +328,13 @@ fn a_failing_writer_is_status_1(rt: HostRuntime) -> Result<(), Fail> {
     };
     let mut folder = MemoryFolder::new(alloc);
     let words = Ok(Vec::new(alloc));
-    let status = run::<Builtin, Builtin, _, _>(alloc, &mut folder, words, &mut FailingWriter, &tables);
+    let status = run::<Builtin, Builtin, _, _>(
+        alloc,
+        &mut folder,
+        words,
+        &mut FailingWriter,
+        &tables,
+    );
     assert_eq!(rt; status, 1);
     Ok(())
 }

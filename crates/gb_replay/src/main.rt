@@ -20,6 +20,10 @@ use std::process::ExitCode;
 
 mod line;
 mod replay;
+#[cfg(test)]
+mod rows;
+#[cfg(test)]
+mod script_rows;
 mod show;
 mod stop;
 #[cfg(test)]

@@ -196,8 +196,7 @@ fn event_text<A: Actions, T: Transforms, F: Folder>(
     event: Event,
 ) -> Result<Vec<u8>, Stop> {
     let mut listeners: Vec<Recorder> = Vec::new(alloc);
-    let answers =
-        run_events::<A, T, F, Recorder>(alloc, folder, tables, &[event], &mut listeners)?;
+    let answers = run_events::<A, T, F, Recorder>(alloc, folder, tables, &[event], &mut listeners)?;
     match answers.as_slice().first() {
         Some(answer) => Ok(answer_text(alloc, answer)?),
         None => Ok(Vec::new(alloc)),
