@@ -46,8 +46,8 @@ module _ {M F Z S A : Type 0} (tables : Tables M F Z S A) (may_leave : Tearing) 
       (kinds : Kinds) → Agrees tables.shapes tables.kinds kinds → TearsAreSeen IsText record_place may_leave
       → InvocationHolds (setting_of tables kinds may_leave) old asked answer new
 
-  -- The words are refused, or they ask for an invocation, and this is its answer. Where it is refused, nothing
-  -- changed.
+  -- The words are refused, or they ask for an invocation, and this is its answer. Where it is refused,
+  -- nothing changed.
   abbrev pub Answers : Given → Shown → Result Report Fault → Shown → Type 0
   Answers given old answer new =
       IsRefused given old answer new

@@ -132,9 +132,12 @@ fn on_disk(rt: &HostRuntime, name: &str, lines: &str) -> Result<String, Fail> {
 #[test]
 fn actions_run_in_their_order(rt: HostRuntime) -> Result<(), Fail> {
     let lines =
-        "put build.gb register hi { doFirst printLine(\"1\") doFirst printLine(\"2\") doLast printLine(\"3\") doLast printLine(\"4\") }\nrun hi\nrun hi";
-    let want =
-        "> Task :hi\n2\n1\n3\n4\nBUILD SUCCESSFUL\n1 actionable task: 1 executed\n> Task :hi\n2\n1\n3\n4\nBUILD SUCCESSFUL\n1 actionable task: 1 executed\n";
+        "put build.gb register hi { doFirst printLine(\"1\") doFirst printLine(\"2\") doLast \
+         printLine(\"3\") doLast printLine(\"4\") }\n\
+         run hi\n\
+         run hi";
+    let want = "> Task :hi\n2\n1\n3\n4\nBUILD SUCCESSFUL\n1 actionable task: 1 executed\n\
+         > Task :hi\n2\n1\n3\n4\nBUILD SUCCESSFUL\n1 actionable task: 1 executed\n";
     assert_eq!(rt; in_memory(rt.alloc(), lines)?.as_str(), want);
     assert_eq!(rt; on_disk(&rt, "in_order", lines)?.as_str(), want);
     Ok(())
@@ -143,8 +146,8 @@ fn actions_run_in_their_order(rt: HostRuntime) -> Result<(), Fail> {
 #[test]
 fn a_blocked_output_fails_the_task(rt: HostRuntime) -> Result<(), Fail> {
     let lines = format!(in rt.alloc(); "put build x\n{GEN}\nrun gen\nread build")?;
-    let want =
-        "> Task :gen FAILED\nFAILED :gen: 12 blocked build/a.txt\nBUILD FAILED\n1 actionable task: 1 executed\nx\n";
+    let want = "> Task :gen FAILED\nFAILED :gen: 12 blocked build/a.txt\nBUILD FAILED\n\
+         1 actionable task: 1 executed\nx\n";
     assert_eq!(rt; in_memory(rt.alloc(), lines.as_str())?.as_str(), want);
     assert_eq!(rt; on_disk(&rt, "blocked", lines.as_str())?.as_str(), want);
     Ok(())
@@ -153,8 +156,8 @@ fn a_blocked_output_fails_the_task(rt: HostRuntime) -> Result<(), Fail> {
 #[test]
 fn empty_scripts_and_tasks_without_actions(rt: HostRuntime) -> Result<(), Fail> {
     let lines = "put build.gb\nrun\nput build.gb register x { }\nrun x\nrun y";
-    let want =
-        "REFUSED 64 no tasks\nBUILD FAILED\n> Task :x UP-TO-DATE\nBUILD SUCCESSFUL\nREFUSED 52 task not found y\nBUILD FAILED\n";
+    let want = "REFUSED 64 no tasks\nBUILD FAILED\n> Task :x UP-TO-DATE\nBUILD SUCCESSFUL\n\
+         REFUSED 52 task not found y\nBUILD FAILED\n";
     assert_eq!(rt; in_memory(rt.alloc(), lines)?.as_str(), want);
     assert_eq!(rt; on_disk(&rt, "empty", lines)?.as_str(), want);
     Ok(())
@@ -277,8 +280,8 @@ fn on_failing(alloc: Global, at: u64, kind: u8) -> Result<String, Fail> {
     Ok(all)
 }
 
-/// Whether at each call that fails in turn the answer tells of the failure, no file outside differs, and in the
-/// end the build is good.
+/// Whether at each call that fails in turn the answer tells of the failure and no file outside differs, and
+/// in the end the build is good.
 fn failures_are_told(alloc: Global, kind: u8) -> Result<bool, Fail> {
     let files = in_memory(
         alloc,

@@ -1,4 +1,5 @@
-//! What the programs share: what is printed of a build, its status, and the kinds and functions that they offer.
+//! What the programs share: what is printed of a build, its status, and the kinds and functions that they
+//! offer.
 #![tactic(auto)]
 
 pub mod answer;

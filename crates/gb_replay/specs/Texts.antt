@@ -20,7 +20,8 @@ closing bytes = if is_empty bytes || ends_with nat_eq bytes (10 ∷ []) then [] 
 
 -- a file: its place, its length and its bytes
 abbrev pub shown_file : Place → Bytes → List ℕ
-shown_file place bytes = line (codes "== " ++ place ++ codes " " ++ decimal (length bytes)) ++ bytes ++ closing bytes
+shown_file place bytes =
+    line (codes "== " ++ place ++ codes " " ++ decimal (length bytes)) ++ bytes ++ closing bytes
 
 -- a place, with its bytes if it has a file
 abbrev pub shown_at : Place → Option Bytes → List ℕ

@@ -136,7 +136,8 @@ fn take_line<A: Actions, T: Transforms, F: Folder, W: Write>(
 
 /// Reads a line, and counts it from 1 where it is none.
 fn read_numbered(alloc: Global, line: &[u8], lines_before: u64) -> Result<Line, Stop>
-    ensures { IfErr result (λ stop. (stop ≡ stops.OutOfMemory) ⊎ (stop ≡ stops.BadLine (min (lines_before + 1) (2 ^ 64 - 1)))) }
+    ensures { IfErr result (λ stop. (stop ≡ stops.OutOfMemory)
+        ⊎ (stop ≡ stops.BadLine (min (lines_before + 1) (2 ^ 64 - 1)))) }
 {
     match read_line(alloc, line) {
         Ok(line) => Ok(line),
