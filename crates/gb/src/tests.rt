@@ -280,9 +280,14 @@ fn on_failing(alloc: Global, at: u64, kind: u8) -> Result<String, Fail> {
     Ok(all)
 }
 
-/// Whether at each call that fails in turn the answer tells of the failure and no file outside differs, and
-/// in the end the build is good.
-fn failures_are_told(alloc: Global, kind: u8) -> Result<bool, Fail> {
+/// Whether an answer tells that the device failed, or that no record could be written.
+fn tells_of_failure(told: &str) -> bool {
+    told.contains("10 device ") || told.contains("90 history not written")
+}
+
+/// Fails at the first call whose failure is not told, or where a file outside differs; a build is good in the
+/// end, after as many calls as are answered.
+fn failures_told(alloc: Global, kind: u8) -> Result<u64, Fail> {
     let files = in_memory(
         alloc,
         format!(in alloc; "{GEN}\nread build.gb\nread src/a")?.as_str(),
@@ -291,19 +296,20 @@ fn failures_are_told(alloc: Global, kind: u8) -> Result<bool, Fail> {
         let all = on_failing(alloc, before + 1, kind)?;
         let told = all.strip_suffix(files.as_str()).unwrap_or("");
         if told == DONE {
-            return Ok(before > 0);
+            return Ok(before);
         }
-        if !told.contains("10 device ") {
-            return Ok(false);
+        if !tells_of_failure(told) {
+            return Err(Fail::new(format!(in alloc; "{before}: {all}")?.as_str()));
         }
     }
-    Ok(false)
+    Err(Fail::new("the build is never good"))
 }
 
 #[test]
 fn a_failing_device_is_told(rt: HostRuntime) -> Result<(), Fail> {
     for kind in 0..3u8 {
-        assert!(rt; failures_are_told(rt.alloc(), kind)?, "at {kind}");
+        let calls = failures_told(rt.alloc(), kind)?;
+        assert!(rt; calls > 3, "at {kind}: {calls}");
     }
     Ok(())
 }
