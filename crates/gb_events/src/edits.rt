@@ -2,6 +2,7 @@
 ghost use Rattle.std.specs.Prelude.{◌≡◌, ◌≤◌, IsTrue, MatchResult};
 ghost use Rattle.gb_folder.specs.Files.{SameTearing, is_own};
 ghost use Rattle.gb_meaning.specs.Edits.{LossStep, PutStep, RemoveStep, own_place};
+ghost use Rattle.gb_store.specs.Changes.{ChangesOnly};
 ghost use Rattle.gb_store.specs.Faults.{Blames};
 ghost use Rattle.gb_events.specs.Answers.{edit_answer};
 
@@ -62,6 +63,8 @@ pub fn lose<F: Folder>(alloc: Global, folder: &mut F) -> Result<(), Fault>
     ensures count { F.failures folder.old ≤ F.failures folder.new }
     ensures blame { Blames result (F.failures folder.old) (F.failures folder.new) }
     ensures tearing { SameTearing (F.may_leave folder.old) (F.may_leave folder.new) }
+    ensures elsewhere { IsTrue F.tells
+        → ChangesOnly is_own (F.contents folder.old) (F.contents folder.new) }
     ensures step { IsTrue F.tells → LossStep (F.may_leave folder.old)
         (record { contents = F.contents folder.old; failures = F.failures folder.old })
         (edit_answer result)

@@ -1,4 +1,16 @@
 //! Any list of edits and builds.
+ghost use Rattle.std.specs.Prelude.{◌≡◌, ◌≤◌, [], ◌∷◌, IfOk, IsTrue, OnErr, length, map};
+ghost use Rattle.gb_folder.specs.Files.{SameTearing};
+ghost use Rattle.gb_history.specs.Places.{record_place};
+ghost use Rattle.gb_invocation.specs.Scripts.{registers_in, setting_of};
+ghost use Rattle.gb_invoke.specs.Leading.{Leads};
+ghost use Rattle.gb_meaning.specs.Headline.{Agrees, AllKeepElsewhere, EventKeeps, EventsHold, HaveHeardAll};
+ghost use Rattle.gb_meaning.specs.Headline.{TearsAreSeen, answer_of};
+ghost use Rattle.gb_meaning.specs.Kinds.{Kinds};
+ghost use Rattle.gb_records.specs.Said.{IsText};
+ghost use Rattle.gb_registry.specs.Tables.{tables_of};
+ghost use Rattle.gb_events.specs.Answers.{edit_answer};
+
 use crate::edits::{lose, put, remove};
 use gb_action::actions::Actions;
 use gb_folder::folder::Folder;
@@ -20,6 +32,28 @@ pub fn run_events<A: Actions, T: Transforms, F: Folder, L: TaskListener>(
     events: &[Event],
     listeners: &mut Vec<L>,
 ) -> Result<Vec<Answer>, AllocError>
+    ensures count { F.failures folder.old ≤ F.failures folder.new }
+    ensures unbegun { OnErr result (folder.new ≡ folder.old) }
+    ensures untold { OnErr result (listeners.new ≡ listeners.old) }
+    ensures tearing { SameTearing (F.may_leave folder.old) (F.may_leave folder.new) }
+    // One answer for each event.
+    ensures each { IfOk result (λ answers. length answers.items ≡ length events.now) }
+    // Each listener heard the builds, one after another.
+    ensures heard { IfOk result (λ answers.
+        HaveHeardAll answers.items (map L.ear listeners.old.items) (map L.ear listeners.new.items)) }
+    // Whatever fails, a build changes nothing but `.gb` and the build folders of its projects.
+    ensures elsewhere { IsTrue F.tells → IfOk result (λ answers.
+        AllKeepElsewhere (registers_in (tables_of T.meanings A.meanings tables.now)) events.now answers.items
+        (F.contents folder.old) (F.contents folder.new)) }
+    // It is a run of the events by its definition.
+    ensures holds { IsTrue F.tells → IfOk result (λ answers. (kinds : Kinds)
+        → Agrees A.meanings tables.now.actions kinds
+        → TearsAreSeen IsText record_place (F.may_leave folder.old)
+        → EventsHold
+        (setting_of (tables_of T.meanings A.meanings tables.now) kinds (F.may_leave folder.old))
+        (record { contents = F.contents folder.old; failures = F.failures folder.old })
+        events.now answers.items
+        (record { contents = F.contents folder.new; failures = F.failures folder.new })) }
 {
     let mut answers = Vec::with_capacity(alloc, events.len())?;
     for event in events.iter() {
@@ -36,6 +70,20 @@ fn take<A: Actions, T: Transforms, F: Folder, L: TaskListener>(
     event: &Event,
     listeners: &mut Vec<L>,
 ) -> Answer
+    ensures count { F.failures folder.old ≤ F.failures folder.new }
+    ensures tearing { SameTearing (F.may_leave folder.old) (F.may_leave folder.new) }
+    ensures heard {
+        HaveHeardAll (result ∷ []) (map L.ear listeners.old.items) (map L.ear listeners.new.items) }
+    ensures keeps { IsTrue F.tells
+        → EventKeeps (registers_in (tables_of T.meanings A.meanings tables.now)) event.now result
+        (F.contents folder.old) (F.contents folder.new) }
+    ensures leads { IsTrue F.tells → (kinds : Kinds)
+        → Agrees A.meanings tables.now.actions kinds
+        → TearsAreSeen IsText record_place (F.may_leave folder.old)
+        → Leads (setting_of (tables_of T.meanings A.meanings tables.now) kinds (F.may_leave folder.old))
+        (record { contents = F.contents folder.old; failures = F.failures folder.old })
+        event.now result
+        (record { contents = F.contents folder.new; failures = F.failures folder.new }) }
 {
     match event {
         Event::Put(place, bytes) => edited(put(folder, place, bytes)),
@@ -47,14 +95,18 @@ fn take<A: Actions, T: Transforms, F: Folder, L: TaskListener>(
     }
 }
 
-fn edited(outcome: Result<(), Fault>) -> Answer {
+fn edited(outcome: Result<(), Fault>) -> Answer
+    ensures { result ≡ edit_answer outcome }
+{
     match outcome {
         Ok(()) => Answer::Edited,
         Err(fault) => Answer::Refused(fault),
     }
 }
 
-fn built(outcome: Result<Report, Fault>) -> Answer {
+fn built(outcome: Result<Report, Fault>) -> Answer
+    ensures { result ≡ answer_of outcome }
+{
     match outcome {
         Ok(report) => Answer::Built(report),
         Err(fault) => Answer::NotBuilt(fault),

@@ -1,3 +1,4 @@
 pub mod Passing
 pub mod Buildable
 pub mod Reading
+pub mod Keeping

@@ -1,22 +1,25 @@
 -- An invocation passes to what scripts register elsewhere, if here they register the same.
-use Rattle.std.specs.Prelude.{ℕ, ◌≡◌, ◌≤◌, List, [], ◌∷◌, Err, Ok, Result, ⊤}
+use Rattle.std.specs.Prelude.{ℕ, ◌≡◌, ◌≤◌, Bool, IsTrue, List, Err, Ok, Result}
 use Rattle.std.proofs.Common.{refl, sym, subst, inl, inr, arith}
 use Rattle.sha2.specs.Sha256.{sha256}
 use Rattle.gb_folder.specs.Files.{Contents, Files, SameTearing, Tearing}
 use Rattle.gb_folder.proofs.Changes.{HasRisen-before}
 use Rattle.gb_history.specs.Places.{record_place}
+use Rattle.gb_meaning.specs.declared.events.Answer.TheVariants as answers
 use Rattle.gb_meaning.specs.declared.events.Event.TheVariants as events
 use Rattle.gb_meaning.specs.declared.events.Invocation.{Invocation}
 use Rattle.gb_meaning.specs.Edits.{Shown}
 use Rattle.gb_meaning.specs.Events.{HasPlan, IsBuild, IsNotBuilt, Setting, State, Step, may_come, own_files, world_in}
-use Rattle.gb_meaning.specs.Headline.{InvocationHolds, Registering, RunHolds, StillClear, answer_of, state_of}
+use Rattle.gb_meaning.specs.Headline.{Registering, StillClear, answer_of, state_of}
 use Rattle.gb_meaning.specs.Kinds.{Kinds}
 use Rattle.gb_meaning.specs.Label.{Moment}
 use Rattle.gb_meaning.specs.Memory.{Memory}
-use Rattle.gb_meaning.specs.TrueRecord.{memory_contents, outside}
+use Rattle.gb_meaning.specs.TrueRecord.{outside}
 use Rattle.gb_meaning.specs.Turn.{Guard, Standing as At}
 use Rattle.gb_meaning.proofs.Lemmas.Weaker.{builds_weaker}
+use Rattle.gb_invoke.specs.Leading.{Leads, LeadsTo}
 use Rattle.gb_invoke.proofs.Earlier.{builds_since}
+use Rattle.gb_invoke.proofs.Leading.{nothing_leads}
 use Rattle.gb_plan.specs.Graph.{Plan, Registry}
 use Rattle.gb_plan.specs.declared.task.TaskDeclaration.{TaskDeclaration as Task}
 use Rattle.gb_records.specs.Said.{IsText, text_of}
@@ -84,12 +87,9 @@ module _ (kinds : Kinds) (registry : Registry) (registers : Registering) (may_le
     planned = is.planned;
   }
 
-  module _ (remembered : Memory) where
+  module _ (remembered : Memory) (clear : Bool) (seen : List (List ℕ)) where
     abbrev granted : Guard
-    granted = StillClear two ⊤ (from_before remembered)
-
-    abbrev seen : List (List ℕ)
-    seen = memory_contents (world_in (from_before remembered))
+    granted = StillClear two (IsTrue clear) (from_before remembered)
 
     build_too : (report : Report) (new : State) → IsBuild one granted seen (from_later remembered) invocation report new → IsBuild two granted seen (from_before remembered) invocation report new
     build_too report new is = record {
@@ -120,31 +120,34 @@ module _ (kinds : Kinds) (registry : Registry) (registers : Registering) (may_le
     step_too (Ok report) next count is = build_too report next is
     step_too (Err fault) next count (why, same, kept) = (refusal_too fault next.failures count why, same, kept)
 
-    run_too : (result : Result Report Fault) (end : Shown)
-        → RunHolds one ⊤ seen (from_later remembered) (events.Invoke invocation ∷ []) (answer_of result ∷ []) end
-        → RunHolds two ⊤ seen (from_before remembered) (events.Invoke invocation ∷ []) (answer_of result ∷ []) end
-    run_too result end (next, count, step, stands, rest) = (next, omega (arith, earlier, count), step_too result next count step, stands, rest)
+    led_too : (result : Result Report Fault) (end : Shown) → later ≤ end.failures
+        → LeadsTo one clear seen (from_later remembered) (events.Invoke invocation) (answer_of result) end
+        → LeadsTo two clear seen (from_before remembered) (events.Invoke invocation) (answer_of result) end
+    led_too result end count led = record {
+      remembered = led.remembered;
+      step = step_too result (state_of end led.remembered) count led.step;
+      stands = led.stands;
+    }
 
-  -- an invocation after the scripts were read is one from before
-  pub since_read : (result : Result Report Fault) (end : Shown) → InvocationHolds one (shows contents later) invocation result end
-      → InvocationHolds two (shows contents before) invocation result end
-  since_read result end holds remembered stands = run_too remembered result end (holds remembered stands)
+  -- an invocation after the scripts were read leads on as one from before
+  pub since_read : (result : Result Report Fault) (end : Shown) → later ≤ end.failures
+      → Leads one (shows contents later) (events.Invoke invocation) (answer_of result) end
+      → Leads two (shows contents before) (events.Invoke invocation) (answer_of result) end
+  since_read result end count leads remembered clear seen worth =
+      led_too remembered clear seen result end count (leads remembered clear seen worth)
 
 -- ---- Refusals
 
 -- an invocation that is not built, and changed nothing
-pub refused_holds : (setting : Setting) (old end : Shown) (invocation : Invocation) (fault : Fault)
+pub refused_leads : (setting : Setting) (old end : Shown) (invocation : Invocation) (fault : Fault)
     → ((remembered : Memory) → IsNotBuilt setting (state_of old remembered) invocation fault end.failures)
-    → old.failures ≤ end.failures → end.contents ≡ old.contents → (result : Result Report Fault) → result ≡ Err fault → InvocationHolds setting old invocation result end
-refused_holds setting old end invocation fault why count same result is = subst (λ (r : Result Report Fault). InvocationHolds setting old invocation r end) (sym is) (λ remembered stands. (
-  record { contents = old.contents; remembered = remembered; failures = end.failures },
-  count,
-  (why remembered, refl, refl),
-  λ clear. stands,
-  (omega arith, sym same),
-))
+    → end.contents ≡ old.contents → (result : Result Report Fault) → result ≡ Err fault → Leads setting old (events.Invoke invocation) (answer_of result) end
+refused_leads setting old end invocation fault why same result is =
+    subst (λ (r : Result Report Fault). Leads setting old (events.Invoke invocation) (answer_of r) end) (sym is)
+    (λ remembered clear seen worth. nothing_leads setting old end (events.Invoke invocation) (answers.NotBuilt fault) same remembered clear seen worth
+    (why remembered, same, refl))
 
 -- memory ran out
 pub out_of_memory : (setting : Setting) (old end : Shown) (invocation : Invocation) (fault : Fault) → fault ≡ faults.OutOfMemory
-    → old.failures ≤ end.failures → end.contents ≡ old.contents → (result : Result Report Fault) → result ≡ Err fault → InvocationHolds setting old invocation result end
-out_of_memory setting old end invocation fault out = refused_holds setting old end invocation fault (λ remembered. inr (inr (inl out)))
+    → end.contents ≡ old.contents → (result : Result Report Fault) → result ≡ Err fault → Leads setting old (events.Invoke invocation) (answer_of result) end
+out_of_memory setting old end invocation fault out = refused_leads setting old end invocation fault (λ remembered. inr (inr (inl out)))

@@ -2,14 +2,17 @@
 ghost use Rattle.std.specs.Prelude.{◌≡◌, ◌≤◌, [], Ok, map, IfOk, IsTrue, OnErr};
 ghost use Rattle.gb_folder.specs.Files.{SameTearing};
 ghost use Rattle.gb_history.specs.Places.{record_place};
-ghost use Rattle.gb_meaning.specs.Headline.{Agrees, HaveHeard, InvocationHolds, TearsAreSeen};
+ghost use Rattle.gb_invoke.specs.Leading.{Leads};
+ghost use Rattle.gb_meaning.specs.declared.events.Event.TheVariants as events;
+ghost use Rattle.gb_meaning.specs.Headline.{Agrees, EventKeeps, HaveHeard, InvocationHolds, KeepsElsewhere};
+ghost use Rattle.gb_meaning.specs.Headline.{TearsAreSeen, answer_of};
 ghost use Rattle.gb_meaning.specs.Kinds.{Kinds};
 ghost use Rattle.gb_records.specs.Said.{IsText};
 ghost use Rattle.gb_registry.specs.Configure.{configure_faults};
 ghost use Rattle.gb_registry.specs.Tables.{tables_of};
 ghost use Rattle.gb_task.specs.Turned.{setting_with};
 ghost use Rattle.gb_tasks.specs.Scripts.{registry_said};
-ghost use Rattle.gb_invocation.specs.Scripts.{setting_of};
+ghost use Rattle.gb_invocation.specs.Scripts.{registers_in, setting_of};
 
 use gb_action::actions::Actions;
 use gb_core::name::Name;
@@ -45,7 +48,19 @@ pub fn invoke<A: Actions, T: Transforms, F: Folder, L: TaskListener>(
     ensures count { F.failures folder.old ≤ F.failures folder.new }
     ensures tearing { SameTearing (F.may_leave folder.old) (F.may_leave folder.new) }
     ensures refused { IsTrue F.tells → OnErr result (F.contents folder.new ≡ F.contents folder.old) }
-    // It is one invocation by its definition, with what the scripts of the folder register.
+    // A build changes nothing but `.gb` and the build folders of the projects, and a refusal nothing.
+    ensures keeps { IsTrue F.tells
+        → EventKeeps (registers_in (tables_of T.meanings A.meanings tables.now)) (events.Invoke invocation.now)
+        (answer_of result) (F.contents folder.old) (F.contents folder.new) }
+    // It leads any run on, with what the scripts of the folder register.
+    ensures leads { IsTrue F.tells → (kinds : Kinds)
+        → Agrees A.meanings tables.now.actions kinds
+        → TearsAreSeen IsText record_place (F.may_leave folder.old)
+        → Leads (setting_of (tables_of T.meanings A.meanings tables.now) kinds (F.may_leave folder.old))
+        (record { contents = F.contents folder.old; failures = F.failures folder.old })
+        (events.Invoke invocation.now) (answer_of result)
+        (record { contents = F.contents folder.new; failures = F.failures folder.new }) }
+    // It is one invocation by its definition.
     ensures holds { IsTrue F.tells → (kinds : Kinds)
         → Agrees A.meanings tables.now.actions kinds
         → TearsAreSeen IsText record_place (F.may_leave folder.old)
@@ -77,14 +92,17 @@ fn build_registered<A: Actions, T: Transforms, F: Folder, L: TaskListener>(
     ensures count { F.failures folder.old ≤ F.failures folder.new }
     ensures tearing { SameTearing (F.may_leave folder.old) (F.may_leave folder.new) }
     ensures refused { IsTrue F.tells → OnErr result (F.contents folder.new ≡ F.contents folder.old) }
-    ensures holds { IsTrue F.tells → (kinds : Kinds)
+    ensures keeps { IsTrue F.tells
+        → KeepsElsewhere (registry_said (tables_of T.meanings A.meanings tables.now) registry.now)
+        (F.contents folder.old) (F.contents folder.new) }
+    ensures leads { IsTrue F.tells → (kinds : Kinds)
         → Agrees A.meanings tables.now.actions kinds
         → TearsAreSeen IsText record_place (F.may_leave folder.old)
-        → InvocationHolds (setting_with kinds
+        → Leads (setting_with kinds
         (λ files given. Ok (registry_said (tables_of T.meanings A.meanings tables.now) registry.now))
         (F.may_leave folder.old))
         (record { contents = F.contents folder.old; failures = F.failures folder.old })
-        invocation.now result
+        (events.Invoke invocation.now) (answer_of result)
         (record { contents = F.contents folder.new; failures = F.failures folder.new }) }
 {
     let _scripts = registry.scripts();

@@ -1,5 +1,5 @@
--- A build of a plan from true records is an invocation by its definition.
-use Rattle.std.specs.Prelude.{ℕ, ◌≡◌, ◌≤◌, Bool, true, false, not, List, [], ◌∷◌, Err, Ok, Option, Result, IsTrue, ⊤}
+-- A build of a plan is a step of a run by its definition.
+use Rattle.std.specs.Prelude.{ℕ, ◌≡◌, ◌≤◌, ◌++◌, ◌&&◌, Bool, true, false, not, List, Err, Ok, Option, Result, IsTrue}
 use Rattle.std.specs.List.{AllZip}
 use Rattle.std.proofs.Common.{refl, sym, ap, subst, ◌∙◌, inl, inr, arith}
 use Rattle.sha2.specs.Sha256.{sha256}
@@ -9,19 +9,20 @@ use Rattle.gb_meaning.specs.declared.events.Event.TheVariants as events
 use Rattle.gb_meaning.specs.declared.events.Invocation.{Invocation}
 use Rattle.gb_meaning.specs.Edits.{Shown}
 use Rattle.gb_meaning.specs.Events.{HasPlan, Setting, may_come, own_files, rules_in, world_in}
-use Rattle.gb_meaning.specs.Headline.{InvocationHolds, RunHolds, Stands, StillClear, answer_of, seen_with, state_of}
+use Rattle.gb_meaning.specs.Headline.{Stands, StillClear, answer_of, contents_outside, seen_with, state_of}
 use Rattle.gb_meaning.specs.Kinds.{Kinds}
 use Rattle.gb_meaning.specs.Label.{Moment}
 use Rattle.gb_meaning.specs.Memory.{Memory, World}
 use Rattle.gb_meaning.specs.TrueRecord.{memory_contents, outside}
 use Rattle.gb_meaning.specs.Turn.{Builds, Guard, Standing as At}
 use Rattle.gb_meaning.proofs.Lemmas.Clear.{apart_of_fewer}
-use Rattle.gb_meaning.proofs.Lemmas.Plain.{Spreads}
+use Rattle.gb_meaning.proofs.Lemmas.Plain.{Spreads, plain_builds}
+use Rattle.gb_meaning.proofs.Lemmas.Seen.{remembered_was_seen}
 use Rattle.gb_meaning.proofs.Lemmas.Success.{success_follows, truth_follows}
 use Rattle.gb_meaning.proofs.Lemmas.Weaker.{builds_weaker}
 use Rattle.gb_plan.specs.Graph.{IsRegistry, Plan, Registry, order}
 use Rattle.gb_plan.specs.declared.task.TaskDeclaration.{TaskDeclaration as Task}
-use Rattle.gb_plan.proofs.Tests.{no_longer, not_true}
+use Rattle.gb_plan.proofs.Tests.{left_of, no_longer, not_true, right_of}
 use Rattle.gb_history.specs.Remembered.{Remembered}
 use Rattle.gb_records.specs.Said.{IsReadAt}
 use Rattle.gb_records.specs.Standing.{Standing}
@@ -35,7 +36,9 @@ use Rattle.gb_task.specs.Turned.{Registering, setting_with}
 use Rattle.gb_execute.specs.Building.{is_of_turns}
 use Rattle.gb_execute.specs.Built.{AreWorth, HasBuilt}
 use Rattle.gb_invoke.proofs.Changed.{HaveOwnPlaces, records_differ}
+use Rattle.gb_invoke.specs.Leading.{LeadsTo, StandsSeen}
 use Rattle.gb_invoke.proofs.Earlier.{builds_since}
+use Rattle.gb_invoke.proofs.Fewer.{among_of, are_among, builds_fewer, once_more}
 
 -- what may come where a folder tears as another does may come there
 may_alike : (kinds : Kinds) (registry_of : Registering) (may_leave second : Tearing) → SameTearing may_leave second → (own : Files) (options : Options) (task : Task) (moment : Moment) (new : At) (fault : Fault)
@@ -52,6 +55,10 @@ may_alike kinds registry_of may_leave second alike own options task moment new (
 may_alike kinds registry_of may_leave second alike own options task moment new faults.HistoryNotWritten may = may
 may_alike kinds registry_of may_leave second alike own options task moment new other may = absurd may
 
+both : (a b : Bool) → a ≡ true → b ≡ true → (a && b) ≡ true
+both true b e f = f
+both false b e f = not_true e
+
 abbrev said_or : Registry → Result Registry Fault → Registry
 said_or other (Ok registry) = registry
 said_or other (Err fault) = other
@@ -65,36 +72,33 @@ module _ (kinds : Kinds) (registry_of : Registering) (may_leave : Tearing) (regi
   abbrev setting : Setting
   setting = setting_with kinds registry_of may_leave
 
-  abbrev granted : Memory → Guard
-  granted remembered = StillClear setting ⊤ (state_of old remembered)
+  abbrev granted : Bool → Memory → Guard
+  granted clear remembered = StillClear setting (IsTrue clear) (state_of old remembered)
 
-  abbrev seen_at : Memory → List Bytes
-  seen_at remembered = memory_contents (world_in (state_of old remembered))
-
-  abbrev IsBuiltTo : Memory → Memory → Type 0
-  IsBuiltTo remembered memory =
-      Builds (rules_in setting (own_files old.contents) invocation.options plan) (granted remembered) (seen_at remembered)
+  abbrev IsBuiltTo : Bool → List Bytes → Memory → Memory → Type 0
+  IsBuiltTo clear seen remembered memory =
+      Builds (rules_in setting (own_files old.contents) invocation.options plan) (granted clear remembered) seen
       (record { world = world_in (state_of old remembered); failures = old.failures }) report.tasks
       (record { world = world_in (state_of end memory); failures = end.failures })
 
-  abbrev StandAfter : Memory → Memory → Type 0
-  StandAfter remembered memory =
-      granted remembered (seen_with (seen_at remembered) (state_of old remembered) (state_of end memory)) → Standing end.contents.files memory
+  abbrev StandAfter : Bool → List Bytes → Memory → Memory → Type 0
+  StandAfter clear seen remembered memory =
+      granted clear remembered (seen_with seen (state_of old remembered) (state_of end memory)) → Standing end.contents.files memory
 
-  spreads : (remembered : Memory) → Spreads (granted remembered)
-  spreads remembered all some among given =
+  spreads : (clear : Bool) (remembered : Memory) → Spreads (granted clear remembered)
+  spreads clear remembered all some among given =
       (given.0, elim given.1 [ inl empty ↦ inl empty | inr apart ↦ inr (apart_of_fewer sha256 all some among apart) ])
 
   planned : HasPlan setting (outside old.contents) invocation plan
   planned = record { registry = registry; scripts = scripts; request = is_plan.0; asked = is_plan.1; planned = is_plan.2 }
 
-  -- a build of the plan from what is remembered to what is, with its records, is the invocation
-  pub assembled : (remembered memory : Memory) → Stands setting old.contents remembered → IsBuiltTo remembered memory → StandAfter remembered memory
-      → RunHolds setting ⊤ (seen_at remembered) (state_of old remembered) (events.Invoke invocation ∷ []) (answer_of (Ok report) ∷ []) end
-  assembled remembered memory stands builds records = (
-    state_of end memory,
-    count,
-    record {
+  -- a build of the plan from what is remembered to what is, with its records, is a step
+  pub assembled : (remembered memory : Memory) (clear : Bool) (seen : List Bytes) → (IsTrue clear → StandsSeen setting seen (state_of old remembered))
+      → IsBuiltTo clear seen remembered memory → StandAfter clear seen remembered memory
+      → LeadsTo setting clear seen (state_of old remembered) (events.Invoke invocation) (answer_of (Ok report)) end
+  assembled remembered memory clear seen worth builds records = record {
+    remembered = memory;
+    step = record {
       plan = plan;
       planned = planned;
       dry_run = dry_run;
@@ -102,17 +106,29 @@ module _ (kinds : Kinds) (registry_of : Registering) (may_leave : Tearing) (regi
       dry_keeps = λ is_dry. ap own_files (dry (sym dry_run ∙ is_dry));
       builds = builds;
       success = λ given none.
-          let all = success_follows one (granted remembered) (spreads remembered) (λ files properties other is. subst IsRegistry (ap (said_or registry) is) sound) (state_of old remembered) stands invocation plan planned_so
-          (may_come setting (own_files old.contents) invocation.options) (seen_at remembered) end.failures (world_in (state_of end memory)) report.tasks given none builds in
+          let all = success_follows one (granted clear remembered) (spreads clear remembered) (λ files properties other is. subst IsRegistry (ap (said_or registry) is) sound)
+          (state_of old remembered) (worth given.0).0 invocation plan planned_so (may_come setting (own_files old.contents) invocation.options) seen end.failures
+          (world_in (state_of end memory)) report.tasks given none builds in
           (λ wet. all.0 (sym dry_run ∙ wet), all.1);
-    },
-    λ given. stands_for_memory kinds end.contents memory is_folder
-        (truth_follows one (granted remembered) (spreads remembered) (state_of old remembered) stands invocation plan planned_so
-        (may_come setting (own_files old.contents) invocation.options) (seen_at remembered) end.failures (world_in (state_of end memory)) report.tasks given builds)
-        (records given),
-    (omega arith, refl),
-  )
+    };
+    stands = λ given. (
+      stands_for_memory kinds end.contents memory is_folder
+      (truth_follows one (granted clear remembered) (spreads clear remembered) (state_of old remembered) (worth given.0).0 invocation plan planned_so
+      (may_come setting (own_files old.contents) invocation.options) seen end.failures (world_in (state_of end memory)) report.tasks given builds)
+      (records given),
+      are_among (memory_contents (world_in (state_of end memory))) ((seen ++ here) ++ contents_outside end.contents)
+      (λ c h. once_more seen here (contents_outside end.contents) c
+      (remembered_was_seen kinds invocation.options (may_come setting (own_files old.contents) invocation.options) plan (seen ++ here) old.failures end.failures
+      (world_in (state_of old remembered)) (world_in (state_of end memory)) report.tasks is_plan.2.sound.outputs_apart
+      (among_of (memory_contents (world_in (state_of old remembered))) (seen ++ here) (worth given.0).1)
+      (plain_builds one (granted clear remembered) (spreads clear remembered) (may_come setting (own_files old.contents) invocation.options) invocation.options is_plan.0 plan
+      seen (seen ++ here) old.failures end.failures (world_in (state_of old remembered)) (world_in (state_of end memory)) report.tasks is_plan.2 given builds) c h)),
+    );
+  }
     where
+      here : List Bytes
+      here = contents_outside old.contents
+
       one : Setting
       one = setting_with kinds (λ files properties. Ok registry) may_leave
 
@@ -128,55 +144,73 @@ module _ (kinds : Kinds) (registry_of : Registering) (may_leave : Tearing) (regi
 
   module _ (mid : Shown) (same : mid.contents ≡ old.contents) (earlier : old.failures ≤ mid.failures) (second : Tearing) (alike : SameTearing may_leave second)
       (records : List (Option Remembered)) (read : invocation.options.dry_run ≡ false → AllZip (IsReadAt old.contents.files) (order plan) records)
-      (builds : GivesBuild second mid.failures records mid.contents) where
-    abbrev IsBuiltFrom : Memory → Type 0
-    IsBuiltFrom remembered =
-        HasBuilt (setting_with kinds registry_of second) (not invocation.options.dry_run) (seen_at remembered) invocation.options plan
+      (builds : GivesBuild second mid.failures records mid.contents)
+      (remembered : Memory) (clear : Bool) (seen : List Bytes) (worth : IsTrue clear → StandsSeen setting seen (state_of old remembered)) where
+    -- all was clear before, and this is no dry run
+    abbrev reads : Bool
+    reads = clear && not invocation.options.dry_run
+
+    abbrev all_seen : List Bytes
+    all_seen = seen ++ contents_outside old.contents
+
+    abbrev IsBuiltFrom : Type 0
+    IsBuiltFrom =
+        HasBuilt (setting_with kinds registry_of second) reads all_seen invocation.options plan
         (record { contents = old.contents; remembered = remembered; failures = mid.failures }) report.tasks end
 
-    -- what is remembered stands in true records, and these were read but in a dry run
-    built_from : (remembered : Memory) → Stands setting old.contents remembered → IsBuiltFrom remembered
-    built_from remembered stands =
-        subst (GivesBuild second mid.failures records) same builds remembered (not invocation.options.dry_run) (seen_at remembered)
-        (λ wet. record {
-          standing = record { in_order = stands.in_order; of_tasks = stands.of_tasks; records = stands.records };
-          made = stands.made;
-          read = read (no_longer invocation.options.dry_run wet);
-          was_seen = λ bytes seen. seen;
-        })
+    stood : IsTrue clear → Standing old.contents.files remembered
+    stood is_clear = let stands = (worth is_clear).0 in record { in_order = stands.in_order; of_tasks = stands.of_tasks; records = stands.records }
 
-    dry_holds : (remembered : Memory) → Stands setting old.contents remembered → IsBuiltFrom remembered → invocation.options.dry_run ≡ true
-        → RunHolds setting ⊤ (seen_at remembered) (state_of old remembered) (events.Invoke invocation ∷ []) (answer_of (Ok report) ∷ []) end
-    dry_holds remembered stands built is_dry = elim built.builds [
+    -- what is remembered stands in true records, and these were read but in a dry run
+    built_from : IsBuiltFrom
+    built_from =
+        subst (GivesBuild second mid.failures records) same builds remembered reads all_seen
+        (λ ready.
+            let is_clear : IsTrue clear = left_of clear (not invocation.options.dry_run) ready in
+            record {
+              standing = stood is_clear;
+              made = (worth is_clear).0.made;
+              read = read (no_longer invocation.options.dry_run (right_of clear (not invocation.options.dry_run) ready));
+              was_seen = (worth is_clear).1;
+            })
+
+    dry_leads : IsBuiltFrom → invocation.options.dry_run ≡ true
+        → LeadsTo setting clear seen (state_of old remembered) (events.Invoke invocation) (answer_of (Ok report)) end
+    dry_leads built is_dry = elim built.builds [
       | inl all ↦
-          assembled remembered built.remembered stands (inl all)
-          (λ given. subst (Standing end.contents.files) (sym (ap (λ (w : World). w.memory) all.2)) (subst (λ (c : Contents). Standing c.files remembered) (sym (dry is_dry))
-          (record { in_order = stands.in_order; of_tasks = stands.of_tasks; records = stands.records })))
+          assembled remembered built.remembered clear seen worth (inl all)
+          (λ given. subst (Standing end.contents.files) (sym (ap (λ (w : World). w.memory) all.2))
+          (subst (λ (c : Contents). Standing c.files remembered) (sym (dry is_dry)) (stood given.0)))
       | inr run ↦ not_true (sym run.0 ∙ is_dry)
     ]
 
-    wet_holds : (remembered : Memory) → Stands setting old.contents remembered → IsBuiltFrom remembered → invocation.options.dry_run ≡ false
-        → RunHolds setting ⊤ (seen_at remembered) (state_of old remembered) (events.Invoke invocation ∷ []) (answer_of (Ok report) ∷ []) end
-    wet_holds remembered stands built wet =
+    wet_leads : IsBuiltFrom → invocation.options.dry_run ≡ false
+        → LeadsTo setting clear seen (state_of old remembered) (events.Invoke invocation) (answer_of (Ok report)) end
+    wet_leads built wet =
         let own : Files = own_files old.contents in
         let first : World = world_in (state_of old remembered) in
         let last : World = world_in (state_of end built.remembered) in
-        let ready : IsTrue (not invocation.options.dry_run) = ap not wet in
-        assembled remembered built.remembered stands
-        (builds_since setting own invocation.options plan old.failures (granted remembered) (seen_at remembered) first mid.failures report.tasks
+        let ready : IsTrue clear → IsTrue reads = λ is_clear. both clear (not invocation.options.dry_run) is_clear (ap not wet) in
+        assembled remembered built.remembered clear seen worth
+        (builds_fewer (rules_in setting own invocation.options plan) (granted clear remembered) (spreads clear remembered) seen
+        (record { world = first; failures = old.failures }) report.tasks (record { world = last; failures = end.failures })
+        (builds_since setting own invocation.options plan old.failures (granted clear remembered) all_seen first mid.failures report.tasks
         (record { world = last; failures = end.failures }) earlier
         (builds_weaker kinds invocation.options plan (may_come (setting_with kinds registry_of second) own invocation.options) (may_come setting own invocation.options)
         (may_alike kinds registry_of may_leave second alike own invocation.options)
-        (StillClear (setting_with kinds registry_of second) (IsTrue (not invocation.options.dry_run)) (record { contents = old.contents; remembered = remembered; failures = mid.failures }))
-        (granted remembered) (λ contents given. (ready, given.1))
-        (seen_at remembered) mid.failures end.failures first last report.tasks built.builds))
-        (λ given. built.records (ready, given.1))
+        (StillClear (setting_with kinds registry_of second) (IsTrue reads) (record { contents = old.contents; remembered = remembered; failures = mid.failures }))
+        (granted clear remembered) (λ contents given. (ready given.0, given.1))
+        all_seen mid.failures end.failures first last report.tasks built.builds)))
+        (λ given. built.records
+        (ready given.0, (spreads clear remembered (seen_with seen (state_of old remembered) (state_of end built.remembered))
+        (seen_with all_seen (state_of old remembered) (state_of end built.remembered))
+        (once_more seen (contents_outside old.contents) (contents_outside end.contents)) given).1))
 
-    -- a build of the plan by what was read is the invocation
-    pub built_holds : InvocationHolds setting old invocation (Ok report) end
-    built_holds remembered stands = by invocation.options.dry_run refl
+    -- a build of the plan by what was read is a step
+    pub built_leads : LeadsTo setting clear seen (state_of old remembered) (events.Invoke invocation) (answer_of (Ok report)) end
+    built_leads = by invocation.options.dry_run refl
       where
         by : (b : Bool) → invocation.options.dry_run ≡ b
-            → RunHolds setting ⊤ (seen_at remembered) (state_of old remembered) (events.Invoke invocation ∷ []) (answer_of (Ok report) ∷ []) end
-        by true is_dry = dry_holds remembered stands (built_from remembered stands) is_dry
-        by false wet = wet_holds remembered stands (built_from remembered stands) wet
+            → LeadsTo setting clear seen (state_of old remembered) (events.Invoke invocation) (answer_of (Ok report)) end
+        by true is_dry = dry_leads built_from is_dry
+        by false wet = wet_leads built_from wet

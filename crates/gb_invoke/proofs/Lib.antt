@@ -1,4 +1,6 @@
 pub mod Earlier
+pub mod Fewer
+pub mod Leading
 pub mod Refusing
 pub mod Asked
 pub mod Changed

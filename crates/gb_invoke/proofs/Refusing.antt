@@ -2,10 +2,12 @@
 use Rattle.std.specs.Prelude.{ℕ, ◌≡◌, ◌≤◌, ◌||◌, Bool, false, List, cond, codes, IfErr, Ok, Err, Result, bytes_eq}
 use Rattle.std.proofs.Common.{refl, sym, ap, subst, inl, inr, arith}
 use Rattle.gb_folder.specs.Files.{HasRisen}
+use Rattle.gb_meaning.specs.declared.events.Answer.TheVariants as answers
+use Rattle.gb_meaning.specs.declared.events.Event.TheVariants as events
 use Rattle.gb_meaning.specs.declared.events.Invocation.{Invocation}
 use Rattle.gb_meaning.specs.Edits.{Shown}
 use Rattle.gb_meaning.specs.Events.{IsNotBuilt, Setting, State}
-use Rattle.gb_meaning.specs.Headline.{HasFailed, InvocationHolds, answer_of, is_of_device, state_of, times_blamed}
+use Rattle.gb_meaning.specs.Headline.{HasFailed, answer_of, is_of_device, state_of, times_blamed}
 use Rattle.gb_meaning.specs.TrueRecord.{outside}
 use Rattle.gb_graph.specs.Answer.{IsRefusalOf}
 use Rattle.gb_plan.specs.Graph.{Registry}
@@ -15,7 +17,9 @@ use Rattle.gb_plan.proofs.Tests.{or_right}
 use Rattle.gb_report.specs.declared.fault.Fault.{Fault}
 use Rattle.gb_tree.specs.Property.{last_segment}
 use Rattle.gb_invoke.specs.Asking.{NoneBlameDevice}
+use Rattle.gb_invoke.specs.Leading.{Leads}
 use Rattle.gb_invoke.specs.Refusing.{IsNotBegun, IsUnread}
+use Rattle.gb_invoke.proofs.Leading.{nothing_leads}
 use Rattle.gb_invoke.proofs.Asked.{refusal_blames_none, request_registry, words_blame_none}
 
 -- ---- What is left
@@ -52,16 +56,13 @@ pub if_told : (registry : Registry) (invocation : Invocation) (result : Result R
 if_told registry invocation result told before after is why = subst (λ (r : Result Report Fault). IfErr r (IsNotBegun registry invocation before after)) (sym is) why
 
 -- an invocation that is not begun, and changed nothing
-pub refused_holds : (setting : Setting) (registry : Registry) (old end : Shown) (invocation : Invocation) (fault : Fault)
+pub refused_leads : (setting : Setting) (registry : Registry) (old end : Shown) (invocation : Invocation) (fault : Fault)
     → setting.registers (outside old.contents).files invocation.properties (Ok registry) → IsNotBegun registry invocation old.failures end.failures fault
-    → old.failures ≤ end.failures → end.contents ≡ old.contents → (result : Result Report Fault) → result ≡ Err fault → InvocationHolds setting old invocation result end
-refused_holds setting registry old end invocation fault scripts why count same result is = subst (λ (r : Result Report Fault). InvocationHolds setting old invocation r end) (sym is) (λ remembered stands. (
-  record { contents = old.contents; remembered = remembered; failures = end.failures },
-  count,
-  (not_built setting registry (state_of old remembered) invocation fault end.failures scripts why, refl, refl),
-  λ clear. stands,
-  (omega arith, sym same),
-))
+    → end.contents ≡ old.contents → (result : Result Report Fault) → result ≡ Err fault → Leads setting old (events.Invoke invocation) (answer_of result) end
+refused_leads setting registry old end invocation fault scripts why same result is =
+    subst (λ (r : Result Report Fault). Leads setting old (events.Invoke invocation) (answer_of r) end) (sym is)
+    (λ remembered clear seen worth. nothing_leads setting old end (events.Invoke invocation) (answers.NotBuilt fault) same remembered clear seen worth
+    (not_built setting registry (state_of old remembered) invocation fault end.failures scripts why, same, refl))
 
 -- ---- The device
 

@@ -2,6 +2,7 @@
 ghost use Rattle.std.specs.Prelude.{◌≡◌, ◌≤◌, Ok, map, true, IfErr, IfOk, IsTrue, OnErr};
 ghost use Rattle.gb_folder.specs.Files.{SameTearing};
 ghost use Rattle.gb_history.specs.Places.{record_place};
+ghost use Rattle.gb_meaning.specs.declared.events.Event.TheVariants as events;
 ghost use Rattle.gb_meaning.specs.Headline.{Agrees, HasFailed, HaveHeard, InvocationHolds, TearsAreSeen, answer_of, is_of_build, times_blamed};
 ghost use Rattle.gb_meaning.specs.Kinds.{Kinds};
 ghost use Rattle.gb_meaning.specs.TrueRecord.{outside};
@@ -9,6 +10,7 @@ ghost use Rattle.gb_records.specs.Said.{IsText};
 ghost use Rattle.gb_store.specs.Changes.{ChangesOnly};
 ghost use Rattle.gb_task.specs.Turned.{Registering, setting_with};
 ghost use Rattle.gb_invoke.specs.Asking.{AreBuildable, IsReportOf, NoneBlameDevice};
+ghost use Rattle.gb_invoke.specs.Leading.{Leads};
 ghost use Rattle.gb_invoke.specs.Refusing.{IsNotBegun};
 
 use crate::before::records_for;
@@ -55,7 +57,17 @@ pub fn build_requested<A: Actions, F: Folder, L: TaskListener, Ts: Tasks>(
     // Nothing changes but `.gb` and the build folders of the registered projects.
     ensures elsewhere { IsTrue F.tells → ChangesOnly (is_of_build (Ts.registry tasks.old).projects)
         (F.contents folder.old) (F.contents folder.new) }
-    // It is one invocation by its definition, wherever scripts say what is registered here.
+    // It leads any run on, wherever scripts say what is registered here.
+    ensures leads { IsTrue F.tells → (kinds : Kinds) (registry_of : Registering)
+        → Agrees A.meanings table.now kinds
+        → TearsAreSeen IsText record_place (F.may_leave folder.old)
+        → registry_of (outside (F.contents folder.old)).files invocation.now.properties
+        ≡ Ok (Ts.registry tasks.old)
+        → Leads (setting_with kinds registry_of (F.may_leave folder.old))
+        (record { contents = F.contents folder.old; failures = F.failures folder.old })
+        (events.Invoke invocation.now) (answer_of result)
+        (record { contents = F.contents folder.new; failures = F.failures folder.new }) }
+    // It is one invocation by its definition.
     ensures holds { IsTrue F.tells → (kinds : Kinds) (registry_of : Registering)
         → Agrees A.meanings table.now kinds
         → TearsAreSeen IsText record_place (F.may_leave folder.old)

@@ -1,8 +1,10 @@
-use Rattle.std.proofs.Common.{◌≡◌, Ok, arith, refl, subst, sym}
+use Rattle.std.proofs.Common.{◌≡◌, Ok, refl, subst, sym}
 use Rattle.std.proofs.lemmas.Result.{err_from_is_err_and}
 use Rattle.gb_invoke.specs.Asking.{AreBuildable}
 use Rattle.gb_meaning.specs.Edits.{Shown}
-use Rattle.gb_meaning.specs.Headline.{InvocationHolds}
+use Rattle.gb_invoke.specs.Leading.{Leads}
+use Rattle.gb_meaning.specs.declared.events.Event.TheVariants as events
+use Rattle.gb_meaning.specs.Headline.{KeepsElsewhere, answer_of}
 use Rattle.gb_plan.specs.Graph.{IsRegistry, Registry}
 use Rattle.gb_registry.specs.Seen.{scripts_in}
 use Rattle.gb_registry.specs.Tables.{tables_of}
@@ -12,14 +14,14 @@ use Rattle.gb_invocation.proofs.Buildable.{are_buildable}
 use Rattle.gb_invocation.proofs.Passing.{out_of_memory}
 use Rattle.gb_invocation.proofs.invocation.build_registered.Goals as goal
 
-pub returns-in_err-tasks-clause-holds : goal.returns-in_err-tasks-clause-holds
-returns-in_err-tasks-clause-holds g c = λ tells kinds agrees tears.
+pub returns-in_err-tasks-clause-leads : goal.returns-in_err-tasks-clause-leads
+returns-in_err-tasks-clause-leads g c = λ tells kinds agrees tears.
     let F = g.F.Folder in
     let tables = tables_of g.T.Transforms.meanings g.A.Actions.meanings c.args.tables.now in
     let old : Shown = record { contents = F.contents c.args.folder.now; failures = F.failures c.args.folder.now } in
     let p = err_from_is_err_and c.from_residual.result c.from_residual.ensures.1 in
     out_of_memory (setting_with kinds (λ files given. Ok (registry_said tables c.args.registry.now)) (F.may_leave c.args.folder.now)) old old c.args.invocation.now p.0 p.2
-    (omega arith) refl c.from_residual.result p.1
+    refl c.from_residual.result p.1
 
 pub build_requested-requires : goal.build_requested-requires
 build_requested-requires g c =
@@ -28,13 +30,25 @@ build_requested-requires g c =
     subst (AreBuildable g.A.Actions.meanings c.args.tables.now.actions) (sym same)
     (are_buildable tables c.args.registry.now (scripts_in c.scripts-scripts.result.now) c.scripts-scripts.ensures.read (subst IsRegistry same c.in_ok-tasks.tasks.ordered))
 
-pub returns-clause-holds : goal.returns-clause-holds
-returns-clause-holds g c = λ tells kinds agrees tears.
+pub returns-clause-leads : goal.returns-clause-leads
+returns-clause-leads g c = λ tells kinds agrees tears.
     let F = g.F.Folder in
     let tables = tables_of g.T.Transforms.meanings g.A.Actions.meanings c.args.tables.now in
     let declared = registry_in g.T.Transforms.meanings g.A.Actions.meanings c.in_ok-tasks.tasks.workspace in
     let same : declared ≡ registry_said tables c.args.registry.now = c.in_ok-tasks.ensures.registry in
     let old : Shown = record { contents = F.contents c.args.folder.now; failures = F.failures c.args.folder.now } in
     let new : Shown = record { contents = F.contents c.build_requested.new.folder; failures = F.failures c.build_requested.new.folder } in
-    subst (λ (registry : Registry). InvocationHolds (setting_with kinds (λ files given. Ok registry) (F.may_leave c.args.folder.now)) old c.args.invocation.now c.build_requested.result new) same
-    (c.build_requested.ensures.holds tells kinds (λ files given. Ok declared) agrees tears refl)
+    subst (λ (registry : Registry). Leads (setting_with kinds (λ files given. Ok registry) (F.may_leave c.args.folder.now)) old (events.Invoke c.args.invocation.now) (answer_of c.build_requested.result) new) same
+    (c.build_requested.ensures.leads tells kinds (λ files given. Ok declared) agrees tears refl)
+
+pub returns-clause-keeps : goal.returns-clause-keeps
+returns-clause-keeps g c = λ tells.
+    let F = g.F.Folder in
+    let tables = tables_of g.T.Transforms.meanings g.A.Actions.meanings c.args.tables.now in
+    let declared = registry_in g.T.Transforms.meanings g.A.Actions.meanings c.in_ok-tasks.tasks.workspace in
+    let same : declared ≡ registry_said tables c.args.registry.now = c.in_ok-tasks.ensures.registry in
+    let changes = c.build_requested.ensures.elsewhere tells in
+    subst (λ (registry : Registry). KeepsElsewhere registry (F.contents c.args.folder.now) (F.contents c.build_requested.new.folder)) same (changes.elsewhere, changes.odd)
+
+pub returns-in_err-tasks-clause-keeps : goal.returns-in_err-tasks-clause-keeps
+returns-in_err-tasks-clause-keeps g c = λ tells. (refl, refl)

@@ -1,40 +1,44 @@
-use Rattle.std.proofs.Common.{arith, refl, subst}
+use Rattle.std.proofs.Common.{◌≡◌, OnErr, arith, refl, subst}
 use Rattle.std.proofs.lemmas.Result.{err_from_is_err_and}
 use Rattle.gb_folder.specs.Files.{Contents}
+use Rattle.gb_invoke.specs.Leading.{Leads}
+use Rattle.gb_invoke.proofs.Leading.{led_holds}
 use Rattle.gb_invoke.proofs.Planning.{tears_alike}
 use Rattle.gb_meaning.specs.Edits.{Shown}
-use Rattle.gb_meaning.specs.Headline.{InvocationHolds, state_of}
+use Rattle.gb_meaning.specs.declared.events.Event.TheVariants as events
+use Rattle.gb_meaning.specs.Headline.{KeepsElsewhere, answer_of, state_of}
 use Rattle.gb_registry.specs.Tables.{tables_of}
 use Rattle.gb_tasks.specs.Scripts.{registry_said}
 use Rattle.gb_invocation.specs.Scripts.{registers_in, setting_of}
-use Rattle.gb_invocation.proofs.Passing.{always, out_of_memory, refused_holds, setting_by, shows, since_read}
+use Rattle.gb_invocation.proofs.Keeping.{invoked_keeps, refusal_keeps}
+use Rattle.gb_invocation.proofs.Passing.{always, out_of_memory, refused_leads, setting_by, shows, since_read}
 use Rattle.gb_invocation.proofs.Reading.{not_read, registered}
 use Rattle.gb_invocation.proofs.invocation.invoke.Goals as goal
 
-pub returns-in_err-given-clause-holds : goal.returns-in_err-given-clause-holds
-returns-in_err-given-clause-holds g c = λ tells kinds agrees tears.
+pub returns-in_err-given-clause-leads : goal.returns-in_err-given-clause-leads
+returns-in_err-given-clause-leads g c = λ tells kinds agrees tears.
     let F = g.F.Folder in
     let tables = tables_of g.T.Transforms.meanings g.A.Actions.meanings c.args.tables.now in
     let old : Shown = shows (F.contents c.args.folder.now) (F.failures c.args.folder.now) in
     let p = err_from_is_err_and c.from_residual.result c.from_residual.ensures.1 in
-    out_of_memory (setting_of tables kinds (F.may_leave c.args.folder.now)) old old c.args.invocation.now p.0 p.2 (omega arith) refl c.from_residual.result p.1
+    out_of_memory (setting_of tables kinds (F.may_leave c.args.folder.now)) old old c.args.invocation.now p.0 p.2 refl c.from_residual.result p.1
 
-pub returns-in_err-registry-clause-holds : goal.returns-in_err-registry-clause-holds
-returns-in_err-registry-clause-holds g c = λ tells kinds agrees tears.
+pub returns-in_err-registry-clause-leads : goal.returns-in_err-registry-clause-leads
+returns-in_err-registry-clause-leads g c = λ tells kinds agrees tears.
     let F = g.F.Folder in
     let tables = tables_of g.T.Transforms.meanings g.A.Actions.meanings c.args.tables.now in
     let may_leave = F.may_leave c.args.folder.now in
     let old : Shown = shows (F.contents c.args.folder.now) (F.failures c.args.folder.now) in
     let new : Shown = shows (F.contents c.read_registry.new.folder) (F.failures c.read_registry.new.folder) in
     let p = err_from_is_err_and c.from_residual-in_err-registry.result c.from_residual-in_err-registry.ensures.1 in
-    refused_holds (setting_of tables kinds may_leave) old new c.args.invocation.now p.0
+    refused_leads (setting_of tables kinds may_leave) old new c.args.invocation.now p.0
     (λ remembered. not_read tables old.contents kinds may_leave c.args.invocation.now c.in_ok-given.given.items c.in_ok-given.ensures
     c.read_registry.result c.in_err-registry.field-0.0 p.0 old.failures new.failures c.in_err-registry.was p.2 c.read_registry.ensures.blamed (c.in_err-registry.ensures.said tells)
     (state_of old remembered) refl refl)
-    c.read_registry.ensures.count (c.read_registry.ensures.same tells) c.from_residual-in_err-registry.result p.1
+    (c.read_registry.ensures.same tells) c.from_residual-in_err-registry.result p.1
 
-pub returns-clause-holds : goal.returns-clause-holds
-returns-clause-holds g c = λ tells kinds agrees tears.
+pub returns-clause-leads : goal.returns-clause-leads
+returns-clause-leads g c = λ tells kinds agrees tears.
     let F = g.F.Folder in
     let tables = tables_of g.T.Transforms.meanings g.A.Actions.meanings c.args.tables.now in
     let first = F.may_leave c.args.folder.now in
@@ -46,7 +50,59 @@ returns-clause-holds g c = λ tells kinds agrees tears.
     since_read kinds (registry_said tables source) (registers_in tables) first second c.read_registry.ensures.tearing c.args.invocation.now before (F.failures c.args.folder.now) later
     c.read_registry.ensures.count
     (registered tables before c.in_ok-given.given.items c.args.invocation.now.properties c.in_ok-given.ensures source (c.in_ok-registry.ensures.said tells))
-    c.build_registered.result new
-    (subst (λ (contents : Contents). InvocationHolds (setting_by kinds (always (registry_said tables source)) second) (shows contents later) c.args.invocation.now c.build_registered.result new)
+    c.build_registered.result new c.build_registered.ensures.count
+    (subst (λ (contents : Contents). Leads (setting_by kinds (always (registry_said tables source)) second) (shows contents later) (events.Invoke c.args.invocation.now) (answer_of c.build_registered.result) new)
     (c.read_registry.ensures.same tells)
-    (c.build_registered.ensures.holds tells kinds agrees (tears_alike first second c.read_registry.ensures.tearing tears)))
+    (c.build_registered.ensures.leads tells kinds agrees (tears_alike first second c.read_registry.ensures.tearing tears)))
+
+pub returns-in_err-given-clause-holds : goal.returns-in_err-given-clause-holds
+returns-in_err-given-clause-holds g c = λ tells kinds agrees tears.
+    let F = g.F.Folder in
+    let tables = tables_of g.T.Transforms.meanings g.A.Actions.meanings c.args.tables.now in
+    led_holds (setting_of tables kinds (F.may_leave c.args.folder.now)) (shows (F.contents c.args.folder.now) (F.failures c.args.folder.now))
+    (shows (F.contents c.args.folder.now) (F.failures c.args.folder.now)) c.args.invocation.now c.from_residual.result (omega arith)
+    (returns-in_err-given-clause-leads g c tells kinds agrees tears)
+
+pub returns-in_err-registry-clause-holds : goal.returns-in_err-registry-clause-holds
+returns-in_err-registry-clause-holds g c = λ tells kinds agrees tears.
+    let F = g.F.Folder in
+    let tables = tables_of g.T.Transforms.meanings g.A.Actions.meanings c.args.tables.now in
+    led_holds (setting_of tables kinds (F.may_leave c.args.folder.now)) (shows (F.contents c.args.folder.now) (F.failures c.args.folder.now))
+    (shows (F.contents c.read_registry.new.folder) (F.failures c.read_registry.new.folder)) c.args.invocation.now c.from_residual-in_err-registry.result c.read_registry.ensures.count
+    (returns-in_err-registry-clause-leads g c tells kinds agrees tears)
+
+pub returns-clause-holds : goal.returns-clause-holds
+returns-clause-holds g c = λ tells kinds agrees tears.
+    let F = g.F.Folder in
+    let tables = tables_of g.T.Transforms.meanings g.A.Actions.meanings c.args.tables.now in
+    led_holds (setting_of tables kinds (F.may_leave c.args.folder.now)) (shows (F.contents c.args.folder.now) (F.failures c.args.folder.now))
+    (shows (F.contents c.build_registered.new.folder) (F.failures c.build_registered.new.folder)) c.args.invocation.now c.build_registered.result (omega (arith, c.read_registry.ensures.count, c.build_registered.ensures.count))
+    (returns-clause-leads g c tells kinds agrees tears)
+
+pub returns-clause-keeps : goal.returns-clause-keeps
+returns-clause-keeps g c = λ tells.
+    let F = g.F.Folder in
+    let tables = tables_of g.T.Transforms.meanings g.A.Actions.meanings c.args.tables.now in
+    let source = c.in_ok-registry.registry in
+    let before = F.contents c.args.folder.now in
+    invoked_keeps (registers_in tables) c.args.invocation.now c.build_registered.result before (F.contents c.build_registered.new.folder) (registry_said tables source)
+    (registered tables before c.in_ok-given.given.items c.args.invocation.now.properties c.in_ok-given.ensures source (c.in_ok-registry.ensures.said tells))
+    (subst (λ (contents : Contents). KeepsElsewhere (registry_said tables source) contents (F.contents c.build_registered.new.folder)) (c.read_registry.ensures.same tells)
+    (c.build_registered.ensures.keeps tells))
+    (subst (λ (contents : Contents). OnErr c.build_registered.result (F.contents c.build_registered.new.folder ≡ contents)) (c.read_registry.ensures.same tells)
+    (c.build_registered.ensures.refused tells))
+
+pub returns-in_err-given-clause-keeps : goal.returns-in_err-given-clause-keeps
+returns-in_err-given-clause-keeps g c = λ tells.
+    let F = g.F.Folder in
+    let tables = tables_of g.T.Transforms.meanings g.A.Actions.meanings c.args.tables.now in
+    let p = err_from_is_err_and c.from_residual.result c.from_residual.ensures.1 in
+    refusal_keeps (registers_in tables) c.args.invocation.now c.from_residual.result p.0 p.1 (F.contents c.args.folder.now) (F.contents c.args.folder.now) refl
+
+pub returns-in_err-registry-clause-keeps : goal.returns-in_err-registry-clause-keeps
+returns-in_err-registry-clause-keeps g c = λ tells.
+    let F = g.F.Folder in
+    let tables = tables_of g.T.Transforms.meanings g.A.Actions.meanings c.args.tables.now in
+    let p = err_from_is_err_and c.from_residual-in_err-registry.result c.from_residual-in_err-registry.ensures.1 in
+    refusal_keeps (registers_in tables) c.args.invocation.now c.from_residual-in_err-registry.result p.0 p.1 (F.contents c.args.folder.now) (F.contents c.read_registry.new.folder)
+    (c.read_registry.ensures.same tells)

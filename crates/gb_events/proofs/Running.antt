@@ -1,0 +1,100 @@
+-- Runs of events, one event more at a time.
+use Rattle.std.specs.Prelude.{ℕ, ◌≡◌, ◌≤◌, ◌+◌, ◌++◌, ◌⊎◌, Bool, true, false, IsTrue, List, [], ◌∷◌, length, ⊤}
+use Rattle.std.proofs.Common.{arith, refl, sym, ap, subst, inl, inr}
+use Rattle.gb_folder.specs.Files.{Bytes, Contents}
+use Rattle.gb_meaning.specs.declared.events.Answer.{Answer}
+use Rattle.gb_meaning.specs.declared.events.Answer.TheVariants as answers
+use Rattle.gb_meaning.specs.declared.events.Event.{Event}
+use Rattle.gb_meaning.specs.Edits.{Shown}
+use Rattle.gb_meaning.specs.Events.{Setting, State, world_in}
+use Rattle.gb_meaning.specs.Headline.{AllKeepElsewhere, Ear, EventKeeps, EventsHold, HaveHeardAll, Registering, RunHolds, StillClear, contents_outside, seen_with, state_of}
+use Rattle.gb_meaning.specs.Memory.{Memory}
+use Rattle.gb_meaning.specs.TrueRecord.{memory_contents}
+use Rattle.gb_execute.proofs.Clearly.{clear_or_not}
+use Rattle.gb_plan.proofs.Tests.{not_true}
+use Rattle.gb_invoke.specs.Leading.{Leads, StandsSeen}
+use Rattle.gb_invoke.proofs.Leading.{seen_more, step_weaker}
+
+-- ---- Runs
+
+-- a run is one too where less is clear
+run_weaker : (setting : Setting) (one other : Type 0) → (other → one) → (seen : List Bytes) (old : State) (all : List Event) (told : List Answer) (end : Shown)
+    → RunHolds setting one seen old all told end → RunHolds setting other seen old all told end
+run_weaker setting one other weaker seen old [] [] end run = run
+run_weaker setting one other weaker seen old [] (answer ∷ others) end run = run
+run_weaker setting one other weaker seen old (event ∷ rest) [] end run = run
+run_weaker setting one other weaker seen old (event ∷ rest) (answer ∷ others) end run = (
+  run.0,
+  run.1,
+  step_weaker setting (StillClear setting one old) (StillClear setting other old) (λ contents given. (weaker given.0, given.1)) seen old event answer run.0 run.2,
+  λ given. run.3 (weaker given.0, given.1),
+  run_weaker setting (StillClear setting one old (seen_with seen old run.0)) (StillClear setting other old (seen_with seen old run.0))
+  (λ given. (weaker given.0, given.1)) (seen ++ contents_outside old.contents) run.0 rest others end run.4,
+)
+
+-- a run of these events from what a folder shows, whatever is remembered
+abbrev pub RunsFrom : Setting → Shown → List Event → List Answer → Shown → Type 0
+RunsFrom setting old all told end =
+    (remembered : Memory) (clear : Bool) (seen : List Bytes) → (IsTrue clear → StandsSeen setting seen (state_of old remembered))
+    → RunHolds setting (IsTrue clear) seen (state_of old remembered) all told end
+
+yes_of : {X : Type 0} → X ⊎ (¬ X) → Bool
+yes_of (inl is) = true
+yes_of (inr is_not) = false
+
+is_so : {X : Type 0} (decided : X ⊎ (¬ X)) → yes_of decided ≡ true → X
+unfolding yes_of
+is_so (inl is) e = is
+is_so (inr is_not) e = not_true e
+
+is_yes : {X : Type 0} (decided : X ⊎ (¬ X)) → X → yes_of decided ≡ true
+unfolding yes_of
+is_yes (inl is) x = refl
+is_yes (inr is_not) x = absurd (is_not x)
+
+-- an event, and then a run
+pub runs_on : (setting : Setting) (old mid end : Shown) (event : Event) (answer : Answer) (rest : List Event) (others : List Answer) → old.failures ≤ mid.failures
+    → Leads setting old event answer mid → RunsFrom setting mid rest others end → RunsFrom setting old (event ∷ rest) (answer ∷ others) end
+runs_on setting old mid end event answer rest others count leads runs remembered clear seen worth =
+    let start : State = state_of old remembered in
+    let led = leads remembered clear seen worth in
+    let next : State = state_of mid led.remembered in
+    let decided = clear_or_not setting start clear (seen_with seen start next) in
+    (
+      next,
+      count,
+      led.step,
+      λ given. (led.stands given).0,
+      run_weaker setting (IsTrue (yes_of decided)) (StillClear setting (IsTrue clear) start (seen_with seen start next)) (is_yes decided)
+      (seen ++ contents_outside old.contents) next rest others end
+      (runs led.remembered (yes_of decided) (seen ++ contents_outside old.contents) (λ yes. led.stands (is_so decided yes))),
+    )
+
+pub runs_nowhere : (setting : Setting) (old : Shown) → RunsFrom setting old [] [] old
+runs_nowhere setting old remembered clear seen worth = (omega arith, refl)
+
+-- a run from whatever true records stand
+pub runs_hold : (setting : Setting) (old end : Shown) (all : List Event) (told : List Answer) → RunsFrom setting old all told end → EventsHold setting old all told end
+runs_hold setting old end all told runs remembered stands =
+    let seen : List Bytes = memory_contents (world_in (state_of old remembered)) in
+    run_weaker setting (IsTrue true) ⊤ (λ _. refl) seen (state_of old remembered) all told end
+    (runs remembered true seen (λ _. (stands, seen_more seen seen (contents_outside old.contents) (λ bytes within. within))))
+
+-- ---- What changes
+
+pub keeps_more : (registers : Registering) (all : List Event) (told : List Answer) (event : Event) (answer : Answer) (old mid new : Contents) → length all ≡ length told
+    → AllKeepElsewhere registers all told old mid → EventKeeps registers event answer mid new → AllKeepElsewhere registers (all ++ event ∷ []) (told ++ answer ∷ []) old new
+keeps_more registers [] [] event answer old mid new same keeps more = (new, subst (λ (c : Contents). EventKeeps registers event answer c new) keeps more, refl)
+keeps_more registers [] (a ∷ told) event answer old mid new same keeps more = absurd (cc)
+keeps_more registers (e ∷ all) [] event answer old mid new same keeps more = absurd (cc)
+keeps_more registers (e ∷ all) (a ∷ told) event answer old mid new same keeps more =
+    (keeps.0, keeps.1, keeps_more registers all told event answer keeps.0 mid new (omega (arith, same)) keeps.2 more)
+
+-- ---- What is heard
+
+pub heard_more : (told : List Answer) (answer : Answer) (old mid new : List Ear) → HaveHeardAll told old mid → HaveHeardAll (answer ∷ []) mid new → HaveHeardAll (told ++ answer ∷ []) old new
+heard_more [] answer old mid new heard more = subst (λ (ears : List Ear). HaveHeardAll (answer ∷ []) ears new) heard more
+heard_more (answers.Edited ∷ told) answer old mid new heard more = heard_more told answer old mid new heard more
+heard_more (answers.Refused fault ∷ told) answer old mid new heard more = heard_more told answer old mid new heard more
+heard_more (answers.Built report ∷ told) answer old mid new heard more = (heard.0, heard.1, heard_more told answer heard.0 mid new heard.2 more)
+heard_more (answers.NotBuilt fault ∷ told) answer old mid new heard more = heard_more told answer old mid new heard more

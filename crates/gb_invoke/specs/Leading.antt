@@ -1,0 +1,38 @@
+-- How one event leads a run on, from whatever is remembered and was seen before it.
+use Rattle.std.specs.Prelude.{◌++◌, Bool, List, Contains, IsTrue}
+use Rattle.gb_folder.specs.Files.{Bytes}
+use Rattle.gb_meaning.specs.declared.events.Answer.{Answer}
+use Rattle.gb_meaning.specs.declared.events.Event.{Event}
+use Rattle.gb_meaning.specs.Edits.{Shown}
+use Rattle.gb_meaning.specs.Events.{Setting, State, Step, world_in}
+use Rattle.gb_meaning.specs.Headline.{Stands, StillClear, contents_outside, seen_with, state_of}
+use Rattle.gb_meaning.specs.Memory.{Memory}
+use Rattle.gb_meaning.specs.TrueRecord.{memory_contents}
+
+-- each content of the one list is one of the other
+abbrev pub AreAmong : List Bytes → List Bytes → Type 0
+AreAmong some all = (bytes : Bytes) → Contains some bytes → Contains all bytes
+
+-- The folder holds the records of what is remembered, which is true; and each content that it speaks of was
+-- seen before, or stands here.
+abbrev pub StandsSeen : Setting → List Bytes → State → Type 0
+StandsSeen setting seen state =
+    Stands setting state.contents state.remembered
+    × AreAmong (memory_contents (world_in state)) (seen ++ contents_outside state.contents)
+
+-- The event is a step of a run, as far as what was seen is clear; and if all of that is, true records of what
+-- is remembered then stand after it.
+pub record LeadsTo (setting : Setting) (clear : Bool) (seen : List Bytes) (old : State) (event : Event)
+    (answer : Answer) (new : Shown) : Type 0 where
+  pub remembered : Memory
+  pub step : Step setting (StillClear setting (IsTrue clear) old) seen old event answer (state_of new remembered)
+  pub stands : StillClear setting (IsTrue clear) old (seen_with seen old (state_of new remembered))
+      → StandsSeen setting (seen ++ contents_outside old.contents) (state_of new remembered)
+
+-- An event leads from what a folder shows to what it shows then, from whatever is remembered: true records of
+-- it stand there, if all was clear before.
+abbrev pub Leads : Setting → Shown → Event → Answer → Shown → Type 0
+Leads setting old event answer new =
+    (remembered : Memory) (clear : Bool) (seen : List Bytes)
+    → (IsTrue clear → StandsSeen setting seen (state_of old remembered))
+    → LeadsTo setting clear seen (state_of old remembered) event answer new
