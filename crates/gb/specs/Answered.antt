@@ -1,12 +1,13 @@
 -- What the program answers.
-use Rattle.std.specs.Prelude.{ℕ, ◌≡◌, ◌⊎◌, ⊥, List, Result, Ok, Err, OnErr}
+use Rattle.std.specs.Prelude.{ℕ, ◌≡◌, ◌⊎◌, List, Result, Ok, Err}
 use Rattle.std.specs.Result.{result_map_both}
 use Rattle.gb_folder.specs.Files.{Tearing}
 use Rattle.gb_history.specs.Places.{record_place}
-use Rattle.gb_invocation.specs.Scripts.{setting_of}
+use Rattle.gb_invocation.specs.Scripts.{registers_in, setting_of}
 use Rattle.gb_meaning.specs.Edits.{Shown}
-use Rattle.gb_meaning.specs.Headline.{Agrees, InvocationHolds, TearsAreSeen}
+use Rattle.gb_meaning.specs.Headline.{Agrees, EventKeeps, InvocationHolds, TearsAreSeen, answer_of}
 use Rattle.gb_meaning.specs.Kinds.{Kinds}
+use Rattle.gb_meaning.specs.declared.events.Event.TheVariants as events
 use Rattle.gb_meaning.specs.declared.events.Invocation.{Invocation}
 use Rattle.gb_records.specs.Said.{IsText}
 use Rattle.gb_registry.specs.Tables.{Tables}
@@ -40,16 +41,18 @@ IsRefused given old answer new =
     (fault : Fault) × AreRefused given fault × (answer ≡ Err fault) × (new.contents ≡ old.contents)
 
 module _ {M F Z S A : Type 0} (tables : Tables M F Z S A) (may_leave : Tearing) where
-  -- It is one invocation by its definition, with what the scripts of the folder register.
-  abbrev pub Invokes : Invocation → Shown → Result Report Fault → Shown → Type 0
-  Invokes asked old answer new =
-      (kinds : Kinds) → Agrees tables.shapes tables.kinds kinds → TearsAreSeen IsText record_place may_leave
-      → InvocationHolds (setting_of tables kinds may_leave) old asked answer new
+  -- It is one invocation by its definition, with what the scripts of the folder register, and changes only
+  -- what a build may: nothing where it is refused.
+  pub record Invokes (asked : Invocation) (old : Shown) (answer : Result Report Fault) (new : Shown)
+      : Type 0 where
+    pub keeps : EventKeeps (registers_in tables) (events.Invoke asked) (answer_of answer)
+        old.contents new.contents
+    pub holds : (kinds : Kinds) → Agrees tables.shapes tables.kinds kinds
+        → TearsAreSeen IsText record_place may_leave
+        → InvocationHolds (setting_of tables kinds may_leave) old asked answer new
 
-  -- The words are refused, or they ask for an invocation, and this is its answer. Where it is refused,
-  -- nothing changed.
+  -- the words are refused, or they ask for an invocation, and this is its answer
   abbrev pub Answers : Given → Shown → Result Report Fault → Shown → Type 0
   Answers given old answer new =
       IsRefused given old answer new
-      ⊎ ((asked : Invocation) × AskFor given asked × Invokes asked old answer new
-      × OnErr answer (new.contents ≡ old.contents))
+      ⊎ ((asked : Invocation) × AskFor given asked × Invokes asked old answer new)
