@@ -1,19 +1,58 @@
 -- What the program answers.
-use Rattle.std.specs.Prelude.{ℕ, ◌≡◌, ◌⊎◌, List, Result, Err}
-use Rattle.gb_action.specs.Meanings.{Meanings}
-use Rattle.gb_build.specs.Build.{Invokes}
-use Rattle.gb_folder.specs.Files.{Contents}
-use Rattle.gb_plain.specs.Task.{Rows}
+use Rattle.std.specs.Prelude.{ℕ, ◌≡◌, ◌⊎◌, List, Result, Ok, Err}
+use Rattle.std.specs.Result.{result_map_both}
+use Rattle.gb_folder.specs.Files.{Tearing}
+use Rattle.gb_history.specs.Places.{record_place}
+use Rattle.gb_invocation.specs.Scripts.{registers_in, setting_of}
+use Rattle.gb_meaning.specs.Edits.{Shown}
+use Rattle.gb_meaning.specs.Headline.{Agrees, EventKeeps, InvocationHolds, TearsAreSeen, answer_of}
+use Rattle.gb_meaning.specs.Kinds.{Kinds}
+use Rattle.gb_meaning.specs.declared.events.Event.TheVariants as events
+use Rattle.gb_meaning.specs.declared.events.Invocation.{Invocation}
+use Rattle.gb_records.specs.Said.{IsText}
+use Rattle.gb_registry.specs.Tables.{Tables}
 use Rattle.gb_report.specs.declared.fault.Fault.{Fault}
 use Rattle.gb_report.specs.declared.report.Report.{Report}
+use Rattle.gb_words.specs.Faults.{IsFirstFault}
+use Rattle.gb_words.specs.Words.{IsAsked, words_faults}
+
+-- the words of a command line, or why they cannot be read
+abbrev pub Given : Type 0
+Given = Result (List (List ℕ)) Fault
+
+-- these words, each shown as its bytes
+abbrev pub given_of : {V : Type 0} → (V → List (List ℕ)) → Result V Fault → Given
+given_of bytes words = result_map_both bytes (λ fault. fault) words
+
+-- the words ask for this
+abbrev pub AskFor : Given → Invocation → Type 0
+AskFor (Ok words) asked = IsAsked words asked
+AskFor (Err fault) asked = ⊥
+
+-- the words are refused for this: they cannot be read, or it is the first that is wrong with them, or memory
+-- ran out
+abbrev pub AreRefused : Given → Fault → Type 0
+AreRefused (Ok words) fault = IsFirstFault (words_faults words) fault
+AreRefused (Err unread) fault = fault ≡ unread
 
 -- the words are refused, and nothing changed
-abbrev pub IsRefused : Contents → Result Report Fault → Contents → Type 0
-IsRefused old answer new = (fault : Fault) × (answer ≡ Err fault) × (new ≡ old)
+abbrev pub IsRefused : Given → Shown → Result Report Fault → Shown → Type 0
+IsRefused given old answer new =
+    (fault : Fault) × AreRefused given fault × (answer ≡ Err fault) × (new.contents ≡ old.contents)
 
-module _ {S : Type 0} (meanings : Meanings S) (rows : Rows S) where
-  -- the words are refused, or they ask for a build of some tasks, and this is its answer
-  abbrev pub Answers : ℕ → Contents → Result Report Fault → ℕ → Contents → Type 0
-  Answers before old answer after new =
-      IsRefused old answer new
-      ⊎ ((requested : List (List ℕ)) × Invokes meanings rows before old requested answer after new)
+module _ {M F Z S A : Type 0} (tables : Tables M F Z S A) (may_leave : Tearing) where
+  -- It is one invocation by its definition, with what the scripts of the folder register, and changes only
+  -- what a build may: nothing where it is refused.
+  pub record Invokes (asked : Invocation) (old : Shown) (answer : Result Report Fault) (new : Shown)
+      : Type 0 where
+    pub keeps : EventKeeps (registers_in tables) (events.Invoke asked) (answer_of answer)
+        old.contents new.contents
+    pub holds : (kinds : Kinds) → Agrees tables.shapes tables.kinds kinds
+        → TearsAreSeen IsText record_place may_leave
+        → InvocationHolds (setting_of tables kinds may_leave) old asked answer new
+
+  -- the words are refused, or they ask for an invocation, and this is its answer
+  abbrev pub Answers : Given → Shown → Result Report Fault → Shown → Type 0
+  Answers given old answer new =
+      IsRefused given old answer new
+      ⊎ ((asked : Invocation) × AskFor given asked × Invokes asked old answer new)

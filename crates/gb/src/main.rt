@@ -1,17 +1,20 @@
 //! Builds the current folder: `gb [WORD..]`.
 //!
 //! `run` is the program over any folder: it reads the words, builds what they ask for and prints the
-//! answer. Proved is that it prints the text of an answer, with the status of that answer, and changes
-//! no file outside `build`. Left to tests is how the words are parted into options and tasks, and what
-//! a real folder holds.
+//! answer. Proved is that it prints the text of an answer, with the status of that answer, and that the
+//! answer is that of one invocation of what the words ask for, by its definition. Left to tests is what a
+//! real folder holds.
 #![tactic(auto)]
 
 use crate::run::{UNPRINTED, run};
-use gb_answer::builtin_runs;
+use gb_action::table::ActionTable;
+use gb_answer::functions::function_table;
+use gb_answer::{builtin_functions, builtin_runs};
 use gb_disk::disk::DiskFolder;
-use gb_kinds::builtin::Builtin;
+use gb_kinds::builtin::{Builtin, StoredAction};
+use gb_kinds::function_table::FunctionTable;
 use gb_kinds::table::builtin_table;
-use gb_plain::tables::Tables;
+use gb_registry::tables::Tables;
 use gb_report::fault::Fault;
 use std::alloc::Global;
 use std::env;
@@ -21,7 +24,6 @@ use std::process::ExitCode;
 mod run;
 #[cfg(test)]
 mod tests;
-mod words;
 
 fn main(rt: HostRuntime) -> ExitCode {
     let answer = built(&rt);
@@ -36,15 +38,37 @@ fn main(rt: HostRuntime) -> ExitCode {
 /// Builds the current folder, as the command's words ask for.
 fn built(rt: &HostRuntime) -> Result<u8, Fault> {
     let alloc = rt.alloc();
-    let Ok(actions) = builtin_table(alloc, builtin_runs!(alloc)) else {
-        return Err(Fault::OutOfMemory);
+    match builtin_table(alloc, builtin_runs!(alloc)) {
+        Ok(actions) => built_with(rt, actions),
+        Err(_) => Err(Fault::OutOfMemory),
+    }
+}
+
+/// Builds it with these actions and all functions of values.
+fn built_with(rt: &HostRuntime, actions: ActionTable<StoredAction>) -> Result<u8, Fault> {
+    let alloc = rt.alloc();
+    match function_table(alloc, builtin_functions!(alloc)) {
+        Ok(transforms) => built_by(rt, actions, transforms),
+        Err(_) => Err(Fault::OutOfMemory),
+    }
+}
+
+/// Builds it with these actions and functions.
+fn built_by(
+    rt: &HostRuntime,
+    actions: ActionTable<StoredAction>,
+    transforms: FunctionTable,
+) -> Result<u8, Fault> {
+    let alloc = rt.alloc();
+    let tables = Tables {
+        actions,
+        transforms,
     };
-    let tables = Tables { actions };
     let mut folder = DiskFolder::new(rt, String::new(alloc));
     let Ok(mut writer) = BufWriter::new(alloc, io::writer(rt)) else {
         return Err(Fault::OutOfMemory);
     };
-    Ok(run::<Builtin, _, _>(
+    Ok(run::<Builtin, Builtin, _, _>(
         alloc,
         &mut folder,
         command_words(rt, alloc),

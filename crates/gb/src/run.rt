@@ -1,72 +1,84 @@
 //! The program over any folder.
-ghost use Rattle.std.specs.Prelude.{◌≡◌, ◌≤◌, ◌⊎◌, IsTrue, IfSome, Result};
+ghost use Rattle.std.specs.Prelude.{◌≡◌, ◌≤◌, ◌⊎◌, IsTrue, IfSome, MatchResult, Result, map, string_bytes};
 ghost use Rattle.std.specs.Io.KnownBytes.{Appends};
 ghost use Rattle.gb_answer.specs.Answer.{answer_text, status_of};
-ghost use Rattle.gb_store.specs.Changes.{ChangesOnly};
-ghost use Rattle.gb_build.specs.Build.{is_of_build};
+ghost use Rattle.gb_meaning.specs.declared.events.Invocation.{Invocation};
+ghost use Rattle.gb_registry.specs.Tables.{tables_of};
 ghost use Rattle.gb_report.specs.declared.fault.Fault.{Fault};
 ghost use Rattle.gb_report.specs.declared.report.Report.{Report};
-ghost use Rattle.gb.specs.Answered.{Answers};
+ghost use Rattle.gb.specs.Answered.{Answers, AreRefused, AskFor, given_of};
 
-use crate::words::Words;
 use gb_action::actions::Actions;
 use gb_answer::answer::{answer_text, status_of};
-use gb_build::invocation::Invocation;
-use gb_build::invoke::invoke;
 use gb_folder::folder::Folder;
-use gb_plain::tables::Tables;
+use gb_invocation::invocation::invoke;
+use gb_listen::listener::Recorder;
+use gb_meaning::events::Invocation;
+use gb_provider::transforms::Transforms;
+use gb_registry::tables::Tables;
 use gb_report::fault::Fault;
 use gb_report::report::Report;
+use gb_words::words::read;
 use std::alloc::Global;
 use std::io::Write;
+
+/// The stored actions and functions that scripts may name.
+pub type Handed<A, T> = Tables<
+    <A as Actions>::Stored,
+    <T as Transforms>::Map,
+    <T as Transforms>::FlatMap,
+    <T as Transforms>::Zip,
+    <T as Transforms>::Test,
+>;
 
 /// The status where the answer cannot be printed.
 pub const UNPRINTED: u8 = 1;
 
 /// Builds what the words ask for, prints what became of it, and answers the status: 0 where the build
 /// was successful, 2 where the words ask for no build that is known, and else 1.
-pub fn run<A: Actions, F: Folder, W: Write>(
+pub fn run<A: Actions, T: Transforms, F: Folder, W: Write>(
     alloc: Global,
     folder: &mut F,
     words: Result<Vec<String>, Fault>,
     writer: &mut W,
-    tables: &Tables<A::Stored>,
+    tables: &Handed<A, T>,
 ) -> u8
     ensures count { F.failures folder.old ≤ F.failures folder.new }
-    // Whatever fails, no file outside the build folder differs.
-    ensures elsewhere { IsTrue F.tells
-        → ChangesOnly is_of_build (F.contents folder.old) (F.contents folder.new) }
     // What is printed is the text of an answer, and the status is its own; or the status is 1.
     ensures told { (result ≡ 1) ⊎ ((answer : Result Report Fault)
-        × (IsTrue F.tells → Answers A.meanings tables.now.actions (F.failures folder.old) (F.contents folder.old) answer
-        (F.failures folder.new) (F.contents folder.new))
+        × (IsTrue F.tells → Answers (tables_of T.meanings A.meanings tables.now) (F.may_leave folder.old)
+        (given_of (λ words. map string_bytes words.items) words)
+        (record { contents = F.contents folder.old; failures = F.failures folder.old })
+        answer
+        (record { contents = F.contents folder.new; failures = F.failures folder.new }))
         × Appends (W.contents writer.old) (W.contents writer.new) (answer_text answer)
         × (result ≡ status_of answer)) }
 {
-    match told::<A, F, W>(alloc, folder, words, writer, tables) {
+    match told::<A, T, F, W>(alloc, folder, words, writer, tables) {
         Some(status) => status,
         None => UNPRINTED,
     }
 }
 
 /// The status of what was built and printed; none where it could not be printed.
-fn told<A: Actions, F: Folder, W: Write>(
+fn told<A: Actions, T: Transforms, F: Folder, W: Write>(
     alloc: Global,
     folder: &mut F,
     words: Result<Vec<String>, Fault>,
     writer: &mut W,
-    tables: &Tables<A::Stored>,
+    tables: &Handed<A, T>,
 ) -> Option<u8>
     ensures count { F.failures folder.old ≤ F.failures folder.new }
-    ensures elsewhere { IsTrue F.tells
-        → ChangesOnly is_of_build (F.contents folder.old) (F.contents folder.new) }
     ensures told { IfSome result (λ status. (answer : Result Report Fault)
-        × (IsTrue F.tells → Answers A.meanings tables.now.actions (F.failures folder.old) (F.contents folder.old) answer
-        (F.failures folder.new) (F.contents folder.new))
+        × (IsTrue F.tells → Answers (tables_of T.meanings A.meanings tables.now) (F.may_leave folder.old)
+        (given_of (λ words. map string_bytes words.items) words)
+        (record { contents = F.contents folder.old; failures = F.failures folder.old })
+        answer
+        (record { contents = F.contents folder.new; failures = F.failures folder.new }))
         × Appends (W.contents writer.old) (W.contents writer.new) (answer_text answer)
         × (status ≡ status_of answer)) }
 {
-    let answer = answered::<A, F>(alloc, folder, words, tables);
+    let answer = answered::<A, T, F>(alloc, folder, words, tables);
     let status = status_of(&answer);
     let printed = print(alloc, writer, &answer);
     drop(answer);
@@ -85,32 +97,34 @@ fn print<W: Write>(alloc: Global, writer: &mut W, answer: &Result<Report, Fault>
 }
 
 /// What becomes of the words.
-fn answered<A: Actions, F: Folder>(
+fn answered<A: Actions, T: Transforms, F: Folder>(
     alloc: Global,
     folder: &mut F,
     words: Result<Vec<String>, Fault>,
-    tables: &Tables<A::Stored>,
+    tables: &Handed<A, T>,
 ) -> Result<Report, Fault>
     ensures count { F.failures folder.old ≤ F.failures folder.new }
-    ensures elsewhere { IsTrue F.tells
-        → ChangesOnly is_of_build (F.contents folder.old) (F.contents folder.new) }
-    ensures answers { IsTrue F.tells → Answers A.meanings tables.now.actions
-        (F.failures folder.old) (F.contents folder.old) result
-        (F.failures folder.new) (F.contents folder.new) }
+    ensures answers { IsTrue F.tells
+        → Answers (tables_of T.meanings A.meanings tables.now) (F.may_leave folder.old)
+        (given_of (λ words. map string_bytes words.items) words)
+        (record { contents = F.contents folder.old; failures = F.failures folder.old })
+        result
+        (record { contents = F.contents folder.new; failures = F.failures folder.new }) }
 {
     match asked_by(alloc, words) {
-        Ok(invocation) => invoke::<A, F>(alloc, folder, tables, &invocation),
+        Ok(asked) => {
+            let mut listeners: Vec<Recorder> = Vec::new(alloc);
+            invoke::<A, T, F, Recorder>(alloc, folder, tables, &asked, &mut listeners)
+        }
         Err(fault) => Err(fault),
     }
 }
 
 /// What the words ask for.
-fn asked_by(alloc: Global, words: Result<Vec<String>, Fault>) -> Result<Invocation, Fault> {
-    let words = Words::read(alloc, words?.as_slice())?;
-    if words.ask_for_more() {
-        return Err(Fault::Usage);
-    }
-    Ok(Invocation {
-        requested: words.requested,
-    })
+fn asked_by(alloc: Global, words: Result<Vec<String>, Fault>) -> Result<Invocation, Fault>
+    ensures { MatchResult result
+        (AskFor (given_of (λ words. map string_bytes words.items) words))
+        (AreRefused (given_of (λ words. map string_bytes words.items) words)) }
+{
+    read(alloc, words?)
 }

@@ -1,15 +1,18 @@
 //! Whole builds over folders on a disk, in memory and of those that fail.
-use crate::run::run;
+use crate::run::{Handed, run};
+use gb_action::actions::Actions;
 use gb_action::table::ActionTable;
+use gb_answer::builtin_runs;
 use gb_core::place::Place;
 use gb_disk::disk::DiskFolder;
 use gb_folder::faulty::{FaultMode, FaultyFolder};
 use gb_folder::folder::Folder;
 use gb_folder::memory::MemoryFolder;
-use gb_kinds::builtin::{Builtin, Run, StoredAction};
-use gb_kinds::table::add_text_kinds;
-use gb_kinds::texts::{fail, print_line, write_text};
-use gb_plain::tables::Tables;
+use gb_kinds::builtin::{Builtin, StoredAction};
+use gb_kinds::function_table::FunctionTable;
+use gb_kinds::table::builtin_table;
+use gb_provider::transforms::Transforms;
+use gb_registry::tables::Tables;
 use std::alloc::Global;
 use std::fs;
 use std::io::{self, ErrorKind, Write};
@@ -22,25 +25,31 @@ const GEN: &str =
 /// What is printed where it succeeds.
 const DONE: &str = "> Task :gen\nBUILD SUCCESSFUL\n1 actionable task: 1 executed\n";
 
-/// What is printed of lines: `put PLACE BYTES`, `read PLACE`, `run WORDS`, and `status WORDS` for its status.
+/// What is printed where the file stands already.
+const STANDS: &str = "> Task :gen UP-TO-DATE\nBUILD SUCCESSFUL\n1 actionable task: 1 up-to-date\n";
+
+fn actions(alloc: Global) -> Result<ActionTable<StoredAction>, Fail> {
+    Ok(builtin_table(alloc, builtin_runs!(alloc))?)
+}
+
+/// What is printed of lines, with all kinds and no function of values: `put PLACE BYTES`, `read PLACE`,
+/// `run WORDS`, and `status WORDS` for its status.
 fn answers<F: Folder>(alloc: Global, folder: &mut F, lines: &str) -> Result<String, Fail> {
-    let mut actions = ActionTable::new(alloc);
-    let print_line: Run = Box::new(alloc, print_line)?;
-    let write_text: Run = Box::new(alloc, write_text)?;
-    let fail: Run = Box::new(alloc, fail)?;
-    add_text_kinds(alloc, &mut actions, print_line, write_text, fail)?;
-    let tables = Tables { actions };
+    let tables = Tables {
+        actions: actions(alloc)?,
+        transforms: FunctionTable::new(alloc),
+    };
     let mut out = Vec::new(alloc);
     for line in lines.split('\n') {
-        take(alloc, folder, &tables, line, &mut out)?;
+        take::<Builtin, Builtin, F>(alloc, folder, &tables, line, &mut out)?;
     }
     Ok(String::from_utf8(out)?)
 }
 
-fn take<F: Folder>(
+fn take<A: Actions, T: Transforms, F: Folder>(
     alloc: Global,
     folder: &mut F,
-    tables: &Tables<StoredAction>,
+    tables: &Handed<A, T>,
     line: &str,
     out: &mut Vec<u8>,
 ) -> Result<(), Fail> {
@@ -49,10 +58,10 @@ fn take<F: Folder>(
         "put" => put(alloc, folder, rest),
         "read" => read(alloc, folder, rest, out),
         "run" => {
-            build(alloc, folder, tables, rest, out)?;
+            build::<A, T, F>(alloc, folder, tables, rest, out)?;
             Ok(())
         }
-        _ => status(alloc, folder, tables, rest, out),
+        _ => status::<A, T, F>(alloc, folder, tables, rest, out),
     }
 }
 
@@ -77,10 +86,10 @@ fn read<F: Folder>(
 }
 
 /// Builds, and answers the status.
-fn build<F: Folder>(
+fn build<A: Actions, T: Transforms, F: Folder>(
     alloc: Global,
     folder: &mut F,
-    tables: &Tables<StoredAction>,
+    tables: &Handed<A, T>,
     words: &str,
     out: &mut Vec<u8>,
 ) -> Result<u8, Fail> {
@@ -88,18 +97,18 @@ fn build<F: Folder>(
     for word in words.split_whitespace() {
         given.push(String::from_str(alloc, word)?)?;
     }
-    Ok(run::<Builtin, F, Vec<u8>>(alloc, folder, Ok(given), out, tables))
+    Ok(run::<A, T, F, Vec<u8>>(alloc, folder, Ok(given), out, tables))
 }
 
-fn status<F: Folder>(
+fn status<A: Actions, T: Transforms, F: Folder>(
     alloc: Global,
     folder: &mut F,
-    tables: &Tables<StoredAction>,
+    tables: &Handed<A, T>,
     words: &str,
     out: &mut Vec<u8>,
 ) -> Result<(), Fail> {
     let mut unread = Vec::new(alloc);
-    let status = build(alloc, folder, tables, words, &mut unread)?;
+    let status = build::<A, T, F>(alloc, folder, tables, words, &mut unread)?;
     Ok(out.extend_from_slice(format!(in alloc; "{status}")?.as_bytes())?)
 }
 
@@ -123,9 +132,12 @@ fn on_disk(rt: &HostRuntime, name: &str, lines: &str) -> Result<String, Fail> {
 #[test]
 fn actions_run_in_their_order(rt: HostRuntime) -> Result<(), Fail> {
     let lines =
-        "put build.gb register hi { doFirst printLine(\"1\") doFirst printLine(\"2\") doLast printLine(\"3\") doLast printLine(\"4\") }\nrun hi\nrun hi";
-    let want =
-        "> Task :hi\n2\n1\n3\n4\nBUILD SUCCESSFUL\n1 actionable task: 1 executed\n> Task :hi\n2\n1\n3\n4\nBUILD SUCCESSFUL\n1 actionable task: 1 executed\n";
+        "put build.gb register hi { doFirst printLine(\"1\") doFirst printLine(\"2\") doLast \
+         printLine(\"3\") doLast printLine(\"4\") }\n\
+         run hi\n\
+         run hi";
+    let want = "> Task :hi\n2\n1\n3\n4\nBUILD SUCCESSFUL\n1 actionable task: 1 executed\n\
+         > Task :hi\n2\n1\n3\n4\nBUILD SUCCESSFUL\n1 actionable task: 1 executed\n";
     assert_eq!(rt; in_memory(rt.alloc(), lines)?.as_str(), want);
     assert_eq!(rt; on_disk(&rt, "in_order", lines)?.as_str(), want);
     Ok(())
@@ -134,8 +146,8 @@ fn actions_run_in_their_order(rt: HostRuntime) -> Result<(), Fail> {
 #[test]
 fn a_blocked_output_fails_the_task(rt: HostRuntime) -> Result<(), Fail> {
     let lines = format!(in rt.alloc(); "put build x\n{GEN}\nrun gen\nread build")?;
-    let want =
-        "> Task :gen FAILED\nFAILED :gen: 12 blocked build/a.txt\nBUILD FAILED\n1 actionable task: 1 executed\nx\n";
+    let want = "> Task :gen FAILED\nFAILED :gen: 12 blocked build/a.txt\nBUILD FAILED\n\
+         1 actionable task: 1 executed\nx\n";
     assert_eq!(rt; in_memory(rt.alloc(), lines.as_str())?.as_str(), want);
     assert_eq!(rt; on_disk(&rt, "blocked", lines.as_str())?.as_str(), want);
     Ok(())
@@ -144,8 +156,8 @@ fn a_blocked_output_fails_the_task(rt: HostRuntime) -> Result<(), Fail> {
 #[test]
 fn empty_scripts_and_tasks_without_actions(rt: HostRuntime) -> Result<(), Fail> {
     let lines = "put build.gb\nrun\nput build.gb register x { }\nrun x\nrun y";
-    let want =
-        "REFUSED 64 no tasks\nBUILD FAILED\n> Task :x UP-TO-DATE\nBUILD SUCCESSFUL\nREFUSED 52 task not found y\nBUILD FAILED\n";
+    let want = "REFUSED 64 no tasks\nBUILD FAILED\n> Task :x UP-TO-DATE\nBUILD SUCCESSFUL\n\
+         REFUSED 52 task not found y\nBUILD FAILED\n";
     assert_eq!(rt; in_memory(rt.alloc(), lines)?.as_str(), want);
     assert_eq!(rt; on_disk(&rt, "empty", lines)?.as_str(), want);
     Ok(())
@@ -220,16 +232,32 @@ fn words_that_ask_for_a_build(rt: HostRuntime) -> Result<(), Fail> {
 fn words_that_ask_for_no_build(rt: HostRuntime) -> Result<(), Fail> {
     let alloc = rt.alloc();
     assert_eq!(rt;
-        asked(alloc, "run gen --continue")?.as_str(),
+        asked(alloc, "run gen --continue=x")?.as_str(),
         "REFUSED 96 usage\nBUILD FAILED\n"
     );
-    assert_eq!(rt; asked(alloc, "status gen --continue")?.as_str(), "2");
-    assert_eq!(rt; asked(alloc, "status -m gen")?.as_str(), "2");
-    assert_eq!(rt; asked(alloc, "status gen -x gen")?.as_str(), "2");
-    assert_eq!(rt; asked(alloc, "status --nope")?.as_str(), "2");
-    assert_eq!(rt; asked(alloc, "status --help")?.as_str(), "2");
-    assert_eq!(rt; asked(alloc, "status -V")?.as_str(), "2");
-    assert_eq!(rt; asked(alloc, "status -x")?.as_str(), "2");
+    for words in ["--nope", "--help", "-V", "-x", "gen -P"] {
+        let status = asked(alloc, format!(in alloc; "status {words}")?.as_str())?;
+        assert_eq!(rt; status.as_str(), "2", "at {words}");
+    }
+    Ok(())
+}
+
+#[test]
+fn what_stands_is_not_built_again(rt: HostRuntime) -> Result<(), Fail> {
+    let lines = format!(in rt.alloc();
+        "{GEN}\nrun -m gen\nread build/a.txt\nrun gen --continue\nrun gen\nrun gen -x gen"
+    )?;
+    let want = format!(in rt.alloc();
+        ":gen SKIPPED\nBUILD SUCCESSFUL\nnone\n{DONE}{STANDS}BUILD SUCCESSFUL\n"
+    )?;
+    assert_eq!(rt;
+        in_memory(rt.alloc(), lines.as_str())?.as_str(),
+        want.as_str()
+    );
+    assert_eq!(rt;
+        on_disk(&rt, "stands", lines.as_str())?.as_str(),
+        want.as_str()
+    );
     Ok(())
 }
 
@@ -252,9 +280,14 @@ fn on_failing(alloc: Global, at: u64, kind: u8) -> Result<String, Fail> {
     Ok(all)
 }
 
-/// How many calls fail in turn, before the build is good. None where an answer tells of no failure, or a file
-/// outside the build folder differs.
-fn failing_calls(alloc: Global, kind: u8) -> Result<Option<u64>, Fail> {
+/// Whether an answer tells that the device failed, or that no record could be written.
+fn tells_of_failure(told: &str) -> bool {
+    told.contains("10 device ") || told.contains("90 history not written")
+}
+
+/// Fails at the first call whose failure is not told, or where a file outside differs; a build is good in the
+/// end, after as many calls as are answered.
+fn failures_told(alloc: Global, kind: u8) -> Result<u64, Fail> {
     let files = in_memory(
         alloc,
         format!(in alloc; "{GEN}\nread build.gb\nread src/a")?.as_str(),
@@ -263,30 +296,21 @@ fn failing_calls(alloc: Global, kind: u8) -> Result<Option<u64>, Fail> {
         let all = on_failing(alloc, before + 1, kind)?;
         let told = all.strip_suffix(files.as_str()).unwrap_or("");
         if told == DONE {
-            return Ok(Some(before));
+            return Ok(before);
         }
-        if !told.contains("10 device build") {
-            return Ok(None);
+        if !tells_of_failure(told) {
+            return Err(Fail::new(format!(in alloc; "{before}: {all}")?.as_str()));
         }
     }
-    Ok(None)
+    Err(Fail::new("the build is never good"))
 }
 
 #[test]
-fn each_call_fails_once(rt: HostRuntime) -> Result<(), Fail> {
-    assert_eq!(rt; failing_calls(rt.alloc(), 0)?, Some(3));
-    Ok(())
-}
-
-#[test]
-fn the_device_stops_at_each_call(rt: HostRuntime) -> Result<(), Fail> {
-    assert_eq!(rt; failing_calls(rt.alloc(), 1)?, Some(3));
-    Ok(())
-}
-
-#[test]
-fn the_device_stops_within_each_call(rt: HostRuntime) -> Result<(), Fail> {
-    assert_eq!(rt; failing_calls(rt.alloc(), 2)?, Some(3));
+fn a_failing_device_is_told(rt: HostRuntime) -> Result<(), Fail> {
+    for kind in 0..3u8 {
+        let calls = failures_told(rt.alloc(), kind)?;
+        assert!(rt; calls > 3, "at {kind}: {calls}");
+    }
     Ok(())
 }
 
@@ -309,10 +333,17 @@ fn a_failing_writer_is_status_1(rt: HostRuntime) -> Result<(), Fail> {
     let alloc = rt.alloc();
     let tables = Tables {
         actions: ActionTable::new(alloc),
+        transforms: FunctionTable::new(alloc),
     };
     let mut folder = MemoryFolder::new(alloc);
     let words = Ok(Vec::new(alloc));
-    let status = run::<Builtin, _, _>(alloc, &mut folder, words, &mut FailingWriter, &tables);
+    let status = run::<Builtin, Builtin, _, _>(
+        alloc,
+        &mut folder,
+        words,
+        &mut FailingWriter,
+        &tables,
+    );
     assert_eq!(rt; status, 1);
     Ok(())
 }

@@ -1,7 +1,9 @@
-//! What the programs share: what is printed of a build, its status, and the kinds that they offer.
+//! What the programs share: what is printed of a build, its status, and the kinds and functions that they
+//! offer.
 #![tactic(auto)]
 
 pub mod answer;
+pub mod functions;
 mod runs;
 #[cfg(test)]
 mod tests;

@@ -19,12 +19,13 @@ before None text = None
 before (Some b) None = None
 before (Some b) (Some text) = Some (b ∷ text)
 
--- the bytes that a text stands for: a backslash with its letter for one byte, any other byte for itself; nothing where
--- a backslash has another letter or none
+-- the bytes that a text stands for: a backslash with its letter for one byte, any other byte for itself;
+-- nothing where a backslash has another letter or none
 unfoldable pub unescaped : List ℕ → Option (List ℕ)
 unescaped [] = Some []
 unescaped (b ∷ []) = if b == 92 then None else Some (b ∷ [])
-unescaped (b ∷ c ∷ text) = if b == 92 then before (escape c) (unescaped text) else before (Some b) (unescaped (c ∷ text))
+unescaped (b ∷ c ∷ text) =
+    if b == 92 then before (escape c) (unescaped text) else before (Some b) (unescaped (c ∷ text))
 
 -- a place that is none is a bad line
 abbrev pub line_fault_of : PlaceFault → LineFault

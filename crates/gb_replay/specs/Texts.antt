@@ -4,8 +4,8 @@ use Rattle.std.specs.List.{ends_with, flat_map}
 use Rattle.gb_folder.specs.Files.{Files, Place, Bytes, file_at, is_empty, places_under}
 use Rattle.gb_answer.specs.Answer.{not_built_text, refusal_text}
 use Rattle.gb_report.specs.Report.{line, report_text}
-use Rattle.gb_build.specs.declared.events.Answer.{Answer}
-use Rattle.gb_build.specs.declared.events.Answer.TheVariants as answers
+use Rattle.gb_meaning.specs.declared.events.Answer.{Answer}
+use Rattle.gb_meaning.specs.declared.events.Answer.TheVariants as answers
 
 -- what is printed of an answer
 abbrev pub answer_text : Answer → List ℕ
@@ -20,7 +20,8 @@ closing bytes = if is_empty bytes || ends_with nat_eq bytes (10 ∷ []) then [] 
 
 -- a file: its place, its length and its bytes
 abbrev pub shown_file : Place → Bytes → List ℕ
-shown_file place bytes = line (codes "== " ++ place ++ codes " " ++ decimal (length bytes)) ++ bytes ++ closing bytes
+shown_file place bytes =
+    line (codes "== " ++ place ++ codes " " ++ decimal (length bytes)) ++ bytes ++ closing bytes
 
 -- a place, with its bytes if it has a file
 abbrev pub shown_at : Place → Option Bytes → List ℕ

@@ -10,15 +10,27 @@ use crate::stop::Stop;
 use crate::texts::answer_text;
 use gb_action::actions::Actions;
 use gb_answer::answer::{not_built_text, refusal_text};
-use gb_build::events::{Event, run_events};
-use gb_build::invocation::Invocation;
 use gb_core::place::Place;
+use gb_events::events::run_events;
 use gb_folder::folder::Folder;
 use gb_folder::memory::MemoryFolder;
-use gb_plain::tables::Tables;
+use gb_listen::listener::Recorder;
+use gb_meaning::events::Event;
+use gb_provider::transforms::Transforms;
+use gb_registry::tables::Tables;
 use gb_report::fault::Fault;
+use gb_words::words::read;
 use std::alloc::{AllocError, Global};
 use std::io::{ErrorKind, Read, Write};
+
+/// The stored actions and functions that scripts may name.
+pub type Handed<A, T> = Tables<
+    <A as Actions>::Stored,
+    <T as Transforms>::Map,
+    <T as Transforms>::FlatMap,
+    <T as Transforms>::Zip,
+    <T as Transforms>::Test,
+>;
 
 /// The most bytes of an input: 64 MiB.
 const MAX_INPUT: u64 = 67_108_864;
@@ -28,27 +40,27 @@ const CHUNK: usize = 65_536;
 
 /// Takes the lines of an input over an empty folder, and answers the exit status: 0 after the last
 /// line, 2 after a bad line, and 1 where reading, writing or memory failed.
-pub fn replay<A: Actions, R: Read, W: Write>(
+pub fn replay<A: Actions, T: Transforms, R: Read, W: Write>(
     alloc: Global,
     reader: &mut R,
     writer: &mut W,
-    tables: &Tables<A::Stored>,
+    tables: &Handed<A, T>,
 ) -> u8 {
-    match try_replay::<A, R, W>(alloc, reader, writer, tables) {
+    match try_replay::<A, T, R, W>(alloc, reader, writer, tables) {
         Ok(()) => 0,
         Err(Stop::BadLine(_)) => 2,
         Err(_) => 1,
     }
 }
 
-fn try_replay<A: Actions, R: Read, W: Write>(
+fn try_replay<A: Actions, T: Transforms, R: Read, W: Write>(
     alloc: Global,
     reader: &mut R,
     writer: &mut W,
-    tables: &Tables<A::Stored>,
+    tables: &Handed<A, T>,
 ) -> Result<(), Stop> {
     let input = read_input(alloc, reader)?;
-    let taken = take_input::<A, W>(alloc, writer, tables, input.as_slice());
+    let taken = take_input::<A, T, W>(alloc, writer, tables, input.as_slice());
     if let Err(Stop::BadLine(number)) = taken {
         let text = bad_line_text(alloc, number)?;
         writer.write_all(text.as_slice())?;
@@ -89,10 +101,10 @@ fn is_too_large(input: &[u8]) -> bool {
     input.len() as u64 > MAX_INPUT
 }
 
-fn take_input<A: Actions, W: Write>(
+fn take_input<A: Actions, T: Transforms, W: Write>(
     alloc: Global,
     writer: &mut W,
-    tables: &Tables<A::Stored>,
+    tables: &Handed<A, T>,
     input: &[u8],
 ) -> Result<(), Stop> {
     if is_too_large(input) {
@@ -101,30 +113,31 @@ fn take_input<A: Actions, W: Write>(
     let mut folder = MemoryFolder::new(alloc);
     let mut lines_before = 0u64;
     for line in input.split(|byte| *byte == b'\n') {
-        take_line::<A, MemoryFolder, W>(alloc, &mut folder, writer, tables, line, lines_before)?;
+        take_line::<A, T, MemoryFolder, W>(alloc, &mut folder, writer, tables, line, lines_before)?;
         lines_before = lines_before.saturating_add(1);
     }
     Ok(())
 }
 
 /// Takes a line, with as many lines before it.
-fn take_line<A: Actions, F: Folder, W: Write>(
+fn take_line<A: Actions, T: Transforms, F: Folder, W: Write>(
     alloc: Global,
     folder: &mut F,
     writer: &mut W,
-    tables: &Tables<A::Stored>,
+    tables: &Handed<A, T>,
     line: &[u8],
     lines_before: u64,
 ) -> Result<(), Stop> {
     let line = read_numbered(alloc, line, lines_before)?;
-    let text = line_text::<A, F>(alloc, folder, tables, line)?;
+    let text = line_text::<A, T, F>(alloc, folder, tables, line)?;
     writer.write_all(text.as_slice())?;
     Ok(())
 }
 
 /// Reads a line, and counts it from 1 where it is none.
 fn read_numbered(alloc: Global, line: &[u8], lines_before: u64) -> Result<Line, Stop>
-    ensures { IfErr result (λ stop. (stop ≡ stops.OutOfMemory) ⊎ (stop ≡ stops.BadLine (min (lines_before + 1) (2 ^ 64 - 1)))) }
+    ensures { IfErr result (λ stop. (stop ≡ stops.OutOfMemory)
+        ⊎ (stop ≡ stops.BadLine (min (lines_before + 1) (2 ^ 64 - 1)))) }
 {
     match read_line(alloc, line) {
         Ok(line) => Ok(line),
@@ -134,36 +147,36 @@ fn read_numbered(alloc: Global, line: &[u8], lines_before: u64) -> Result<Line, 
 }
 
 /// Does what a line says, and answers what is printed of it.
-fn line_text<A: Actions, F: Folder>(
+fn line_text<A: Actions, T: Transforms, F: Folder>(
     alloc: Global,
     folder: &mut F,
-    tables: &Tables<A::Stored>,
+    tables: &Handed<A, T>,
     line: Line,
 ) -> Result<Vec<u8>, Stop> {
     match line {
         Line::Empty => Ok(Vec::new(alloc)),
-        Line::Put(place, bytes) => event_text::<A, F>(
+        Line::Put(place, bytes) => event_text::<A, T, F>(
             alloc,
             folder,
             tables,
             Event::Put(place, bytes),
         ),
-        Line::Remove(place) => event_text::<A, F>(alloc, folder, tables, Event::Remove(place)),
-        Line::Lost => event_text::<A, F>(alloc, folder, tables, Event::Lost),
-        Line::Run(words) => build_text::<A, F>(alloc, folder, tables, words),
+        Line::Remove(place) => event_text::<A, T, F>(alloc, folder, tables, Event::Remove(place)),
+        Line::Lost => event_text::<A, T, F>(alloc, folder, tables, Event::Lost),
+        Line::Run(words) => build_text::<A, T, F>(alloc, folder, tables, words),
         Line::Show(place) => shown_files(alloc, folder, &place),
     }
 }
 
 /// Builds what the words ask for.
-fn build_text<A: Actions, F: Folder>(
+fn build_text<A: Actions, T: Transforms, F: Folder>(
     alloc: Global,
     folder: &mut F,
-    tables: &Tables<A::Stored>,
+    tables: &Handed<A, T>,
     words: Vec<String>,
 ) -> Result<Vec<u8>, Stop> {
-    match Invocation::read(alloc, words) {
-        Ok(invocation) => event_text::<A, F>(alloc, folder, tables, Event::Invoke(invocation)),
+    match read(alloc, words) {
+        Ok(invocation) => event_text::<A, T, F>(alloc, folder, tables, Event::Invoke(invocation)),
         Err(fault) => Ok(fault_text(alloc, fault)?),
     }
 }
@@ -177,13 +190,14 @@ fn fault_text(alloc: Global, fault: Fault) -> Result<Vec<u8>, AllocError>
     text
 }
 
-fn event_text<A: Actions, F: Folder>(
+fn event_text<A: Actions, T: Transforms, F: Folder>(
     alloc: Global,
     folder: &mut F,
-    tables: &Tables<A::Stored>,
+    tables: &Handed<A, T>,
     event: Event,
 ) -> Result<Vec<u8>, Stop> {
-    let answers = run_events::<A, F>(alloc, folder, tables, &[event])?;
+    let mut listeners: Vec<Recorder> = Vec::new(alloc);
+    let answers = run_events::<A, T, F, Recorder>(alloc, folder, tables, &[event], &mut listeners)?;
     match answers.as_slice().first() {
         Some(answer) => Ok(answer_text(alloc, answer)?),
         None => Ok(Vec::new(alloc)),

@@ -3,6 +3,7 @@ ghost use Rattle.std.specs.Prelude.{◌≡◌};
 
 use gb_action::table::TableFault;
 use gb_folder::folder::FolderFault;
+use gb_provider::fault as provider;
 use std::alloc::{AllocError, AllocFailed};
 use std::io;
 use thiserror::Error;
@@ -57,6 +58,17 @@ impl From<TableFault> for Stop {
 
     /// The table of the built-in actions is refused for want of memory alone.
     fn from(_fault: TableFault) -> Stop {
+        Stop::OutOfMemory
+    }
+}
+
+impl From<provider::TableFault> for Stop {
+    ghost use Rattle.gb_replay.specs.declared.stop.Stop.TheVariants.{OutOfMemory};
+
+    ghost from_gives = { λ _ stop. stop ≡ OutOfMemory };
+
+    /// So is that of the functions of values.
+    fn from(_fault: provider::TableFault) -> Stop {
         Stop::OutOfMemory
     }
 }

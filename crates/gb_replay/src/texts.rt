@@ -3,7 +3,7 @@ ghost use Rattle.std.specs.Prelude.{◌≡◌, IfOk};
 ghost use Rattle.gb_replay.specs.Texts.{answer_text};
 
 use gb_answer::answer::{not_built_text, refusal_text};
-use gb_build::events::Answer;
+use gb_meaning::events::Answer;
 use gb_report::render::render;
 use std::alloc::{AllocError, Global};
 

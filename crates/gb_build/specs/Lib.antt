@@ -1,6 +1,0 @@
-pub mod Words
-pub mod Scripts
-pub mod Build
-pub mod Edits
-pub mod Events
-pub mod Blame

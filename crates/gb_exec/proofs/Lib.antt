@@ -1,5 +1,0 @@
-pub mod Placing
-pub mod Endings
-pub mod Scratched
-pub mod Rows
-pub mod ByText

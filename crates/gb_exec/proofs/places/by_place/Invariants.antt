@@ -1,7 +1,0 @@
-use Rattle.std.proofs.Common.{◌≡◌, [], drop}
-use Rattle.gb_exec.specs.Making.{placed, put_over}
-use Rattle.gb_exec.specs.Texts.{files_in}
-use Rattle.gb_exec.proofs.places.by_place.Given as goal
-
-abbrev pub invariant-loop-file : goal.invariant-loop-file
-invariant-loop-file l = put_over (files_in l.files) (placed l.outputs (drop l.file-index l.writes)) ≡ put_over [] (placed l.outputs l.writes)

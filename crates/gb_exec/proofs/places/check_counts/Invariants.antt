@@ -1,6 +1,0 @@
-use Rattle.std.proofs.Common.{◌≡◌, drop}
-use Rattle.gb_exec.specs.Making.{count_faults}
-use Rattle.gb_exec.proofs.places.check_counts.Given as goal
-
-abbrev pub invariant-loop-output : goal.invariant-loop-output
-invariant-loop-output l = count_faults (drop l.output-index l.outputs) l.taken ≡ count_faults l.outputs l.taken
