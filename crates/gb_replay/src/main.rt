@@ -18,6 +18,8 @@ use gb_registry::tables::Tables;
 use std::io::{self, BufWriter};
 use std::process::ExitCode;
 
+#[cfg(test)]
+mod guide;
 mod line;
 mod replay;
 #[cfg(test)]

@@ -1,4 +1,5 @@
 //! Whole replays, and what fails outside.
+use crate::guide::{EXAMPLES_1, EXAMPLES_2, EXAMPLES_3, EXAMPLES_4, EXAMPLES_5};
 use crate::replay::{Handed, replay};
 use crate::rows::{LINES, PLAIN};
 use crate::script_rows::{DECLARED, REBUILT};
@@ -92,6 +93,31 @@ fn what_tasks_declare(rt: HostRuntime) -> Result<(), Fail> {
 #[test]
 fn what_is_built_again(rt: HostRuntime) -> Result<(), Fail> {
     hold(rt.alloc(), &REBUILT)
+}
+
+#[test]
+fn the_guide_begins(rt: HostRuntime) -> Result<(), Fail> {
+    hold(rt.alloc(), &EXAMPLES_1)
+}
+
+#[test]
+fn the_guide_wires_tasks(rt: HostRuntime) -> Result<(), Fail> {
+    hold(rt.alloc(), &EXAMPLES_2)
+}
+
+#[test]
+fn the_guide_makes_values(rt: HostRuntime) -> Result<(), Fail> {
+    hold(rt.alloc(), &EXAMPLES_3)
+}
+
+#[test]
+fn the_guide_acts_by_kinds(rt: HostRuntime) -> Result<(), Fail> {
+    hold(rt.alloc(), &EXAMPLES_4)
+}
+
+#[test]
+fn the_guide_tells_outcomes(rt: HostRuntime) -> Result<(), Fail> {
+    hold(rt.alloc(), &EXAMPLES_5)
 }
 
 /// Lines that are none.
