@@ -109,8 +109,7 @@ pub fn told_beside<A: Actions, T: Transforms, F: Folder, L: TaskListener>(
     listeners: &mut Vec<L>,
 ) -> Result<String, Fail> {
     let events = vec![in alloc; event(alloc, words, "")?]?;
-    let answers =
-        run_events::<A, T, F, L>(alloc, folder, tables, events.as_slice(), listeners)?;
+    let answers = run_events::<A, T, F, L>(alloc, folder, tables, events.as_slice(), listeners)?;
     match answers.as_slice() {
         [answer] => told(alloc, answer),
         _ => Err(Fail::new("another count of answers")),

@@ -17,12 +17,13 @@ register b : writeText(\"B\") { outputFile out = file(\"build/y\") }";
 
 const SCRIPTED: [Step<'static>; 1] = [("put build.gb", SCRIPT, "")];
 
-const EXECUTED: &str =
-    "> Task :a\n> Task :b\nBUILD SUCCESSFUL\n2 actionable tasks: 2 executed\n";
+const EXECUTED: &str = "> Task :a\n> Task :b\nBUILD SUCCESSFUL\n2 actionable tasks: 2 executed\n";
 
-const REFUSED: &str = "> Task :a\n> Task :b\nFAILED listener: 91 listener refused\nBUILD FAILED\n2 actionable tasks: 2 executed\n";
+const REFUSED: &str =
+    "> Task :a\n> Task :b\nFAILED listener: 91 listener refused\nBUILD FAILED\n2 actionable tasks: 2 executed\n";
 
-const UP_TO_DATE: &str = "> Task :a UP-TO-DATE\n> Task :b UP-TO-DATE\nBUILD SUCCESSFUL\n2 actionable tasks: 2 up-to-date\n";
+const UP_TO_DATE: &str =
+    "> Task :a UP-TO-DATE\n> Task :b UP-TO-DATE\nBUILD SUCCESSFUL\n2 actionable tasks: 2 up-to-date\n";
 
 const HEARD: &str = "start :a\nexecuted :a\nstart :b\nexecuted :b\n";
 
@@ -36,21 +37,23 @@ fn scripted<A: Actions, T: Transforms>(
     Ok(folder)
 }
 
-/// Fails where the first task is built again though one has heard that it was executed.
-fn is_kept(heard: &str, again: &str) -> Result<(), Fail> {
-    if !heard.contains("executed :a\n") || again.starts_with("> Task :a UP-TO-DATE\n") {
-        Ok(())
+/// Tells whether one has heard that the first task was executed. Fails where it is built again then.
+fn is_kept(heard: &str, again: &str) -> Result<bool, Fail> {
+    let is_heard = heard.contains("executed :a\n");
+    if !is_heard || again.starts_with("> Task :a UP-TO-DATE\n") {
+        Ok(is_heard)
     } else {
         Err(Fail::new(again))
     }
 }
 
-/// What is told of a build whose device stops at a call, where what was heard of it is so afterwards.
+/// What is told of a build whose device stops at a call, and whether one has heard that its first task was
+/// executed. Fails where that is not so for the build behind it.
 fn stopped<A: Actions, T: Transforms>(
     alloc: Global,
     tables: &Handed<A, T>,
     at: u64,
-) -> Result<String, Fail> {
+) -> Result<(String, bool), Fail> {
     let mut faulty = FaultyFolder::new(scripted::<A, T>(alloc, tables)?, at, FaultMode::Stop);
     let mut listeners = vec![in alloc; Recorder::new(alloc)]?;
     let text = told_beside::<A, T, FaultyFolder<MemoryFolder>, Recorder>(
@@ -62,15 +65,8 @@ fn stopped<A: Actions, T: Transforms>(
     )?;
     let mut folder = faulty.into_inner();
     let again = told_of::<A, T, MemoryFolder>(alloc, &mut folder, tables, "run a b")?;
-    is_kept(heard_by_first(alloc, listeners.as_slice())?.as_str(), again.as_str())?;
-    Ok(text)
-}
-
-fn heard_by_first<L: TaskListener>(alloc: Global, listeners: &[L]) -> Result<String, Fail> {
-    match listeners.first() {
-        Some(listener) => heard_text(alloc, listener.heard()),
-        None => Err(Fail::new("no listener")),
-    }
+    let heard = heard_by_last(alloc, listeners.as_slice())?;
+    Ok((text, is_kept(heard.as_str(), again.as_str())?))
 }
 
 fn heard_by_last<L: TaskListener>(alloc: Global, listeners: &[L]) -> Result<String, Fail> {
@@ -80,11 +76,16 @@ fn heard_by_last<L: TaskListener>(alloc: Global, listeners: &[L]) -> Result<Stri
     }
 }
 
-/// Stops a build at each of its calls.
-fn all_stops<A: Actions, T: Transforms>(alloc: Global, tables: &Handed<A, T>) -> Result<(), Fail> {
+/// Stops a build at each of its calls, and tells how many of them come behind the end of its first task.
+fn all_stops<A: Actions, T: Transforms>(alloc: Global, tables: &Handed<A, T>) -> Result<u64, Fail> {
+    let mut behind = 0u64;
     for at in 1..200u64 {
-        if stopped::<A, T>(alloc, tables, at)?.as_str() == EXECUTED {
-            return Ok(());
+        let (text, is_heard) = stopped::<A, T>(alloc, tables, at)?;
+        if text.as_str() == EXECUTED {
+            return Ok(behind);
+        }
+        if is_heard {
+            behind = behind.saturating_add(1);
         }
     }
     Err(Fail::new("the build does not end"))
@@ -94,7 +95,11 @@ fn all_stops<A: Actions, T: Transforms>(alloc: Global, tables: &Handed<A, T>) ->
 fn what_was_heard_is_so_after_a_stop(rt: HostRuntime) -> Result<(), Fail> {
     let alloc = rt.alloc();
     let tables = offered(alloc)?;
-    all_stops::<Builtin, Builtin>(alloc, &tables)
+    if all_stops::<Builtin, Builtin>(alloc, &tables)? > 0 {
+        Ok(())
+    } else {
+        Err(Fail::new("no stop behind the end of a task"))
+    }
 }
 
 /// Fails where a listener that refuses a call changes more of a build than its success.
@@ -119,9 +124,18 @@ fn builds_alike<A: Actions, T: Transforms, L: TaskListener>(
     expected: &str,
 ) -> Result<(), Fail> {
     let mut folder = scripted::<A, T>(alloc, tables)?;
-    let text = told_beside::<A, T, MemoryFolder, L>(alloc, &mut folder, tables, "run a b", listeners)?;
+    let text = told_beside::<A, T, MemoryFolder, L>(
+        alloc,
+        &mut folder,
+        tables,
+        "run a b",
+        listeners,
+    )?;
     is_told(expected, text.as_str())?;
-    is_told("build/x=A build/y=B", held(alloc, &mut folder, "build")?.as_str())?;
+    is_told(
+        "build/x=A build/y=B",
+        held(alloc, &mut folder, "build")?.as_str(),
+    )?;
     let again = told_of::<A, T, MemoryFolder>(alloc, &mut folder, tables, "run a b")?;
     is_told(UP_TO_DATE, again.as_str())
 }

@@ -1,4 +1,5 @@
-//! Tests of `gb_events` and `gb_invocation`, apart from them, so that their proofs are not paid for once more with them.
+//! Tests of `gb_events` and `gb_invocation`, apart from them, so that their proofs are not paid for once more
+//! with them.
 #![tactic(auto)]
 
 #[cfg(test)]

@@ -1,6 +1,7 @@
 //! A listener that refuses one of its calls, and what listeners hear.
-ghost use Rattle.std.specs.Prelude.{◌≡◌, ◌≤◌, OnErr, OnOk};
-ghost use Rattle.gb_listen.specs.Telling.{Refuses};
+ghost use Rattle.std.specs.Prelude.{◌≡◌, ◌≤◌, ◌++◌, [], ◌∷◌, OnErr, OnOk};
+ghost use Rattle.gb_folder.specs.Files.{HasRisen};
+ghost use Rattle.gb_report.specs.declared.report.Heard.TheVariants.{Start, End};
 
 use gb_core::path::TaskPath;
 use gb_listen::listener::{Recorder, TaskListener};
@@ -38,13 +39,39 @@ impl Refusing {
         self.calls == self.at
     }
 
+    fn hear_start(&mut self, alloc: Global, task: &TaskPath) -> Result<(), AllocError>
+        ensures ok { OnOk result (self.new.recorder.0 ≡ self.old.recorder.0 ++ Start task.now ∷ []) }
+        ensures err { OnErr result (self.new.recorder.0 ≡ self.old.recorder.0) }
+        ensures refusals { self.new.refusals ≡ self.old.refusals }
+    {
+        if self.refuses() {
+            return Err(AllocError);
+        }
+        self.recorder.before_execute(alloc, task)
+    }
+
+    fn hear_end(
+        &mut self,
+        alloc: Global,
+        task: &TaskPath,
+        outcome: &Outcome,
+    ) -> Result<(), AllocError>
+        ensures ok { OnOk result
+            (self.new.recorder.0 ≡ self.old.recorder.0 ++ End task.now outcome.now ∷ []) }
+        ensures err { OnErr result (self.new.recorder.0 ≡ self.old.recorder.0) }
+        ensures refusals { self.new.refusals ≡ self.old.refusals }
+    {
+        if self.refuses() {
+            return Err(AllocError);
+        }
+        self.recorder.after_execute(alloc, task, outcome)
+    }
+
     /// Counts a call that was refused.
     fn count(&mut self, kept: &Result<(), AllocError>)
         ensures recorder { self.new.recorder ≡ self.old.recorder }
         ensures count { self.old.refusals ≤ self.new.refusals }
-        ensures ok { OnOk kept.now (self.new.refusals ≡ self.old.refusals) }
-        ensures err { OnErr kept.now (Refuses
-            (self.old.recorder.0, self.old.refusals) (self.new.recorder.0, self.new.refusals)) }
+        ensures rose { OnErr kept.now (HasRisen self.old.refusals self.new.refusals) }
     {
         if kept.is_err() {
             self.refusals = self.refusals.saturating_add(1);
@@ -56,11 +83,7 @@ impl TaskListener for Refusing {
     ghost ear = { λ r. (r.recorder.0, r.refusals) };
 
     fn before_execute(&mut self, alloc: Global, task: &TaskPath) -> Result<(), AllocError> {
-        let kept = if self.refuses() {
-            Err(AllocError)
-        } else {
-            self.recorder.before_execute(alloc, task)
-        };
+        let kept = self.hear_start(alloc, task);
         self.count(&kept);
         kept
     }
@@ -71,11 +94,7 @@ impl TaskListener for Refusing {
         task: &TaskPath,
         outcome: &Outcome,
     ) -> Result<(), AllocError> {
-        let kept = if self.refuses() {
-            Err(AllocError)
-        } else {
-            self.recorder.after_execute(alloc, task, outcome)
-        };
+        let kept = self.hear_end(alloc, task, outcome);
         self.count(&kept);
         kept
     }

@@ -50,7 +50,11 @@ const UNTIL_LOST: [Step<'static>; 7] = [
     ("put build.gb", SCRIPT, ""),
     ("run gen", "", EXECUTED),
     ("put .gb/x", "x", "94 own state .gb/x"),
-    ("del .gb/tasks/gen.record", "", "94 own state .gb/tasks/gen.record"),
+    (
+        "del .gb/tasks/gen.record",
+        "",
+        "94 own state .gb/tasks/gen.record",
+    ),
     ("put .gb", "x", "94 own state .gb"),
     ("run gen", "", UP_TO_DATE),
     ("lost", "", ""),
@@ -71,7 +75,10 @@ fn is_lost<A: Actions, T: Transforms>(alloc: Global, tables: &Handed<A, T>) -> R
     let mut folder = MemoryFolder::new(alloc);
     go_on::<A, T, MemoryFolder>(alloc, &mut folder, tables, &UNTIL_LOST)?;
     is_told("", held(alloc, &mut folder, ".gb")?.as_str())?;
-    is_told("build/a.txt=abc", held(alloc, &mut folder, "build")?.as_str())?;
+    is_told(
+        "build/a.txt=abc",
+        held(alloc, &mut folder, "build")?.as_str(),
+    )?;
     go_on::<A, T, MemoryFolder>(alloc, &mut folder, tables, &ONCE_LOST)
 }
 

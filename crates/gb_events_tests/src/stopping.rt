@@ -10,7 +10,8 @@ use std::alloc::Global;
 use std::test::Fail;
 
 /// A task that copies files, where there are any.
-const SCRIPT: &str = "register cp : copyFiles { inputFiles src incremental skipWhenEmpty from dir(\"src\") outputDir out = buildDir.map(child(\"o\")) }";
+const SCRIPT: &str =
+    "register cp : copyFiles { inputFiles src incremental skipWhenEmpty from dir(\"src\") outputDir out = buildDir.map(child(\"o\")) }";
 
 /// The first build, of three files.
 const FIRST: [Step<'static>; 5] = [
@@ -200,7 +201,7 @@ fn blames(text: &str) -> Result<(), Fail> {
     }
 }
 
-/// Stops a build at each of its calls, and tells how many there are.
+/// Stops a build at each of its calls, and tells the number of the first call that it does not make.
 fn calls<A: Actions, T: Transforms>(
     alloc: Global,
     tables: &Handed<A, T>,
@@ -212,14 +213,14 @@ fn calls<A: Actions, T: Transforms>(
         let mode = mode(alloc, kind, torn)?;
         let text = stopped::<A, T>(alloc, tables, trial, at, mode)?;
         if text.as_str() == trial.told {
-            return Ok(at - 1);
+            return Ok(at);
         }
         blames(text.as_str())?;
     }
     Err(Fail::new("the build does not end"))
 }
 
-/// Stops a build at each of its calls in each of these ways, and fails where it has fewer calls in one of them.
+/// Stops a build at each of its calls in each of these ways, and fails where one of them goes unseen.
 fn all_stops<A: Actions, T: Transforms>(
     alloc: Global,
     tables: &Handed<A, T>,
