@@ -1,0 +1,157 @@
+//! Events over a folder, and what becomes of it.
+use crate::offering::Handed;
+use gb_action::actions::Actions;
+use gb_core::bytes::Bytes;
+use gb_core::place::Place;
+use gb_events::events::run_events;
+use gb_folder::folder::Folder;
+use gb_folder::memory::MemoryFolder;
+use gb_listen::listener::{Recorder, TaskListener};
+use gb_meaning::events::{Answer, Event};
+use gb_provider::transforms::Transforms;
+use gb_report::render::{render, render_fault};
+use gb_words::words::read;
+use std::alloc::Global;
+use std::test::Fail;
+
+/// `put PLACE`, a text that is put there, and what is told of it; or `del PLACE`, `lost` or `run WORD..`,
+/// without a text. Nothing is told of an edit that is done.
+pub type Step<'a> = (&'a str, &'a str, &'a str);
+
+fn words_of(alloc: Global, line: &str) -> Result<Vec<String>, Fail> {
+    let mut words = Vec::new(alloc);
+    for word in line.split_whitespace() {
+        words.push(String::from_str(alloc, word)?)?;
+    }
+    Ok(words)
+}
+
+fn put(alloc: Global, place: &str, text: &str) -> Result<Event, Fail> {
+    let place = Place::read(alloc, place)?;
+    Ok(Event::Put(place, Bytes::from_slice(alloc, text.as_bytes())?))
+}
+
+fn run(alloc: Global, words: &str) -> Result<Event, Fail> {
+    Ok(Event::Invoke(read(alloc, words_of(alloc, words)?)?))
+}
+
+/// The event of these words.
+fn event(alloc: Global, words: &str, text: &str) -> Result<Event, Fail> {
+    let (verb, rest) = words.split_once(' ').unwrap_or((words, ""));
+    match verb {
+        "put" => put(alloc, rest, text),
+        "del" => Ok(Event::Remove(Place::read(alloc, rest)?)),
+        "run" => run(alloc, rest),
+        _ => Ok(Event::Lost),
+    }
+}
+
+fn events(alloc: Global, steps: &[Step<'_>]) -> Result<Vec<Event>, Fail> {
+    let mut events = Vec::new(alloc);
+    for step in steps {
+        events.push(event(alloc, step.0, step.1)?)?;
+    }
+    Ok(events)
+}
+
+/// What is printed of a build, and the fault of what is refused.
+fn told(alloc: Global, answer: &Answer) -> Result<String, Fail> {
+    let bytes = match answer {
+        Answer::Edited => Vec::new(alloc),
+        Answer::Refused(fault) | Answer::NotBuilt(fault) => render_fault(alloc, fault)?,
+        Answer::Built(report) => render(alloc, report)?,
+    };
+    Ok(String::from_utf8(bytes)?)
+}
+
+/// Fails at the first answer that tells something else than its step.
+fn are_told(alloc: Global, steps: &[Step<'_>], answers: &[Answer]) -> Result<(), Fail> {
+    for (step, answer) in steps.iter().zip(answers.iter()) {
+        is_told(step.2, told(alloc, answer)?.as_str())?;
+    }
+    Ok(())
+}
+
+/// Fails where something else is told.
+pub fn is_told(expected: &str, told: &str) -> Result<(), Fail> {
+    if told == expected {
+        Ok(())
+    } else {
+        Err(Fail::new(told))
+    }
+}
+
+/// Takes these steps, and fails at the first that tells something else.
+pub fn go_on<A: Actions, T: Transforms, F: Folder>(
+    alloc: Global,
+    folder: &mut F,
+    tables: &Handed<A, T>,
+    steps: &[Step<'_>],
+) -> Result<(), Fail> {
+    let events = events(alloc, steps)?;
+    let mut listeners: Vec<Recorder> = Vec::new(alloc);
+    let answers = run_events::<A, T, F, Recorder>(
+        alloc,
+        folder,
+        tables,
+        events.as_slice(),
+        &mut listeners,
+    )?;
+    are_told(alloc, steps, answers.as_slice())
+}
+
+/// What is told of these words to the one who asks, while others listen.
+pub fn told_beside<A: Actions, T: Transforms, F: Folder, L: TaskListener>(
+    alloc: Global,
+    folder: &mut F,
+    tables: &Handed<A, T>,
+    words: &str,
+    listeners: &mut Vec<L>,
+) -> Result<String, Fail> {
+    let events = vec![in alloc; event(alloc, words, "")?]?;
+    let answers = run_events::<A, T, F, L>(alloc, folder, tables, events.as_slice(), listeners)?;
+    match answers.as_slice() {
+        [answer] => told(alloc, answer),
+        _ => Err(Fail::new("another count of answers")),
+    }
+}
+
+/// What is told of these words while none listens.
+pub fn told_of<A: Actions, T: Transforms, F: Folder>(
+    alloc: Global,
+    folder: &mut F,
+    tables: &Handed<A, T>,
+    words: &str,
+) -> Result<String, Fail> {
+    let mut listeners: Vec<Recorder> = Vec::new(alloc);
+    told_beside::<A, T, F, Recorder>(alloc, folder, tables, words, &mut listeners)
+}
+
+/// The bytes of a file.
+pub fn bytes_at(alloc: Global, folder: &mut MemoryFolder, place: &str) -> Result<Vec<u8>, Fail> {
+    Ok(folder.read(alloc, &Place::read(alloc, place)?, 1_048_576)?)
+}
+
+/// The files beneath a place with their texts, as `PLACE=TEXT`, with blanks between them.
+pub fn held(alloc: Global, folder: &mut MemoryFolder, root: &str) -> Result<String, Fail> {
+    let mut out = String::new(alloc);
+    let places = folder.list(alloc, &Place::read(alloc, root)?)?;
+    for place in places.iter() {
+        push_file(alloc, folder, place, &mut out)?;
+    }
+    Ok(out)
+}
+
+fn push_file(
+    alloc: Global,
+    folder: &mut MemoryFolder,
+    place: &Place,
+    out: &mut String,
+) -> Result<(), Fail> {
+    let text = String::from_utf8(folder.read(alloc, place, 1_048_576)?)?;
+    out.push_str(if out.is_empty() { "" } else { " " })?;
+    out.push_str(place.as_str())?;
+    out.push_str("=")?;
+    out.push_str(text.as_str())?;
+    Ok(())
+}

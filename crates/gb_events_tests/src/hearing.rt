@@ -1,0 +1,159 @@
+//! What listeners hear of builds of two tasks, over a device that fails and beside one that refuses.
+use crate::building::{Step, go_on, held, is_told, told_beside, told_of};
+use crate::listening::{Refusing, heard_text};
+use crate::offering::{Handed, offered};
+use gb_action::actions::Actions;
+use gb_folder::faulty::{FaultMode, FaultyFolder};
+use gb_folder::memory::MemoryFolder;
+use gb_kinds::builtin::Builtin;
+use gb_listen::listener::{Recorder, TaskListener};
+use gb_provider::transforms::Transforms;
+use std::alloc::Global;
+use std::test::Fail;
+
+/// Two tasks that write a text each.
+const SCRIPT: &str = "register a : writeText(\"A\") { outputFile out = file(\"build/x\") }
+register b : writeText(\"B\") { outputFile out = file(\"build/y\") }";
+
+const SCRIPTED: [Step<'static>; 1] = [("put build.gb", SCRIPT, "")];
+
+const EXECUTED: &str = "> Task :a\n> Task :b\nBUILD SUCCESSFUL\n2 actionable tasks: 2 executed\n";
+
+const REFUSED: &str =
+    "> Task :a\n> Task :b\nFAILED listener: 91 listener refused\nBUILD FAILED\n2 actionable tasks: 2 executed\n";
+
+const UP_TO_DATE: &str =
+    "> Task :a UP-TO-DATE\n> Task :b UP-TO-DATE\nBUILD SUCCESSFUL\n2 actionable tasks: 2 up-to-date\n";
+
+const HEARD: &str = "start :a\nexecuted :a\nstart :b\nexecuted :b\n";
+
+/// A folder with the script alone.
+fn scripted<A: Actions, T: Transforms>(
+    alloc: Global,
+    tables: &Handed<A, T>,
+) -> Result<MemoryFolder, Fail> {
+    let mut folder = MemoryFolder::new(alloc);
+    go_on::<A, T, MemoryFolder>(alloc, &mut folder, tables, &SCRIPTED)?;
+    Ok(folder)
+}
+
+/// Tells whether one has heard that the first task was executed. Fails where it is built again then.
+fn is_kept(heard: &str, again: &str) -> Result<bool, Fail> {
+    let is_heard = heard.contains("executed :a\n");
+    if !is_heard || again.starts_with("> Task :a UP-TO-DATE\n") {
+        Ok(is_heard)
+    } else {
+        Err(Fail::new(again))
+    }
+}
+
+/// What is told of a build whose device stops at a call, and whether one has heard that its first task was
+/// executed. Fails where that is not so for the build behind it.
+fn stopped<A: Actions, T: Transforms>(
+    alloc: Global,
+    tables: &Handed<A, T>,
+    at: u64,
+) -> Result<(String, bool), Fail> {
+    let mut faulty = FaultyFolder::new(scripted::<A, T>(alloc, tables)?, at, FaultMode::Stop);
+    let mut listeners = vec![in alloc; Recorder::new(alloc)]?;
+    let text = told_beside::<A, T, FaultyFolder<MemoryFolder>, Recorder>(
+        alloc,
+        &mut faulty,
+        tables,
+        "run a b",
+        &mut listeners,
+    )?;
+    let mut folder = faulty.into_inner();
+    let again = told_of::<A, T, MemoryFolder>(alloc, &mut folder, tables, "run a b")?;
+    let heard = heard_by_last(alloc, listeners.as_slice())?;
+    Ok((text, is_kept(heard.as_str(), again.as_str())?))
+}
+
+fn heard_by_last<L: TaskListener>(alloc: Global, listeners: &[L]) -> Result<String, Fail> {
+    match listeners.last() {
+        Some(listener) => heard_text(alloc, listener.heard()),
+        None => Err(Fail::new("no listener")),
+    }
+}
+
+/// Stops a build at each of its calls, and tells how many of them come behind the end of its first task.
+fn all_stops<A: Actions, T: Transforms>(alloc: Global, tables: &Handed<A, T>) -> Result<u64, Fail> {
+    let mut behind = 0u64;
+    for at in 1..200u64 {
+        let (text, is_heard) = stopped::<A, T>(alloc, tables, at)?;
+        if text.as_str() == EXECUTED {
+            return Ok(behind);
+        }
+        if is_heard {
+            behind = behind.saturating_add(1);
+        }
+    }
+    Err(Fail::new("the build does not end"))
+}
+
+#[test]
+fn what_was_heard_is_so_after_a_stop(rt: HostRuntime) -> Result<(), Fail> {
+    let alloc = rt.alloc();
+    let tables = offered(alloc)?;
+    if all_stops::<Builtin, Builtin>(alloc, &tables)? > 0 {
+        Ok(())
+    } else {
+        Err(Fail::new("no stop behind the end of a task"))
+    }
+}
+
+/// Fails where a listener that refuses a call changes more of a build than its success.
+fn refused<A: Actions, T: Transforms>(
+    alloc: Global,
+    tables: &Handed<A, T>,
+    at: u64,
+    expected: &str,
+) -> Result<(), Fail> {
+    let mut listeners = Vec::<Box<dyn TaskListener>>::new(alloc);
+    listeners.push(Box::new(alloc, Refusing::new(alloc, at))?)?;
+    listeners.push(Box::new(alloc, Recorder::new(alloc))?)?;
+    builds_alike::<A, T, Box<dyn TaskListener>>(alloc, tables, &mut listeners, expected)?;
+    is_told(HEARD, heard_by_last(alloc, listeners.as_slice())?.as_str())
+}
+
+/// Fails where a build beside these listeners prints something else, or leaves anything else to be done.
+fn builds_alike<A: Actions, T: Transforms, L: TaskListener>(
+    alloc: Global,
+    tables: &Handed<A, T>,
+    listeners: &mut Vec<L>,
+    expected: &str,
+) -> Result<(), Fail> {
+    let mut folder = scripted::<A, T>(alloc, tables)?;
+    let text = told_beside::<A, T, MemoryFolder, L>(
+        alloc,
+        &mut folder,
+        tables,
+        "run a b",
+        listeners,
+    )?;
+    is_told(expected, text.as_str())?;
+    is_told(
+        "build/x=A build/y=B",
+        held(alloc, &mut folder, "build")?.as_str(),
+    )?;
+    let again = told_of::<A, T, MemoryFolder>(alloc, &mut folder, tables, "run a b")?;
+    is_told(UP_TO_DATE, again.as_str())
+}
+
+/// Refuses each of the four calls, and then none.
+fn all_refusals<A: Actions, T: Transforms>(
+    alloc: Global,
+    tables: &Handed<A, T>,
+) -> Result<(), Fail> {
+    for at in 1..5u64 {
+        refused::<A, T>(alloc, tables, at, REFUSED)?;
+    }
+    refused::<A, T>(alloc, tables, 5, EXECUTED)
+}
+
+#[test]
+fn one_that_refuses_changes_only_the_success(rt: HostRuntime) -> Result<(), Fail> {
+    let alloc = rt.alloc();
+    let tables = offered(alloc)?;
+    all_refusals::<Builtin, Builtin>(alloc, &tables)
+}

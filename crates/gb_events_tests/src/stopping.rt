@@ -1,0 +1,252 @@
+//! Builds over a device that fails at one of their calls, and the builds after them.
+use crate::building::{Step, bytes_at, go_on, held, is_told, told_of};
+use crate::offering::{Handed, offered};
+use gb_action::actions::Actions;
+use gb_folder::faulty::{FaultMode, FaultyFolder};
+use gb_folder::memory::MemoryFolder;
+use gb_kinds::builtin::Builtin;
+use gb_provider::transforms::Transforms;
+use std::alloc::Global;
+use std::test::Fail;
+
+/// A task that copies files, where there are any.
+const SCRIPT: &str =
+    "register cp : copyFiles { inputFiles src incremental skipWhenEmpty from dir(\"src\") outputDir out = buildDir.map(child(\"o\")) }";
+
+/// The first build, of three files.
+const FIRST: [Step<'static>; 5] = [
+    ("put build.gb", SCRIPT, ""),
+    ("put src/a", "A", ""),
+    ("put src/b", "B", ""),
+    ("put src/c", "C", ""),
+    (
+        "run cp",
+        "",
+        "> Task :cp\nADDED a\nADDED b\nADDED c\nBUILD SUCCESSFUL\n1 actionable task: 1 executed\n",
+    ),
+];
+
+/// One file is changed, one is taken away and one is put.
+const CHANGES: [Step<'static>; 3] = [
+    ("put src/a", "X", ""),
+    ("del src/b", "", ""),
+    ("put src/d", "D", ""),
+];
+
+const REMOVALS: [Step<'static>; 3] = [
+    ("del src/a", "", ""),
+    ("del src/b", "", ""),
+    ("del src/c", "", ""),
+];
+
+const CHANGED: &str =
+    "> Task :cp\nMODIFIED a\nREMOVED b\nADDED d\nBUILD SUCCESSFUL\n1 actionable task: 1 executed\n";
+
+const UP_TO_DATE: &str =
+    "> Task :cp UP-TO-DATE\nBUILD SUCCESSFUL\n1 actionable task: 1 up-to-date\n";
+
+const NO_SOURCE: &str = "> Task :cp NO-SOURCE\nBUILD SUCCESSFUL\n";
+
+/// What is tried, and what is to become of it.
+#[derive(Drop)]
+struct Trial<'a> {
+    /// What happens between the first build and the one whose device fails.
+    edits: &'a [Step<'a>],
+    /// What that build prints where no call of it fails.
+    told: &'a str,
+    /// How what the build behind it prints begins.
+    next: &'a str,
+    /// What each later build prints.
+    later: &'a str,
+    /// The files that the edits leave to work on.
+    sources: &'a str,
+    /// The files that are made of them.
+    outputs: &'a str,
+    /// Those among them that no build changes.
+    kept: &'a str,
+}
+
+/// The trial of a build that changes what was made.
+fn of_changes() -> Trial<'static> {
+    Trial {
+        edits: &CHANGES,
+        told: CHANGED,
+        next: "> Task :cp",
+        later: UP_TO_DATE,
+        sources: "src/a=X src/c=C src/d=D",
+        outputs: "build/o/a=X build/o/c=C build/o/d=D",
+        kept: "build/o/c=C",
+    }
+}
+
+/// The trial of a build with nothing to work on.
+fn of_removals() -> Trial<'static> {
+    Trial {
+        edits: &REMOVALS,
+        told: NO_SOURCE,
+        next: NO_SOURCE,
+        later: NO_SOURCE,
+        sources: "",
+        outputs: "",
+        kept: "",
+    }
+}
+
+/// A folder after the first build.
+fn first<A: Actions, T: Transforms>(
+    alloc: Global,
+    tables: &Handed<A, T>,
+) -> Result<MemoryFolder, Fail> {
+    let mut folder = MemoryFolder::new(alloc);
+    go_on::<A, T, MemoryFolder>(alloc, &mut folder, tables, &FIRST)?;
+    Ok(folder)
+}
+
+/// A folder after the first build and the edits of a trial.
+fn edited<A: Actions, T: Transforms>(
+    alloc: Global,
+    tables: &Handed<A, T>,
+    trial: &Trial<'_>,
+) -> Result<MemoryFolder, Fail> {
+    let mut folder = first::<A, T>(alloc, tables)?;
+    go_on::<A, T, MemoryFolder>(alloc, &mut folder, tables, trial.edits)?;
+    Ok(folder)
+}
+
+/// The text of the record that the first build leaves.
+fn record<A: Actions, T: Transforms>(
+    alloc: Global,
+    tables: &Handed<A, T>,
+) -> Result<Vec<u8>, Fail> {
+    let mut folder = first::<A, T>(alloc, tables)?;
+    bytes_at(alloc, &mut folder, ".gb/tasks/cp.record")
+}
+
+/// How a device fails: once, from then on, or from then on where a write leaves the first bytes of a text.
+fn mode(alloc: Global, kind: u64, text: &[u8]) -> Result<FaultMode, Fail> {
+    match kind {
+        0 => Ok(FaultMode::FailOnce),
+        1 => Ok(FaultMode::Stop),
+        2 => Ok(FaultMode::StopTorn(b"{".to_vec(alloc)?)),
+        3 => Ok(FaultMode::StopTorn(Vec::new(alloc))),
+        _ => Ok(FaultMode::StopTorn(text[..text.len() / 2].to_vec(alloc)?)),
+    }
+}
+
+/// Fails where a stopped build has changed something that is not its own.
+fn is_spared(alloc: Global, folder: &mut MemoryFolder, trial: &Trial<'_>) -> Result<(), Fail> {
+    is_told(trial.sources, held(alloc, folder, "src")?.as_str())?;
+    let outputs = held(alloc, folder, "build/o")?;
+    if outputs.as_str().contains(trial.kept) {
+        Ok(())
+    } else {
+        Err(Fail::new(outputs.as_str()))
+    }
+}
+
+/// Fails where the next build does not succeed as it is to.
+fn succeeds<A: Actions, T: Transforms>(
+    alloc: Global,
+    folder: &mut MemoryFolder,
+    tables: &Handed<A, T>,
+    trial: &Trial<'_>,
+) -> Result<(), Fail> {
+    let text = told_of::<A, T, MemoryFolder>(alloc, folder, tables, "run cp")?;
+    if text.starts_with(trial.next) && text.contains("\nBUILD SUCCESSFUL\n") {
+        is_told(trial.outputs, held(alloc, folder, "build/o")?.as_str())
+    } else {
+        Err(Fail::new(text.as_str()))
+    }
+}
+
+/// Fails where the builds behind a stopped one do not make up for it.
+fn recovers<A: Actions, T: Transforms>(
+    alloc: Global,
+    folder: &mut MemoryFolder,
+    tables: &Handed<A, T>,
+    trial: &Trial<'_>,
+) -> Result<(), Fail> {
+    is_spared(alloc, folder, trial)?;
+    succeeds::<A, T>(alloc, folder, tables, trial)?;
+    let text = told_of::<A, T, MemoryFolder>(alloc, folder, tables, "run cp")?;
+    is_told(trial.later, text.as_str())?;
+    is_told(trial.sources, held(alloc, folder, "src")?.as_str())?;
+    is_told(trial.outputs, held(alloc, folder, "build/o")?.as_str())
+}
+
+/// What is told of a build whose device fails at a call, once the builds behind it have made up for it.
+fn stopped<A: Actions, T: Transforms>(
+    alloc: Global,
+    tables: &Handed<A, T>,
+    trial: &Trial<'_>,
+    at: u64,
+    mode: FaultMode,
+) -> Result<String, Fail> {
+    let folder = edited::<A, T>(alloc, tables, trial)?;
+    let mut faulty = FaultyFolder::new(folder, at, mode);
+    let text = told_of::<A, T, FaultyFolder<MemoryFolder>>(alloc, &mut faulty, tables, "run cp")?;
+    let mut folder = faulty.into_inner();
+    recovers::<A, T>(alloc, &mut folder, tables, trial)?;
+    Ok(text)
+}
+
+/// Fails where a text tells something else than that the device failed.
+fn blames(text: &str) -> Result<(), Fail> {
+    let is_refused = text.starts_with("10 ");
+    let is_failed = text.contains("\nFAILED :cp: 10 ") || text.contains("\nFAILED :cp: 90 ");
+    if is_refused || is_failed {
+        Ok(())
+    } else {
+        Err(Fail::new(text))
+    }
+}
+
+/// Stops a build at each of its calls, and tells the number of the first call that it does not make.
+fn calls<A: Actions, T: Transforms>(
+    alloc: Global,
+    tables: &Handed<A, T>,
+    trial: &Trial<'_>,
+    kind: u64,
+    torn: &[u8],
+) -> Result<u64, Fail> {
+    for at in 1..200u64 {
+        let mode = mode(alloc, kind, torn)?;
+        let text = stopped::<A, T>(alloc, tables, trial, at, mode)?;
+        if text.as_str() == trial.told {
+            return Ok(at);
+        }
+        blames(text.as_str())?;
+    }
+    Err(Fail::new("the build does not end"))
+}
+
+/// Stops a build at each of its calls in each of these ways, and fails where one of them goes unseen.
+fn all_stops<A: Actions, T: Transforms>(
+    alloc: Global,
+    tables: &Handed<A, T>,
+    trial: &Trial<'_>,
+    kinds: &[u64],
+) -> Result<(), Fail> {
+    let torn = record::<A, T>(alloc, tables)?;
+    let count = calls::<A, T>(alloc, tables, trial, 1, torn.as_slice())?;
+    for kind in kinds {
+        if calls::<A, T>(alloc, tables, trial, *kind, torn.as_slice())? != count {
+            return Err(Fail::new("another count of calls"));
+        }
+    }
+    Ok(())
+}
+
+#[test]
+fn a_build_makes_up_for_a_stopped_one(rt: HostRuntime) -> Result<(), Fail> {
+    let alloc = rt.alloc();
+    let tables = offered(alloc)?;
+    all_stops::<Builtin, Builtin>(alloc, &tables, &of_changes(), &[0, 2, 3, 4])
+}
+
+#[test]
+fn what_was_made_of_no_source_is_taken_away(rt: HostRuntime) -> Result<(), Fail> {
+    let alloc = rt.alloc();
+    let tables = offered(alloc)?;
+    all_stops::<Builtin, Builtin>(alloc, &tables, &of_removals(), &[2])
+}
