@@ -130,46 +130,12 @@ fn on_disk(rt: &HostRuntime, name: &str, lines: &str) -> Result<String, Fail> {
 }
 
 #[test]
-fn actions_run_in_their_order(rt: HostRuntime) -> Result<(), Fail> {
-    let lines =
-        "put build.gb register hi { doFirst printLine(\"1\") doFirst printLine(\"2\") doLast \
-         printLine(\"3\") doLast printLine(\"4\") }\n\
-         run hi\n\
-         run hi";
-    let want = "> Task :hi\n2\n1\n3\n4\nBUILD SUCCESSFUL\n1 actionable task: 1 executed\n\
-         > Task :hi\n2\n1\n3\n4\nBUILD SUCCESSFUL\n1 actionable task: 1 executed\n";
-    assert_eq!(rt; in_memory(rt.alloc(), lines)?.as_str(), want);
-    assert_eq!(rt; on_disk(&rt, "in_order", lines)?.as_str(), want);
-    Ok(())
-}
-
-#[test]
 fn a_blocked_output_fails_the_task(rt: HostRuntime) -> Result<(), Fail> {
     let lines = format!(in rt.alloc(); "put build x\n{GEN}\nrun gen\nread build")?;
     let want = "> Task :gen FAILED\nFAILED :gen: 12 blocked build/a.txt\nBUILD FAILED\n\
          1 actionable task: 1 executed\nx\n";
     assert_eq!(rt; in_memory(rt.alloc(), lines.as_str())?.as_str(), want);
     assert_eq!(rt; on_disk(&rt, "blocked", lines.as_str())?.as_str(), want);
-    Ok(())
-}
-
-#[test]
-fn empty_scripts_and_tasks_without_actions(rt: HostRuntime) -> Result<(), Fail> {
-    let lines = "put build.gb\nrun\nput build.gb register x { }\nrun x\nrun y";
-    let want = "REFUSED 64 no tasks\nBUILD FAILED\n> Task :x UP-TO-DATE\nBUILD SUCCESSFUL\n\
-         REFUSED 52 task not found y\nBUILD FAILED\n";
-    assert_eq!(rt; in_memory(rt.alloc(), lines)?.as_str(), want);
-    assert_eq!(rt; on_disk(&rt, "empty", lines)?.as_str(), want);
-    Ok(())
-}
-
-#[test]
-fn a_failing_action_fails_the_task(rt: HostRuntime) -> Result<(), Fail> {
-    let lines = "put build.gb register t { doLast printLine(\"a\") doLast fail(\"no\") }\nrun t";
-    let want =
-        "> Task :t FAILED\na\nFAILED :t: 42 no\nBUILD FAILED\n1 actionable task: 1 executed\n";
-    assert_eq!(rt; in_memory(rt.alloc(), lines)?.as_str(), want);
-    assert_eq!(rt; on_disk(&rt, "failing", lines)?.as_str(), want);
     Ok(())
 }
 
@@ -187,15 +153,6 @@ fn one_output_file(rt: HostRuntime) -> Result<(), Fail> {
         on_disk(&rt, "one_output", lines.as_str())?.as_str(),
         want.as_str()
     );
-    Ok(())
-}
-
-#[test]
-fn bad_syntax_is_refused(rt: HostRuntime) -> Result<(), Fail> {
-    let lines = "put build.gb register {\nrun x";
-    let want = "REFUSED 20 syntax build.gb:1\nBUILD FAILED\n";
-    assert_eq!(rt; in_memory(rt.alloc(), lines)?.as_str(), want);
-    assert_eq!(rt; on_disk(&rt, "syntax", lines)?.as_str(), want);
     Ok(())
 }
 

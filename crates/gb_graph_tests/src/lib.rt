@@ -7,10 +7,6 @@ mod asked;
 #[cfg(test)]
 mod cases;
 #[cfg(test)]
-mod drawn;
-#[cfg(test)]
-mod generated;
-#[cfg(test)]
 mod reading;
 #[cfg(test)]
 mod sound_cases;

@@ -5,7 +5,6 @@
 //! (`<`), and the files (`=`) and folders (`/`) that it makes. What is asked for is told by words, as
 //! `a b -c`, of which those behind a hyphen are left out.
 use gb_action::output::Form;
-use gb_checked::answer::{is_planned, is_refused};
 use gb_core::name::Name;
 use gb_core::path::TaskPath;
 use gb_core::place::Place;
@@ -89,69 +88,6 @@ fn told(
     match planned(alloc, tasks, requested, excluded) {
         Ok(plan) => order_text(alloc, plan.as_slice()),
         Err(fault) => fault_text(alloc, &fault),
-    }
-}
-
-/// Whether what is answered, a plan or a fault, is right as plain checks find it.
-pub fn is_answered_right(alloc: Global, line: &str, asked: &str) -> Result<bool, Fail> {
-    let mut tasks = listed(alloc, line)?;
-    is_right_for(alloc, &mut tasks, asked)
-}
-
-fn is_right_for(alloc: Global, tasks: &mut Listed, asked: &str) -> Result<bool, Fail> {
-    let requested = words(alloc, asked, false)?;
-    is_right_without(alloc, tasks, requested.as_slice(), asked)
-}
-
-fn is_right_without(
-    alloc: Global,
-    tasks: &mut Listed,
-    requested: &[Text],
-    asked: &str,
-) -> Result<bool, Fail> {
-    let excluded = words(alloc, asked, true)?;
-    match planned(alloc, tasks, requested, excluded.as_slice()) {
-        Ok(plan) => is_plan_right(
-            alloc,
-            tasks,
-            requested,
-            excluded.as_slice(),
-            plan.as_slice(),
-        ),
-        Err(fault) => is_fault_right(alloc, tasks, requested, excluded.as_slice(), &fault),
-    }
-}
-
-/// Whether a fault is that of what is asked for.
-fn is_fault_right(
-    alloc: Global,
-    tasks: &Listed,
-    requested: &[Text],
-    excluded: &[Text],
-    fault: &Fault,
-) -> Result<bool, Fail> {
-    match is_refused(alloc, tasks, requested, excluded, fault) {
-        Ok(is) => Ok(is),
-        Err(other) => {
-            drop(other);
-            Ok(false)
-        }
-    }
-}
-
-fn is_plan_right(
-    alloc: Global,
-    tasks: &Listed,
-    requested: &[Text],
-    excluded: &[Text],
-    plan: &[Planned],
-) -> Result<bool, Fail> {
-    match is_planned(alloc, tasks, requested, excluded, plan) {
-        Ok(is) => Ok(is),
-        Err(fault) => {
-            drop(fault);
-            Ok(false)
-        }
     }
 }
 

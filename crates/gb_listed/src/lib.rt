@@ -1,7 +1,6 @@
 //! Tasks in a list, for tests and benchmarks of plans.
 #![tactic(auto)]
 
-pub mod checking;
 pub mod declaring;
 mod folder;
 pub mod listed;

@@ -8,6 +8,4 @@
 pub mod faults;
 pub mod listing;
 pub mod removal;
-#[cfg(test)]
-mod tests;
 pub mod writing;

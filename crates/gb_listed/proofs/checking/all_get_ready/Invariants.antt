@@ -1,7 +1,0 @@
-use Rattle.std.proofs.Common.{◌≡◌, [], take, drop}
-use Rattle.gb_plan.specs.Graph.{order, stuck}
-use Rattle.gb_listed.proofs.checking.all_get_ready.Given as goal
-
-abbrev pub invariant-loop-index : goal.invariant-loop-index
-invariant-loop-index l =
-    stuck l.plan (order (take l.index l.plan)) (drop l.index l.plan) ≡ stuck l.plan [] l.plan
