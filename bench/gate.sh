@@ -2,17 +2,17 @@
 # gate.sh: runs the gate at the top of the repository (`rt ci`), and tells where its time went: processor seconds by
 # crate for its proofs, its tests and its wrong edits, and the functions with the largest generated descriptions.
 #
-# Processor time is read off /proc once a second: what a process used in its last second is not counted.
+# Processor time is read off /proc once a second, of the processes of this run alone: what one used in its last
+# second is not counted.
 # Descriptions stand only in crates/*/out of an earlier `rt check`; the gate leaves them as they were.
 set -u
 cd "$(dirname "$0")/.."
 seen=$(mktemp)
-trap 'rm -f "$seen"' EXIT
 ticks=$(getconf CLK_TCK)
 
 sample() { # a line for each process of the prover: its number and start, crate, part, ticks
   local pid words stat
-  for pid in $(pgrep -f '^/[^ ]*/rattle (build|check) '); do
+  for pid in $(pgrep -s "$gate" -f '^/[^ ]*/rattle (build|check) '); do
     { words=$(tr '\0' ' ' <"/proc/$pid/cmdline"); stat=$(sed 's/^.*) //' "/proc/$pid/stat"); } 2>/dev/null
     [ -n "$words" ] && [ -n "$stat" ] || continue
     echo "$pid $words| $stat"
@@ -24,8 +24,9 @@ sample() { # a line for each process of the prover: its number and start, crate,
 }
 
 begin=$(date +%s)
-rt ci &
+setsid rt ci & # a session of its own
 gate=$!
+trap 'kill -- "-$gate" 2>/dev/null; rm -f "$seen"' EXIT
 while kill -0 "$gate" 2>/dev/null; do
   sample >>"$seen"
   sleep 1
