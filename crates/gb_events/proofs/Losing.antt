@@ -31,7 +31,7 @@ use Rattle.gb_plan.specs.Task.{Path, has_path}
 use Rattle.gb_invoke.specs.Leading.{Leads}
 use Rattle.gb_invoke.proofs.Fewer.{are_among}
 use Rattle.gb_invoke.proofs.Leading.{seen_more}
-use Rattle.gb_events.proofs.Outside.{setting_by}
+use Rattle.gb_invocation.proofs.Passing.{setting_by}
 
 -- ---- What stands at a place after a removal that was cut short
 

@@ -3,9 +3,7 @@ use Rattle.std.specs.Prelude.{ℕ, ◌≡◌, ◌++◌, Bool, true, false, not, 
 use Rattle.std.specs.Cmp.Lexicographic.{bytes_decides}
 use Rattle.std.specs.Prelude.{bytes_eq}
 use Rattle.std.proofs.Common.{refl, sym, ap, ◌∙◌, inl, inr}
-use Rattle.sha2.specs.Sha256.{sha256}
 use Rattle.gb_folder.specs.Files.{Bytes, IsFolder, Place, Tearing, is_own}
-use Rattle.gb_history.specs.Places.{record_place}
 use Rattle.gb_meaning.specs.declared.events.Answer.{Answer}
 use Rattle.gb_meaning.specs.declared.events.Answer.TheVariants as answers
 use Rattle.gb_meaning.specs.declared.events.Event.{Event}
@@ -16,24 +14,12 @@ use Rattle.gb_meaning.specs.Headline.{Registering, StillClear, contents_outside,
 use Rattle.gb_meaning.specs.Kinds.{Kinds}
 use Rattle.gb_meaning.specs.Memory.{Memory}
 use Rattle.gb_meaning.specs.TrueRecord.{memory_contents}
-use Rattle.gb_records.specs.Said.{IsText, text_of}
 use Rattle.gb_records.proofs.Told.{stands_elsewhere, stands_for_memory}
 use Rattle.gb_store.specs.Changes.{ChangesOnly}
 use Rattle.gb_store.proofs.Machine.{changes_left, changes_none, changes_with, changes_without}
 use Rattle.gb_invoke.specs.Leading.{Leads}
 use Rattle.gb_invoke.proofs.Leading.{seen_more}
-
--- what a run is about, where scripts register so
-abbrev pub setting_by : Kinds → Registering → Tearing → Setting
-setting_by kinds registers may_leave = record {
-  kinds = kinds;
-  registers = registers;
-  digest = sha256;
-  says = IsText;
-  record_place = record_place;
-  record_text = text_of;
-  may_leave = may_leave;
-}
+use Rattle.gb_invocation.proofs.Passing.{setting_by}
 
 -- a place that is not the tool's own
 abbrev pub is_outside : Place → Bool

@@ -11,7 +11,7 @@ use Rattle.gb_registry.specs.Tables.{tables_of}
 use Rattle.gb_events.proofs.Alike.{leads_alike}
 use Rattle.gb_events.proofs.Blaming.{blamed_more}
 use Rattle.gb_events.proofs.Editing.{shows}
-use Rattle.gb_events.proofs.Outside.{setting_by}
+use Rattle.gb_invocation.proofs.Passing.{setting_by}
 use Rattle.gb_events.proofs.Running.{RunsFrom, heard_more, keeps_more, more_ahead, runs_hold, runs_nowhere, runs_on, taken_all, to_the_end}
 use Rattle.gb_events.proofs.events.run_events.Goals as goal
 

@@ -11,7 +11,7 @@ use Rattle.gb_meaning.specs.Kinds.{Kinds}
 use Rattle.gb_records.specs.Said.{IsText}
 use Rattle.gb_registry.specs.Tables.{tables_of}
 use Rattle.gb_events.proofs.Editing.{shows}
-use Rattle.gb_events.proofs.Outside.{setting_by}
+use Rattle.gb_invocation.proofs.Passing.{setting_by}
 use Rattle.gb_events.proofs.Running.{RunsFrom}
 use Rattle.gb_events.proofs.events.run_events.Given as goal
 

@@ -12,7 +12,8 @@ use Rattle.gb_events.proofs.Blaming.{edit_blames}
 use Rattle.gb_events.proofs.Editing.{shows}
 use Rattle.gb_events.proofs.Kept.{put_keeps, remove_keeps}
 use Rattle.gb_events.proofs.Losing.{loss_leads}
-use Rattle.gb_events.proofs.Outside.{put_leads, remove_leads, setting_by}
+use Rattle.gb_events.proofs.Outside.{put_leads, remove_leads}
+use Rattle.gb_invocation.proofs.Passing.{setting_by}
 use Rattle.gb_events.proofs.events.take.Goals as goal
 
 pub returns-in-Put-clause-keeps : goal.returns-in-Put-clause-keeps
