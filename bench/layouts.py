@@ -1,0 +1,105 @@
+#!/usr/bin/env python3
+"""layouts.py GB [LAYOUT..]: times the built gb on folders that ask much of one part of it, each with N and with 2N.
+
+Times are in ms, the best of five runs; a first build is one run. Folders are made in the temporary folder (TMPDIR).
+"""
+import os, pathlib, random, subprocess, sys, tempfile, time
+
+GB, ASKED = str(pathlib.Path(sys.argv[1]).resolve()), sys.argv[2:]
+
+
+def took(words, runs=5):
+    best = None
+    for _ in range(runs):
+        begin = time.monotonic()
+        done = subprocess.run(words, stdout=subprocess.PIPE, text=True)
+        spent = 1000 * (time.monotonic() - begin)
+        best = spent if best is None else min(best, spent)
+    if done.returncode:
+        sys.exit(f"{words}: status {done.returncode}\n{done.stdout[-300:]}")
+    return f"{best:.1f}"
+
+
+def script(text):
+    pathlib.Path("build.gb").write_text(text)
+
+
+def values(count, first, follow):
+    lines = [f"property p0 set p0 = \"{first}\""]
+    lines += [f"property p{it} set p{it} = {follow(f'p{it - 1}')}" for it in range(1, count)]
+    script("\n".join(lines) + f"\nregister t {{ doLast printLine(p{count - 1}) }}\n")
+    return [("read", took([GB, "t"]))]
+
+
+def zips(count):
+    """Properties, each the one before joined to itself."""
+    return values(count, "", lambda it: f"{it}.zip({it}, concat)")
+
+
+def steps(count):
+    """Properties, each by 60 steps from the one before."""
+    return values(count, "x", lambda it: it + ".map(nonEmpty)" * 60)
+
+
+def plan(needs_of):
+    def plans(count):
+        lines = []
+        for it in range(count):
+            needs = needs_of(it, count)
+            read = f'inputFiles src from task("{needs[-1]}").flatMap(output("out")) ' if needs else 'inputFiles src from dir("src") '
+            named = ", ".join(f'"{name}"' for name in needs)
+            lines.append(f'register t{it}:sums{{{f"dependsOn {named} " if needs else ""}{read}outputDir out=dir("build/{it}")}}')
+        script("\n".join(lines) + "\n")
+        return [("dry run", took([GB, "-m", f"t{count - 1}"]))]
+    return plans
+
+
+def clauses(count):
+    """Tasks of ten clauses, each after the one before."""
+    lines = ["property p set p = \"true\""]
+    for it in range(count):
+        before = f'task("t{it - 1}").flatMap(output("out"))' if it else 'dir("src")'
+        lines.append(f"register t{it}:sums{{input v=p input w=p input u=p enabled true onlyIf p is isTrue upToDateWhen p is isTrue "
+                     f'inputFiles src from {before} outputDir out=buildDir.map(child("{it}")) mustRunAfter "t0" finalizedBy "e"}}'
+                     if it else f'register e{{}}\nregister t0:sums{{inputFiles src from dir("src") outputDir out=buildDir.map(child("0"))}}')
+    script("\n".join(lines) + "\n")
+    return [("dry run", took([GB, "-m", f"t{count - 1}"]))]
+
+
+def words(number):
+    drawn = random.Random(number)
+    return bytes(32 if it % 6 == 5 else drawn.choice(b"aeot") for it in range(1024))
+
+
+def files_of(kind, incremental):
+    def built(count):
+        for it in range(count):
+            folder = pathlib.Path("src", str(it // 256))
+            folder.mkdir(parents=True, exist_ok=True)
+            (folder / f"{it}").write_bytes(words(it))
+        script(f'register t:{kind}{{inputFiles src {incremental} from dir("src") outputDir out=dir("build/o")}}\n')
+        told = [("first build", took([GB, "t"], 1)), ("nothing to do", took([GB, "t"]))]
+        pathlib.Path("src/0/0").write_bytes(words(-1))
+        told += [("one edit", took([GB, "t"], 1))]
+        return told + [("sha256sum", took(["sh", "-c", "find src build -type f -print0 | xargs -0 sha256sum >/dev/null"]))]
+    return built
+
+
+LAYOUTS = {
+    "zips": (zips, 512),
+    "steps": (steps, 512),
+    "chain": (plan(lambda it, count: [f"t{it - 1}"] if it else []), 2048),
+    "fan": (plan(lambda it, count: [f"t{of}" for of in range(it)] if it == count - 1 else []), 2048),
+    "needs": (plan(lambda it, count: [f"t{of}" for of in range(max(0, it - 16), it)]), 2048),
+    "clauses": (clauses, 1024),
+    "copies": (files_of("copyFiles", "incremental"), 10000),
+    "sums": (files_of("sums", "incremental"), 10000),
+    "words": (files_of("wordIndex", "incremental"), 1000),
+}
+for name in ASKED or LAYOUTS:
+    layout, least = LAYOUTS[name]
+    for count in (least, 2 * least):
+        with tempfile.TemporaryDirectory() as room:
+            os.chdir(room)
+            print(f"{name} {count}:", ", ".join(f"{what} {time}" for what, time in layout(count)), flush=True)
+            os.chdir("/")
