@@ -1,9 +1,9 @@
 #!/usr/bin/env python3
 """growth.py REPLAY GB: refuses each growth of memory of the built gb_replay and gb, one a run. It needs gcc.
 
-A replay in memory gives its answers, tells 3, or ends with the status 1; where it goes on, the last build, made once
-more, succeeds, and its files are those that it leaves where nothing was refused. A build of a folder on the disk does
-the same; then the next one leaves those files, and the one after it gives the answer that nothing is out of date.
+A replay in memory gives its answers, tells 3, or ends with the status 1; where it goes on, all files are put once
+more, and the last build, made again, succeeds and leaves the files that it leaves where nothing was refused. A build
+of a folder on the disk does the same; then the next one leaves those files, and the one after it does nothing.
 """
 import collections, os, pathlib, shutil, subprocess, sys, tempfile
 
@@ -53,13 +53,14 @@ def is_told(status, text, whole):
 
 
 def in_memory(program, row):
-    last, shown = row.split("\n")[-1], "\nshow build\nshow lib/build"
+    edits = [it for it in row.split("\n") if not it.startswith("run ")]
+    whole = "\n".join([row, *edits, row.split("\n")[-1], "show build", "show lib/build"])
     growths = run(program, [], 0, input=row)[2]
-    want = run(program, [], 0, input=f"{row}\n{last}{shown}")
+    want = run(program, [], 0, input=whole)
     shows = want[1][want[1].index("== "):]
     ends = collections.Counter()
     for refused in range(1, growths + 1):
-        status, text, _ = run(program, [], refused, input=f"{row}\n{last}{shown}")
+        status, text, _ = run(program, [], refused, input=whole)
         told = is_told(status, text, want[:2])
         again = text[: text.find("== ")].rstrip().rsplit("\n", 2)
         if not told or told == "told 3" and (status or not text.endswith(shows) or again[-2] != "BUILD SUCCESSFUL"):

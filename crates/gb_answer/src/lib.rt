@@ -5,5 +5,3 @@
 pub mod answer;
 pub mod functions;
 mod runs;
-#[cfg(test)]
-mod tests;

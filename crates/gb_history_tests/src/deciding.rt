@@ -12,7 +12,7 @@ use gb_history::record::{OutputRecord, Record};
 use gb_plan::task::Action;
 use gb_tree::prints::Prints;
 use sha2::{Digest, Sha256};
-use std::alloc::Global;
+use std::alloc::{AllocError, Global};
 use std::test::Fail;
 
 /// What is remembered of a run.
@@ -125,82 +125,78 @@ fn decided_anew(alloc: Global) -> Result<&'static str, Fail> {
     Ok(told(&decision))
 }
 
+const RERUN: Asked = Asked {
+    rerun: true,
+    ..PLAIN
+};
+
+const STALE: Asked = Asked {
+    is_stale: true,
+    ..PLAIN
+};
+
+const WHOLE: Asked = Asked {
+    incremental: false,
+    ..PLAIN
+};
+
+const FILE: Run = Run { read: "9", ..FIRST };
+
+const VERSION: Run = Run {
+    version: 2,
+    ..FIRST
+};
+
+const ARGUMENT: Run = Run {
+    argument: "y",
+    ..FIRST
+};
+
+const VALUE: Run = Run {
+    value: "w",
+    ..FIRST
+};
+
+const OUTPUT: Run = Run { made: "9", ..FIRST };
+
+/// What is asked of a run, and what is decided.
+type Case = (Run, Asked, &'static str);
+
+const AS_IT_WAS: [Case; 3] = [
+    (FIRST, PLAIN, "up to date"),
+    (FIRST, RERUN, "full"),
+    (FIRST, STALE, "full"),
+];
+
+const CHANGED: [Case; 6] = [
+    (FILE, PLAIN, "incremental"),
+    (FILE, WHOLE, "full"),
+    (VERSION, PLAIN, "full"),
+    (ARGUMENT, PLAIN, "full"),
+    (VALUE, PLAIN, "full"),
+    (OUTPUT, PLAIN, "full"),
+];
+
+/// Whether all cases are decided so.
+fn are_decided(alloc: Global, cases: &[Case]) -> Result<bool, Fail> {
+    for (now, asked, want) in cases {
+        if decided(alloc, *now, *asked)? != *want {
+            return Ok(false);
+        }
+    }
+    Ok(true)
+}
+
 #[test]
 fn what_is_as_it_was_is_up_to_date(rt: HostRuntime) -> Result<(), Fail> {
-    let alloc = rt.alloc();
-    assert_eq!(rt; decided_anew(alloc)?, "full");
-    assert_eq!(rt; decided(alloc, FIRST, PLAIN)?, "up to date");
-    assert_eq!(rt;
-        decided(
-            alloc,
-            FIRST,
-            Asked {
-                rerun: true,
-                ..PLAIN
-            }
-        )?,
-        "full"
-    );
-    assert_eq!(rt;
-        decided(
-            alloc,
-            FIRST,
-            Asked {
-                is_stale: true,
-                ..PLAIN
-            }
-        )?,
-        "full"
-    );
+    assert_eq!(rt; decided_anew(rt.alloc())?, "full");
+    assert!(rt; are_decided(rt.alloc(), &AS_IT_WAS)?);
     Ok(())
 }
 
 #[test]
 fn what_changed_decides(rt: HostRuntime) -> Result<(), Fail> {
-    let alloc = rt.alloc();
-    assert_eq!(rt;
-        decided(alloc, Run { read: "9", ..FIRST }, PLAIN)?,
-        "incremental"
-    );
-    let whole = Asked {
-        incremental: false,
-        ..PLAIN
-    };
-    assert_eq!(rt; decided(alloc, Run { read: "9", ..FIRST }, whole)?, "full");
-    assert_eq!(rt;
-        decided(
-            alloc,
-            Run {
-                version: 2,
-                ..FIRST
-            },
-            PLAIN
-        )?,
-        "full"
-    );
-    assert_eq!(rt;
-        decided(
-            alloc,
-            Run {
-                argument: "y",
-                ..FIRST
-            },
-            PLAIN
-        )?,
-        "full"
-    );
-    assert_eq!(rt;
-        decided(
-            alloc,
-            Run {
-                value: "w",
-                ..FIRST
-            },
-            PLAIN
-        )?,
-        "full"
-    );
-    assert_eq!(rt; decided(alloc, Run { made: "9", ..FIRST }, PLAIN)?, "full");
+    assert!(rt; are_decided(rt.alloc(), &CHANGED)?);
     Ok(())
 }
 
@@ -208,14 +204,28 @@ fn task(alloc: Global) -> Result<TaskPath, Fail> {
     TaskPath::read(alloc, ":gen").map_err(|_| Fail::from("a path"))
 }
 
+/// Whether the record of a task is held from when it is put until it is forgotten.
+fn is_held_between(
+    alloc: Global,
+    task: &TaskPath,
+    own: TaskPath,
+    run: Record,
+) -> Result<bool, AllocError> {
+    let mut history = History::new(alloc);
+    let is_new = history.last(task).is_none();
+    history.put(own, run)?;
+    let is_held = history.last(task).is_some();
+    history.forget(task);
+    Ok(is_new && is_held && history.last(task).is_none())
+}
+
+fn is_kept(alloc: Global) -> Result<bool, Fail> {
+    let run = recorded(alloc, FIRST)?;
+    Ok(is_held_between(alloc, &task(alloc)?, task(alloc)?, run)?)
+}
+
 #[test]
 fn a_record_is_kept_until_it_is_forgotten(rt: HostRuntime) -> Result<(), Fail> {
-    let alloc = rt.alloc();
-    let mut history = History::new(alloc);
-    assert!(rt; history.last(&task(alloc)?).is_none());
-    history.put(task(alloc)?, recorded(alloc, FIRST)?)?;
-    assert!(rt; history.last(&task(alloc)?).is_some());
-    history.forget(&task(alloc)?);
-    assert!(rt; history.last(&task(alloc)?).is_none());
+    assert!(rt; is_kept(rt.alloc())?);
     Ok(())
 }

@@ -4,32 +4,32 @@ use gb_core::tasks::TaskPaths;
 use gb_core::text::{Text, Texts};
 use gb_core::value::Value;
 use gb_provider::expression::Node;
-use gb_provider::fault::{Final, ProviderFault, StepFault};
+use gb_provider::fault::{ProviderFault, StepFault};
 use gb_provider::providers::Providers;
 use gb_provider::transforms::Transforms;
 use std::alloc::Global;
 
-pub type Answer = Result<Option<Value>, ProviderFault>;
+type Answer = Result<Option<Value>, ProviderFault>;
 
 pub fn text(alloc: Global, text: &str) -> Result<Value, ProviderFault> {
     Ok(Value::Text(Text::from_str(alloc, text)?))
 }
 
-pub fn get<T: Transforms>(providers: &mut Providers<'_, T>, node: Node) -> Answer {
+fn get<T: Transforms>(providers: &mut Providers<'_, T>, node: Node) -> Answer {
     if !providers.has(node) {
         return Err(ProviderFault::NoValue);
     }
     providers.get(node)
 }
 
-pub fn require<T: Transforms>(providers: &mut Providers<'_, T>, node: Node) -> Answer {
+fn require<T: Transforms>(providers: &mut Providers<'_, T>, node: Node) -> Answer {
     if !providers.has(node) {
         return Err(ProviderFault::OutOfMemory);
     }
     providers.require(node).map(Some)
 }
 
-pub fn producers<T: Transforms>(
+fn producers<T: Transforms>(
     providers: &mut Providers<'_, T>,
     node: Node,
 ) -> Result<TaskPaths, ProviderFault> {
@@ -37,57 +37,6 @@ pub fn producers<T: Transforms>(
         return Err(ProviderFault::NoValue);
     }
     providers.producers(node)
-}
-
-pub fn set<T: Transforms>(
-    providers: &mut Providers<'_, T>,
-    node: Node,
-    value: Value,
-) -> Result<(), Final> {
-    if !providers.has(node) {
-        return Err(Final);
-    }
-    providers.set(node, value)
-}
-
-pub fn set_from<T: Transforms>(
-    providers: &mut Providers<'_, T>,
-    node: Node,
-    source: Node,
-) -> Result<(), Final> {
-    if !providers.has(node) || !providers.has(source) {
-        return Err(Final);
-    }
-    providers.set_from(node, source)
-}
-
-pub fn convention<T: Transforms>(
-    providers: &mut Providers<'_, T>,
-    node: Node,
-    source: Node,
-) -> Result<(), Final> {
-    if !providers.has(node) || !providers.has(source) {
-        return Err(Final);
-    }
-    providers.convention(node, source)
-}
-
-pub fn unset<T: Transforms>(providers: &mut Providers<'_, T>, node: Node) -> Result<(), Final> {
-    if !providers.has(node) {
-        return Err(Final);
-    }
-    providers.unset(node)
-}
-
-pub fn or_else<T: Transforms>(
-    providers: &mut Providers<'_, T>,
-    left: Node,
-    right: Node,
-) -> Result<Node, ProviderFault> {
-    if !providers.has(left) || !providers.has(right) {
-        return Err(ProviderFault::NoValue);
-    }
-    Ok(providers.or_else(left, right)?)
 }
 
 pub fn map<T: Transforms>(
@@ -128,32 +77,47 @@ pub fn declare_output<T: Transforms>(
     Ok(providers.declare_output(task, name, source)?)
 }
 
-pub fn test<T: Transforms>(
-    providers: &mut Providers<'_, T>,
-    node: Node,
-    name: &str,
-    arguments: &[Text],
-) -> Result<bool, ProviderFault> {
-    if !providers.has(node) {
-        return Err(ProviderFault::NoValue);
-    }
-    providers.test(node, name, arguments)
-}
-
-/// Whether the answer is this text.
-pub fn is_text(answer: &Answer, text: &str) -> bool {
+fn is_this(answer: &Answer, text: &str) -> bool {
     match answer {
         Ok(Some(Value::Text(found))) => found.as_str() == text,
         _ => false,
     }
 }
 
-/// Whether nothing is answered.
-pub fn is_absent(answer: &Answer) -> bool {
+/// Whether the node's value is this text.
+pub fn is_text<T: Transforms>(providers: &mut Providers<'_, T>, node: Node, text: &str) -> bool {
+    is_this(&get(providers, node), text)
+}
+
+fn is_none(answer: &Answer) -> bool {
+    matches!(answer, Ok(None))
+}
+
+/// Whether the node has no value.
+pub fn is_absent<T: Transforms>(providers: &mut Providers<'_, T>, node: Node) -> bool {
+    is_none(&get(providers, node))
+}
+
+/// The number of the fault of the node's value, or 0.
+pub fn value_fault<T: Transforms>(providers: &mut Providers<'_, T>, node: Node) -> u16 {
+    number(&get(providers, node))
+}
+
+/// The number of the fault of the node where a value is required, or 0.
+pub fn required_fault<T: Transforms>(providers: &mut Providers<'_, T>, node: Node) -> u16 {
+    number(&require(providers, node))
+}
+
+fn is_g(answer: &Result<TaskPaths, ProviderFault>) -> bool {
     match answer {
-        Ok(None) => true,
-        _ => false,
+        Ok(tasks) => tasks.iter().map(TaskPath::as_str).eq([":g"]),
+        Err(_) => false,
     }
+}
+
+/// Whether the task `:g` alone makes the node's value.
+pub fn is_of_g<T: Transforms>(providers: &mut Providers<'_, T>, node: Node) -> bool {
+    is_g(&producers(providers, node))
 }
 
 /// The number of a fault, or 0.

@@ -73,13 +73,13 @@ pub fn configured(
     }
 }
 
-/// The number of the fault of these scripts, if they have one.
-pub fn fault_of(alloc: Global, includes: &[&str], texts: &[&str]) -> Result<Option<u16>, Fail> {
+/// The number of the fault of these scripts, or 0.
+pub fn fault_of(alloc: Global, includes: &[&str], texts: &[&str]) -> Result<u16, Fail> {
     let settings = settings(alloc, includes)?;
     let scripts = scripts(alloc, texts)?;
     let tables = tables(alloc)?;
     Ok(match configured(alloc, &settings, scripts, &tables) {
-        Ok(_) => None,
-        Err(number) => Some(number),
+        Ok(_) => 0,
+        Err(number) => number,
     })
 }

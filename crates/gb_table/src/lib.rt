@@ -5,5 +5,3 @@
 #![tactic(auto)]
 
 pub mod table;
-#[cfg(test)]
-mod tests;
