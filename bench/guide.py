@@ -1,7 +1,7 @@
 #!/usr/bin/env python3
-"""The examples of docs/GUIDE.md, made into rows that a test of gb_replay runs.
+"""The examples of docs/GUIDE.md, made into rows that a test of gb_lines_tests runs.
 
-    bench/guide.py                writes crates/gb_replay/src/guide.rt
+    bench/guide.py                writes crates/gb_lines_tests/src/guide.rt
     bench/guide.py --check        fails where that file is not in step with the guide
     bench/guide.py --list         each example: its number, its line in the guide, its array
     bench/guide.py --input N      the input of example N, as gb_replay reads it
@@ -18,7 +18,7 @@ import sys
 
 ROOT = os.path.dirname(os.path.dirname(os.path.abspath(__file__)))
 GUIDE = os.path.join(ROOT, "docs", "GUIDE.md")
-ROWS = os.path.join(ROOT, "crates", "gb_replay", "src", "guide.rt")
+ROWS = os.path.join(ROOT, "crates", "gb_lines_tests", "src", "guide.rt")
 MOST_ROWS = 10
 MOST_LINES = 799
 MOST_COLUMNS = 110
@@ -161,7 +161,7 @@ def main(words):
     elif words == ["--check"]:
         with open(ROWS, encoding="utf-8") as file:
             if file.read() != rows_text():
-                fail("crates/gb_replay/src/guide.rt is not in step with docs/GUIDE.md")
+                fail("crates/gb_lines_tests/src/guide.rt is not in step with docs/GUIDE.md")
     elif words == ["--list"]:
         for name, part in arrays(examples()):
             for number, example in part:

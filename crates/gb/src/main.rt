@@ -1,55 +1,43 @@
 //! Builds the current folder: `gb [WORD..]`.
 //!
-//! `run` is the program over any folder: it reads the words, builds what they ask for and prints the
-//! answer. Proved is that it prints the text of an answer, with the status of that answer, and that the
-//! answer is that of one invocation of what the words ask for, by its definition. Left to tests is what a
-//! real folder holds.
+//! `run` of `gb_command` is the program over any folder; here it is given the words of the command, all
+//! kinds and functions, and the folder on the disk. Left to tests is what a real folder holds.
 #![tactic(auto)]
 
-use crate::run::{UNPRINTED, run};
 use gb_action::table::ActionTable;
 use gb_answer::functions::function_table;
 use gb_answer::{builtin_functions, builtin_runs};
+use gb_command::run::{UNPRINTED, run};
 use gb_disk::disk::DiskFolder;
 use gb_kinds::builtin::{Builtin, StoredAction};
 use gb_kinds::function_table::FunctionTable;
 use gb_kinds::table::builtin_table;
 use gb_registry::tables::Tables;
 use gb_report::fault::Fault;
-use std::alloc::Global;
+use std::alloc::{AllocError, Global};
 use std::env;
 use std::io::{self, BufWriter, ErrorKind};
 use std::process::ExitCode;
 
-mod run;
-#[cfg(test)]
-mod tests;
-
 fn main(rt: HostRuntime) -> ExitCode {
-    let answer = built(&rt);
-    let status = match &answer {
-        Ok(status) => *status,
-        Err(_) => UNPRINTED,
-    };
-    drop(answer);
-    ExitCode::from(status)
+    ExitCode::from(built(&rt).unwrap_or(UNPRINTED))
 }
 
 /// Builds the current folder, as the command's words ask for.
-fn built(rt: &HostRuntime) -> Result<u8, Fault> {
+fn built(rt: &HostRuntime) -> Result<u8, AllocError> {
     let alloc = rt.alloc();
     match builtin_table(alloc, builtin_runs!(alloc)) {
         Ok(actions) => built_with(rt, actions),
-        Err(_) => Err(Fault::OutOfMemory),
+        Err(_) => Err(AllocError),
     }
 }
 
 /// Builds it with these actions and all functions of values.
-fn built_with(rt: &HostRuntime, actions: ActionTable<StoredAction>) -> Result<u8, Fault> {
+fn built_with(rt: &HostRuntime, actions: ActionTable<StoredAction>) -> Result<u8, AllocError> {
     let alloc = rt.alloc();
     match function_table(alloc, builtin_functions!(alloc)) {
         Ok(transforms) => built_by(rt, actions, transforms),
-        Err(_) => Err(Fault::OutOfMemory),
+        Err(_) => Err(AllocError),
     }
 }
 
@@ -58,16 +46,14 @@ fn built_by(
     rt: &HostRuntime,
     actions: ActionTable<StoredAction>,
     transforms: FunctionTable,
-) -> Result<u8, Fault> {
+) -> Result<u8, AllocError> {
     let alloc = rt.alloc();
     let tables = Tables {
         actions,
         transforms,
     };
     let mut folder = DiskFolder::new(rt, String::new(alloc));
-    let Ok(mut writer) = BufWriter::new(alloc, io::writer(rt)) else {
-        return Err(Fault::OutOfMemory);
-    };
+    let mut writer = BufWriter::new(alloc, io::writer(rt))?;
     Ok(run::<Builtin, Builtin, _, _>(
         alloc,
         &mut folder,

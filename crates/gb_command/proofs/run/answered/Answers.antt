@@ -1,5 +1,5 @@
 use Rattle.std.proofs.Common.{inr}
-use Rattle.gb.proofs.run.answered.Goals as goal
+use Rattle.gb_command.proofs.run.answered.Goals as goal
 
 pub returns-in-Ok-clause-answers : goal.returns-in-Ok-clause-answers
 returns-in-Ok-clause-answers g c = λ tells.

@@ -1,8 +1,8 @@
 //! Whole builds over folders on a disk, in memory and of those that fail.
-use crate::run::{Handed, run};
 use gb_action::actions::Actions;
 use gb_action::table::ActionTable;
 use gb_answer::builtin_runs;
+use gb_command::run::{Handed, run};
 use gb_core::place::Place;
 use gb_disk::disk::DiskFolder;
 use gb_folder::faulty::{FaultMode, FaultyFolder};

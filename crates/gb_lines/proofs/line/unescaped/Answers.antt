@@ -1,10 +1,10 @@
 use Rattle.std.proofs.Common.{rules, ◌≡◌, ◌+◌, inr, Bool, true, false, drop, get_or, subst, sym, refl, ◌∙◌, List, ℕ}
 use Rattle.std.proofs.lemmas.List.{at_drop_all, at_drop_more}
 use Rattle.std.proofs.lemmas.Bool.{ne_eqb}
-use Rattle.gb_replay.specs.Lines.{unescaped}
-use Rattle.gb_replay.proofs.Escapes.{pending, prefixed, opens, closes, stuck, stands, ends, open_end}
-use Rattle.gb_replay.proofs.line.unescaped.Goals as goal
-use Rattle.gb_replay.proofs.line.unescaped.Goals.{then-is_escape+in-Some+in_ok-push, else-is_escape+then-byte-eq92, else-is_escape+else-byte-eq92+in_ok-push-2}
+use Rattle.gb_lines.specs.Lines.{unescaped}
+use Rattle.gb_lines.proofs.Escapes.{pending, prefixed, opens, closes, stuck, stands, ends, open_end}
+use Rattle.gb_lines.proofs.line.unescaped.Goals as goal
+use Rattle.gb_lines.proofs.line.unescaped.Goals.{then-is_escape+in-Some+in_ok-push, else-is_escape+then-byte-eq92, else-is_escape+else-byte-eq92+in_ok-push-2}
 
 pub loop-byte-preserved : goal.loop-byte-preserved
 loop-byte-preserved c =

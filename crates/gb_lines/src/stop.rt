@@ -22,7 +22,7 @@ pub enum Stop {
 }
 
 impl From<AllocError> for Stop {
-    ghost use Rattle.gb_replay.specs.declared.stop.Stop.TheVariants.{OutOfMemory};
+    ghost use Rattle.gb_lines.specs.declared.stop.Stop.TheVariants.{OutOfMemory};
 
     ghost from_gives = { λ _ stop. stop ≡ OutOfMemory };
 
@@ -32,7 +32,7 @@ impl From<AllocError> for Stop {
 }
 
 impl<T: Drop> From<AllocFailed<T>> for Stop {
-    ghost use Rattle.gb_replay.specs.declared.stop.Stop.TheVariants.{OutOfMemory};
+    ghost use Rattle.gb_lines.specs.declared.stop.Stop.TheVariants.{OutOfMemory};
 
     ghost from_gives = { λ _ stop. stop ≡ OutOfMemory };
 
@@ -42,7 +42,7 @@ impl<T: Drop> From<AllocFailed<T>> for Stop {
 }
 
 impl From<io::Error> for Stop {
-    ghost use Rattle.gb_replay.specs.declared.stop.Stop.TheVariants.{Device};
+    ghost use Rattle.gb_lines.specs.declared.stop.Stop.TheVariants.{Device};
 
     ghost from_gives = { λ _ stop. stop ≡ Device };
 
@@ -52,7 +52,7 @@ impl From<io::Error> for Stop {
 }
 
 impl From<TableFault> for Stop {
-    ghost use Rattle.gb_replay.specs.declared.stop.Stop.TheVariants.{OutOfMemory};
+    ghost use Rattle.gb_lines.specs.declared.stop.Stop.TheVariants.{OutOfMemory};
 
     ghost from_gives = { λ _ stop. stop ≡ OutOfMemory };
 
@@ -63,7 +63,7 @@ impl From<TableFault> for Stop {
 }
 
 impl From<provider::TableFault> for Stop {
-    ghost use Rattle.gb_replay.specs.declared.stop.Stop.TheVariants.{OutOfMemory};
+    ghost use Rattle.gb_lines.specs.declared.stop.Stop.TheVariants.{OutOfMemory};
 
     ghost from_gives = { λ _ stop. stop ≡ OutOfMemory };
 

@@ -2,7 +2,7 @@
 use Rattle.std.proofs.Common.{◌≡◌, ℕ, Bool, true, false, List, [], ◌∷◌, ◌++◌, Option, None, Some, append_assoc, ap, sym, ◌∙◌, refl}
 use Rattle.std.proofs.lemmas.List.{append-nil}
 use Rattle.std.specs.Prelude.{◌==◌}
-use Rattle.gb_replay.specs.Lines.{before, escape, unescaped}
+use Rattle.gb_lines.specs.Lines.{before, escape, unescaped}
 
 -- these bytes, and then the text, if there is one
 abbrev pub prefixed : List ℕ → Option (List ℕ) → Option (List ℕ)

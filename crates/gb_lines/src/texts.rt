@@ -1,6 +1,6 @@
 //! What is printed of the answers.
 ghost use Rattle.std.specs.Prelude.{◌≡◌, IfOk};
-ghost use Rattle.gb_replay.specs.Texts.{answer_text};
+ghost use Rattle.gb_lines.specs.Texts.{answer_text};
 
 use gb_answer::answer::{not_built_text, refusal_text};
 use gb_meaning::events::Answer;

@@ -1,4 +1,4 @@
-//! The program over any folder.
+//! The program over any folder: it reads the words, builds what they ask for and prints the answer.
 ghost use Rattle.std.specs.Prelude.{◌≡◌, ◌≤◌, ◌⊎◌, IsTrue, IfSome, MatchResult, Result, map, string_bytes};
 ghost use Rattle.std.specs.Io.KnownBytes.{Appends};
 ghost use Rattle.gb_answer.specs.Answer.{answer_text, status_of};
@@ -6,7 +6,7 @@ ghost use Rattle.gb_meaning.specs.declared.events.Invocation.{Invocation};
 ghost use Rattle.gb_registry.specs.Tables.{tables_of};
 ghost use Rattle.gb_report.specs.declared.fault.Fault.{Fault};
 ghost use Rattle.gb_report.specs.declared.report.Report.{Report};
-ghost use Rattle.gb.specs.Answered.{Answers, AreRefused, AskFor, given_of};
+ghost use Rattle.gb_command.specs.Answered.{Answers, AreRefused, AskFor, given_of};
 
 use gb_action::actions::Actions;
 use gb_answer::answer::{answer_text, status_of};

@@ -1,6 +1,5 @@
 //! Whole replays, and what fails outside.
 use crate::guide::{EXAMPLES_1, EXAMPLES_2, EXAMPLES_3, EXAMPLES_4, EXAMPLES_5};
-use crate::replay::{Handed, replay};
 use crate::rows::{LINES, PLAIN};
 use crate::script_rows::{DECLARED, REBUILT};
 use gb_action::actions::Actions;
@@ -10,6 +9,7 @@ use gb_answer::{builtin_functions, builtin_runs};
 use gb_kinds::builtin::{Builtin, StoredAction};
 use gb_kinds::function_table::FunctionTable;
 use gb_kinds::table::builtin_table;
+use gb_lines::replay::{Handed, replay};
 use gb_provider::transforms::Transforms;
 use gb_registry::tables::Tables;
 use std::alloc::Global;

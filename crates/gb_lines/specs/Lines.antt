@@ -2,8 +2,8 @@
 use Rattle.std.specs.Prelude.{ℕ, ◌==◌, List, [], ◌∷◌, Option, None, Some, if◌then◌else◌}
 use Rattle.gb_core.specs.declared.place.PlaceFault.{PlaceFault}
 use Rattle.gb_core.specs.declared.place.PlaceFault.TheVariants as places
-use Rattle.gb_replay.specs.declared.line.LineFault.{LineFault}
-use Rattle.gb_replay.specs.declared.line.LineFault.TheVariants as faults
+use Rattle.gb_lines.specs.declared.line.LineFault.{LineFault}
+use Rattle.gb_lines.specs.declared.line.LineFault.TheVariants as faults
 
 -- what a backslash and this letter stand for: a line feed, a tab or a backslash
 abbrev pub escape : ℕ → Option ℕ

@@ -1,7 +1,7 @@
 //! The lines of a replay.
 ghost use Rattle.std.specs.Prelude.{◌≡◌, ◌⊎◌, None, Some, IfErr, MatchResult};
-ghost use Rattle.gb_replay.specs.Lines.{escape, unescaped};
-ghost use Rattle.gb_replay.specs.declared.line.LineFault.TheVariants as faults;
+ghost use Rattle.gb_lines.specs.Lines.{escape, unescaped};
+ghost use Rattle.gb_lines.specs.declared.line.LineFault.TheVariants as faults;
 
 use gb_core::bytes::Bytes;
 use gb_core::place::{Place, PlaceFault};
@@ -39,7 +39,7 @@ pub enum LineFault {
 }
 
 impl From<AllocError> for LineFault {
-    ghost use Rattle.gb_replay.specs.declared.line.LineFault.TheVariants.{OutOfMemory};
+    ghost use Rattle.gb_lines.specs.declared.line.LineFault.TheVariants.{OutOfMemory};
 
     ghost from_gives = { λ _ fault. fault ≡ OutOfMemory };
 
@@ -49,7 +49,7 @@ impl From<AllocError> for LineFault {
 }
 
 impl<T: Drop> From<AllocFailed<T>> for LineFault {
-    ghost use Rattle.gb_replay.specs.declared.line.LineFault.TheVariants.{OutOfMemory};
+    ghost use Rattle.gb_lines.specs.declared.line.LineFault.TheVariants.{OutOfMemory};
 
     ghost from_gives = { λ _ fault. fault ≡ OutOfMemory };
 
@@ -59,7 +59,7 @@ impl<T: Drop> From<AllocFailed<T>> for LineFault {
 }
 
 impl From<PlaceFault> for LineFault {
-    ghost use Rattle.gb_replay.specs.Lines.{line_fault_of};
+    ghost use Rattle.gb_lines.specs.Lines.{line_fault_of};
 
     ghost from_gives = { λ told fault. fault ≡ line_fault_of told };
 

@@ -2,7 +2,7 @@
 ghost use Rattle.std.specs.Prelude.{◌≡◌, ◌⊎◌, ◌+◌, ◌-◌, ◌^◌, IfErr, IfOk, min};
 ghost use Rattle.gb_answer.specs.Answer.{not_built_text, refusal_text};
 ghost use Rattle.gb_report.specs.declared.fault.Fault.TheVariants as faults;
-ghost use Rattle.gb_replay.specs.declared.stop.Stop.TheVariants as stops;
+ghost use Rattle.gb_lines.specs.declared.stop.Stop.TheVariants as stops;
 
 use crate::line::{Line, LineFault, read_line};
 use crate::show::shown_files;

@@ -1,8 +1,8 @@
 use Rattle.std.proofs.Common.{◌≡◌, ◌++◌, ℕ, List, IsTrue, drop}
 use Rattle.std.specs.List.{flat_map}
 use Rattle.gb_folder.specs.Files.{file_at}
-use Rattle.gb_replay.specs.Texts.{shown_at}
-use Rattle.gb_replay.proofs.show.shown_files.Given as goal
+use Rattle.gb_lines.specs.Texts.{shown_at}
+use Rattle.gb_lines.proofs.show.shown_files.Given as goal
 
 abbrev pub invariant-loop-place : goal.invariant-loop-place
 invariant-loop-place g l =

@@ -1,6 +1,6 @@
 //! What is shown of the files at and beneath a place.
 ghost use Rattle.std.specs.Prelude.{◌≡◌, ◌++◌, IsTrue, IfOk, OnOk, string_bytes};
-ghost use Rattle.gb_replay.specs.Texts.{closing, shown_file, shown_files};
+ghost use Rattle.gb_lines.specs.Texts.{closing, shown_file, shown_files};
 
 use crate::stop::Stop;
 use gb_core::place::Place;
