@@ -18,7 +18,7 @@ sample() { # a line for each process of the prover: its number and start, crate,
     echo "$pid $words| $stat"
   done | awk '{
     split($0, half, "[|] "); count = split(half[2], s, " "); if (count < 20) next
-    name = "?"; part = ($3 == "check") ? "edits" : "proofs"
+    name = "?"; part = ($3 == "check" && !/ src\/main\.rt /) ? "edits" : "proofs" # a program is checked, then built
     for (i = 3; i <= NF && $i != "|"; i++) { if ($i == "--crate-name") name = $(i + 1); if ($i == "--test") part = "tests" }
     print $1 ":" s[20], name, part, s[12] + s[13] }'
 }
