@@ -53,7 +53,9 @@ fn built_by(
         transforms,
     };
     let mut folder = DiskFolder::new(rt, String::new(alloc));
-    let mut writer = BufWriter::new(alloc, io::writer(rt))?;
+    let Ok(mut writer) = BufWriter::new(alloc, io::writer(rt)) else {
+        return Err(AllocError);
+    };
     Ok(run::<Builtin, Builtin, _, _>(
         alloc,
         &mut folder,

@@ -44,15 +44,16 @@ pub fn run<A: Actions, T: Transforms, F: Folder, W: Write>(
     tables: &Handed<A, T>,
 ) -> u8
     ensures count { F.failures folder.old ≤ F.failures folder.new }
-    // What is printed is the text of an answer, and the status is its own; or the status is 1.
-    ensures told { (result ≡ 1) ⊎ ((answer : Result Report Fault)
+    // There is an answer, whether it could be printed or not: what is printed is its text, and the status is
+    // its own; or the status is 1.
+    ensures told { (answer : Result Report Fault)
         × (IsTrue F.tells → Answers (tables_of T.meanings A.meanings tables.now) (F.may_leave folder.old)
         (given_of (λ words. map string_bytes words.items) words)
         (record { contents = F.contents folder.old; failures = F.failures folder.old })
         answer
         (record { contents = F.contents folder.new; failures = F.failures folder.new }))
-        × Appends (W.contents writer.old) (W.contents writer.new) (answer_text answer)
-        × (result ≡ status_of answer)) }
+        × ((result ≡ 1) ⊎ (Appends (W.contents writer.old) (W.contents writer.new) (answer_text answer)
+        × (result ≡ status_of answer))) }
 {
     match told::<A, T, F, W>(alloc, folder, words, writer, tables) {
         Some(status) => status,
@@ -69,13 +70,13 @@ fn told<A: Actions, T: Transforms, F: Folder, W: Write>(
     tables: &Handed<A, T>,
 ) -> Option<u8>
     ensures count { F.failures folder.old ≤ F.failures folder.new }
-    ensures told { IfSome result (λ status. (answer : Result Report Fault)
+    ensures told { (answer : Result Report Fault)
         × (IsTrue F.tells → Answers (tables_of T.meanings A.meanings tables.now) (F.may_leave folder.old)
         (given_of (λ words. map string_bytes words.items) words)
         (record { contents = F.contents folder.old; failures = F.failures folder.old })
         answer
         (record { contents = F.contents folder.new; failures = F.failures folder.new }))
-        × Appends (W.contents writer.old) (W.contents writer.new) (answer_text answer)
+        × IfSome result (λ status. Appends (W.contents writer.old) (W.contents writer.new) (answer_text answer)
         × (status ≡ status_of answer)) }
 {
     let answer = answered::<A, T, F>(alloc, folder, words, tables);
