@@ -42,13 +42,15 @@ def steps(count):
 
 
 def plan(needs_of):
+    """Tasks that need others; each reads what the last of these makes."""
     def plans(count):
         lines = []
         for it in range(count):
             needs = needs_of(it, count)
-            read = f'inputFiles src from task("{needs[-1]}").flatMap(output("out")) ' if needs else 'inputFiles src from dir("src") '
+            source = f'task("{needs[-1]}").flatMap(output("out"))' if needs else 'dir("src")'
             named = ", ".join(f'"{name}"' for name in needs)
-            lines.append(f'register t{it}:sums{{{f"dependsOn {named} " if needs else ""}{read}outputDir out=dir("build/{it}")}}')
+            after = f"dependsOn {named} " if needs else ""
+            lines.append(f'register t{it}:sums{{{after}inputFiles src from {source} outputDir out=dir("build/{it}")}}')
         script("\n".join(lines) + "\n")
         return [("dry run", took([GB, "-m", f"t{count - 1}"]))]
     return plans
@@ -56,12 +58,14 @@ def plan(needs_of):
 
 def clauses(count):
     """Tasks of ten clauses, each after the one before."""
-    lines = ["property p set p = \"true\""]
+    lines = ["property p set p = \"true\"", "register a{}", "register e{}"]
     for it in range(count):
-        before = f'task("t{it - 1}").flatMap(output("out"))' if it else 'dir("src")'
-        lines.append(f"register t{it}:sums{{input v=p input w=p input u=p enabled true onlyIf p is isTrue upToDateWhen p is isTrue "
-                     f'inputFiles src from {before} outputDir out=buildDir.map(child("{it}")) mustRunAfter "t0" finalizedBy "e"}}'
-                     if it else f'register e{{}}\nregister t0:sums{{inputFiles src from dir("src") outputDir out=buildDir.map(child("0"))}}')
+        source = f'task("t{it - 1}").flatMap(output("out"))' if it else 'dir("src")'
+        lines.append(
+            f"register t{it}:sums{{input v=p input w=p input u=p enabled true "
+            f'onlyIf p.map(nonEmpty) is equals("true") inputFiles src from {source} '
+            f'outputDir out=buildDir.map(child("{it}")) mustRunAfter "a" finalizedBy "e"}}'
+        )
     script("\n".join(lines) + "\n")
     return [("dry run", took([GB, "-m", f"t{count - 1}"]))]
 
@@ -72,6 +76,7 @@ def words(number):
 
 
 def files_of(kind, incremental):
+    """A task of files of 1 KiB, 256 in a folder."""
     def built(count):
         for it in range(count):
             folder = pathlib.Path("src", str(it // 256))
@@ -81,7 +86,8 @@ def files_of(kind, incremental):
         told = [("first build", took([GB, "t"], 1)), ("nothing to do", took([GB, "t"]))]
         pathlib.Path("src/0/0").write_bytes(words(-1))
         told += [("one edit", took([GB, "t"], 1))]
-        return told + [("sha256sum", took(["sh", "-c", "find src build -type f -print0 | xargs -0 sha256sum >/dev/null"]))]
+        sums = took(["sh", "-c", "find src build -type f -print0 | xargs -0 sha256sum >/dev/null"])
+        return told + [("sha256sum", sums)]
     return built
 
 
@@ -90,7 +96,7 @@ LAYOUTS = {
     "steps": (steps, 512),
     "chain": (plan(lambda it, count: [f"t{it - 1}"] if it else []), 2048),
     "fan": (plan(lambda it, count: [f"t{of}" for of in range(it)] if it == count - 1 else []), 2048),
-    "needs": (plan(lambda it, count: [f"t{of}" for of in range(max(0, it - 16), it)]), 2048),
+    "needs": (plan(lambda it, count: [f"t{of}" for of in range(max(0, it - 12), it)]), 2048),
     "clauses": (clauses, 1024),
     "copies": (files_of("copyFiles", "incremental"), 10000),
     "sums": (files_of("sums", "incremental"), 10000),
