@@ -3,7 +3,8 @@
 
 A replay in memory gives its answers, tells 3, or ends with the status 1; where it goes on, all files are put once
 more, and the last build, made again, succeeds and leaves the files that it leaves where nothing was refused. A build
-of a folder on the disk does the same; then the next one leaves those files, and the one after it does nothing.
+of a folder on the disk does the same; then the next one leaves those files, and the one after it answers as where
+nothing is out of date.
 """
 import collections, os, pathlib, shutil, subprocess, sys, tempfile
 
@@ -40,7 +41,7 @@ def run(program, words, refused, **more):
 
 
 def files(folder):
-    return {str(it): it.read_bytes() for it in sorted(pathlib.Path(folder).rglob("build/**/*")) if it.is_file()}
+    return {it.relative_to(folder): it.read_bytes() for it in folder.rglob("build/**/*") if it.is_file()}
 
 
 def is_told(status, text, whole):
@@ -92,13 +93,14 @@ def on_disk(program, row, room):
     shutil.copytree(room / "begun", room / "whole")
     whole = run(program, words, 0, cwd=room / "whole")
     idle = run(program, words, 0, cwd=room / "whole")[:2]
-    want = {it.removeprefix(f"{room}/whole"): bytes for it, bytes in files(room / "whole").items()}
+    want = files(room / "whole")
+    assert want, "the build leaves no file"
     for refused in range(1, whole[2] + 1):
         shutil.rmtree(room / "tried", ignore_errors=True)
         shutil.copytree(room / "begun", room / "tried")
         told = is_told(*run(program, words, refused, cwd=room / "tried")[:2], whole[:2])
         again = run(program, words, 0, cwd=room / "tried")
-        left = {it.removeprefix(f"{room}/tried"): bytes for it, bytes in files(room / "tried").items()}
+        left = files(room / "tried")
         if not told or again[0] or left != want or run(program, words, 0, cwd=room / "tried")[:2] != idle:
             sys.exit(f"growth {refused} of {whole[2]} on the disk: {told}, then\n{again[1]}")
         ends[told] += 1

@@ -1,5 +1,5 @@
 //! The program over any folder: it reads the words, builds what they ask for and prints the answer.
-ghost use Rattle.std.specs.Prelude.{◌≡◌, ◌≤◌, ◌⊎◌, IsTrue, IfSome, MatchResult, Result, map, string_bytes};
+ghost use Rattle.std.specs.Prelude.{◌≡◌, ◌≤◌, ◌⊎◌, IsTrue, MatchResult, Result, map, string_bytes};
 ghost use Rattle.std.specs.Io.KnownBytes.{Appends};
 ghost use Rattle.gb_answer.specs.Answer.{answer_text, status_of};
 ghost use Rattle.gb_meaning.specs.declared.events.Invocation.{Invocation};
@@ -55,35 +55,11 @@ pub fn run<A: Actions, T: Transforms, F: Folder, W: Write>(
         × ((result ≡ 1) ⊎ (Appends (W.contents writer.old) (W.contents writer.new) (answer_text answer)
         × (result ≡ status_of answer))) }
 {
-    match told::<A, T, F, W>(alloc, folder, words, writer, tables) {
-        Some(status) => status,
-        None => UNPRINTED,
-    }
-}
-
-/// The status of what was built and printed; none where it could not be printed.
-fn told<A: Actions, T: Transforms, F: Folder, W: Write>(
-    alloc: Global,
-    folder: &mut F,
-    words: Result<Vec<String>, Fault>,
-    writer: &mut W,
-    tables: &Handed<A, T>,
-) -> Option<u8>
-    ensures count { F.failures folder.old ≤ F.failures folder.new }
-    ensures told { (answer : Result Report Fault)
-        × (IsTrue F.tells → Answers (tables_of T.meanings A.meanings tables.now) (F.may_leave folder.old)
-        (given_of (λ words. map string_bytes words.items) words)
-        (record { contents = F.contents folder.old; failures = F.failures folder.old })
-        answer
-        (record { contents = F.contents folder.new; failures = F.failures folder.new }))
-        × IfSome result (λ status. Appends (W.contents writer.old) (W.contents writer.new) (answer_text answer)
-        × (status ≡ status_of answer)) }
-{
     let answer = answered::<A, T, F>(alloc, folder, words, tables);
     let status = status_of(&answer);
-    let printed = print(alloc, writer, &answer);
+    let is_printed = print(alloc, writer, &answer);
     drop(answer);
-    printed.then_some(status)
+    if is_printed { status } else { UNPRINTED }
 }
 
 /// Prints the answer, and tells whether all of it was taken.

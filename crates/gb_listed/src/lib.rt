@@ -1,7 +1,7 @@
-//! Tasks in a list, for tests and benchmarks of plans.
+//! Tasks in a list, for tests of plans.
 #![tactic(auto)]
 
-pub mod declaring;
+mod declaring;
 mod folder;
 pub mod listed;
 pub mod recipe;

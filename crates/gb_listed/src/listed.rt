@@ -36,14 +36,6 @@ impl Listed {
             recipes,
         }
     }
-
-    /// The recipes by the paths of their tasks.
-    pub fn recipes(&self) -> &BTreeMap<TaskPath, Recipe>
-        ensures recipes { result.now.entries ≡ self.now.recipes.entries }
-        ensures once { no_repeats (map (λ entry. entry.0) self.now.recipes.entries) ≡ true }
-    {
-        &self.recipes
-    }
 }
 
 impl Tasks for Listed {

@@ -101,6 +101,35 @@ fn what_a_function_does_not_give_is_absent(rt: HostRuntime) -> Result<(), Fail> 
     Ok(())
 }
 
+/// What a test of this name with so many arguments is refused for, or 0.
+fn test_fault<T: Transforms>(
+    alloc: Global,
+    table: &TransformTable<T::Map, T::FlatMap, T::Zip, T::Test>,
+    name: &str,
+    count: usize,
+) -> u16 {
+    let providers = Providers::<T>::new(alloc, table);
+    match providers.accepts_test(name, count) {
+        Ok(()) => 0,
+        Err(fault) => fault.number(),
+    }
+}
+
+fn are_tests_accepted(alloc: Global) -> Result<bool, TableFault> {
+    let table = sample_table(alloc)?;
+    Ok(
+        test_fault::<Sample>(alloc, &table, "isTrue", 0) == 0
+            && test_fault::<Sample>(alloc, &table, "isTrue", 1) == 32
+            && test_fault::<Sample>(alloc, &table, "concat", 7) == 31,
+    )
+}
+
+#[test]
+fn a_test_is_accepted_before_it_is_asked(rt: HostRuntime) -> Result<(), Fail> {
+    assert!(rt; are_tests_accepted(rt.alloc())?);
+    Ok(())
+}
+
 /// An output of the task `:g`, by what chooses it.
 fn chosen<T: Transforms>(
     alloc: Global,

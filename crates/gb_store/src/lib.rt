@@ -8,4 +8,6 @@
 pub mod faults;
 pub mod listing;
 pub mod removal;
+#[cfg(test)]
+mod tests;
 pub mod writing;
