@@ -26,10 +26,13 @@ impl<R: Files> Device<R> {
         ensures ordered { IfOk result (λ places. IsStrictlySortedBy byte_order places.items) }
         ensures err { IfErr result IsOfListing }
     {
-        trail.forget();
         let places = match self.look(trail, root)? {
             Standing::File(_) => alone(alloc, root)?,
-            Standing::Folder => self.walk(alloc, &mut trail.path, root)?.files,
+            Standing::Folder => {
+                let found = self.walk(alloc, &mut trail.path, root)?;
+                trail.remember(root.as_str())?;
+                found.files
+            }
             Standing::Nothing | Standing::UnderFile => Vec::new(alloc),
             Standing::Odd => return Err(FolderFault::BadFileName),
         };
@@ -119,6 +122,7 @@ impl<R: Files> Device<R> {
         ensures not_large { result ≢ Err FolderFault.TooLarge }
         ensures not_named { result ≢ Err FolderFault.BadFileName }
     {
+        trail.forget();
         self.file_len(trail, place)?;
         self.unlink(&mut trail.path, place)
     }

@@ -12,8 +12,10 @@
 //! | no permission, a full disk, an error | 10 | 10 | 10 | 10 |
 //!
 //! Each segment of a place is looked at before anything is opened, so that no link is followed out of
-//! the folder and no pipe is waited for. A file that stood is unlinked first, so that another name of
-//! it keeps its bytes; a write that the device stops leaves some of the new bytes or no file.
+//! the folder and no pipe is waited for; but for a write or a removal, a folder that was among the last
+//! ones met is not looked at again before something is missed or a call fails, as nobody else is to write
+//! there during a build. A file that stood is unlinked first, so that another name of it keeps its bytes;
+//! a write that the device stops leaves some of the new bytes or no file.
 #![tactic(auto)]
 
 mod calls;

@@ -16,7 +16,7 @@ use std::io::{ErrorKind, Read};
 const MOST_ENTRIES: u64 = 1 << 32;
 
 /// The bytes of names that are read at once.
-const NAMES: usize = 32_768;
+const NAMES: usize = 4_096;
 
 /// What a walk beneath a root has met.
 #[derive(Drop)]

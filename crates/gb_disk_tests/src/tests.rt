@@ -202,6 +202,37 @@ fn follows_no_link_beneath_the_root(rt: HostRuntime) -> Result<(), Fail> {
     Ok(())
 }
 
+/// A new folder of this name with the file `d/e/a`, which was listed and read.
+fn with_met<'r>(rt: &'r HostRuntime, name: &str) -> Result<DiskFolder<&'r HostRuntime>, Fail> {
+    renew(rt, name)?;
+    let mut folder = DiskFolder::new(rt, String::from_str(rt.alloc(), name)?);
+    answers(rt.alloc(), &mut folder, "write d/e/a;list d;read d/e/a")?;
+    Ok(folder)
+}
+
+#[test]
+fn sees_that_a_folder_went(rt: HostRuntime) -> Result<(), Fail> {
+    let mut folder = with_met(&rt, "went")?;
+    fs::remove_dir_all(&rt, "went/d")?;
+    let all = answers(
+        rt.alloc(),
+        &mut folder,
+        "read d/e/a;list d/e;write d/e/a;read d/e/a",
+    )?;
+    assert_eq!(rt; all.as_str(), "11;;ok;hello;");
+    Ok(fs::remove_dir_all(&rt, "went")?)
+}
+
+#[test]
+fn sees_a_link_to_nothing_in_its_place(rt: HostRuntime) -> Result<(), Fail> {
+    let mut folder = with_met(&rt, "link_there")?;
+    fs::remove_dir_all(&rt, "link_there/d")?;
+    symlink(&rt, "nowhere", "link_there/d")?;
+    let all = answers(rt.alloc(), &mut folder, "list d/e;read d/e/a;remove d/e/a")?;
+    assert_eq!(rt; all.as_str(), "14;10;10;");
+    Ok(fs::remove_dir_all(&rt, "link_there")?)
+}
+
 #[test]
 fn opens_no_device(rt: HostRuntime) -> Result<(), Fail> {
     let calls = "list null;read null;part null;remove null/a";
