@@ -5,13 +5,11 @@
 #![tactic(auto)]
 
 use gb_action::table::ActionTable;
-use gb_answer::functions::function_table;
-use gb_answer::{builtin_functions, builtin_runs};
+use gb_answer::{builtin_actions, builtin_functions};
 use gb_command::run::{UNPRINTED, run};
 use gb_disk::disk::DiskFolder;
 use gb_kinds::builtin::{Builtin, StoredAction};
 use gb_kinds::function_table::FunctionTable;
-use gb_kinds::table::builtin_table;
 use gb_registry::tables::Tables;
 use gb_report::fault::Fault;
 use std::alloc::{AllocError, Global};
@@ -25,20 +23,12 @@ fn main(rt: HostRuntime) -> ExitCode {
 
 /// Builds the current folder, as the command's words ask for.
 fn built(rt: &HostRuntime) -> Result<u8, AllocError> {
-    let alloc = rt.alloc();
-    match builtin_table(alloc, builtin_runs!(alloc)) {
-        Ok(actions) => built_with(rt, actions),
-        Err(_) => Err(AllocError),
-    }
+    built_with(rt, builtin_actions!(rt.alloc()))
 }
 
 /// Builds it with these actions and all functions of values.
 fn built_with(rt: &HostRuntime, actions: ActionTable<StoredAction>) -> Result<u8, AllocError> {
-    let alloc = rt.alloc();
-    match function_table(alloc, builtin_functions!(alloc)) {
-        Ok(transforms) => built_by(rt, actions, transforms),
-        Err(_) => Err(AllocError),
-    }
+    built_by(rt, actions, builtin_functions!(rt.alloc()))
 }
 
 /// Builds it with these actions and functions.

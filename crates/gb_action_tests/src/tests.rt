@@ -12,52 +12,79 @@ use gb_core::value::Value;
 use std::alloc::{AllocError, Global};
 use std::test::Fail;
 
-/// The numbers of the faults of a name that is taken and of one that is not in the table.
-fn name_faults(table: &mut ActionTable<u8>, name: &Name) -> (u16, u16) {
-    let taken = match table.add(name, 8) {
+/// Fails with the name of the first case that does not hold.
+fn all_hold(cases: &[(&str, bool)]) -> Result<(), Fail> {
+    for case in cases {
+        if !case.1 {
+            return Err(Fail::new(case.0));
+        }
+    }
+    Ok(())
+}
+
+/// The number of the fault of a name that is added, or 0.
+fn number_of_added(table: &mut ActionTable<u8>, name: &Name) -> u16 {
+    match table.add(name, 8) {
         Ok(()) => 0,
         Err(fault) => fault.number(),
-    };
-    let missing = match table.find("move") {
-        Ok(_found) => 0,
+    }
+}
+
+/// The number of the fault of a name that is looked for, or what stands under it.
+fn number_of_found(table: &ActionTable<u8>, name: &str) -> u16 {
+    match table.find(name) {
+        Ok(found) => u16::from(*found),
         Err(fault) => fault.number(),
-    };
-    (taken, missing)
+    }
+}
+
+/// Whether a name is refused where it stands already, and what stands there stays.
+fn is_taken(table: &mut ActionTable<u8>, name: &Name) -> bool {
+    number_of_added(table, name) == 41 && number_of_found(table, name.as_str()) == 7
+}
+
+fn table_of(alloc: Global, name: &Name) -> Result<ActionTable<u8>, TableFault> {
+    let mut table = ActionTable::new(alloc);
+    table.add(name, 7u8)?;
+    Ok(table)
 }
 
 fn are_taken_once(alloc: Global, name: &Name) -> Result<bool, TableFault> {
-    let mut table = ActionTable::new(alloc);
-    table.add(name, 7u8)?;
-    Ok(
-        name_faults(&mut table, name) == (41, 40)
-            && table.find(name.as_str()).is_ok_and(|found| *found == 7),
-    )
+    let mut table = table_of(alloc, name)?;
+    Ok(is_taken(&mut table, name) && number_of_found(&table, "move") == 40)
+}
+
+fn is_taken_once(alloc: Global, name: &str) -> Result<bool, NameFault> {
+    let name = Name::read(alloc, name)?;
+    Ok(are_taken_once(alloc, &name) == Ok(true))
 }
 
 #[test]
 fn names_are_taken_once(rt: HostRuntime) -> Result<(), Fail> {
-    let name = Name::read(rt.alloc(), "copy")?;
-    assert!(rt; are_taken_once(rt.alloc(), &name)?);
-    Ok(())
+    all_hold(&[("copy", is_taken_once(rt.alloc(), "copy") == Ok(true))])
+}
+
+/// Adds two actions before the main one, and one behind it.
+fn add_four(list: &mut ActionList<u8>) -> Result<(), AllocError> {
+    list.set_main(b'M')?;
+    list.do_first(b'A')?;
+    list.do_first(b'B')?;
+    list.do_last(b'C')
+}
+
+fn is_in_order(list: &ActionList<u8>) -> bool {
+    list.iter().eq(b"BAMC".iter()) && list.get(3) == Some(&b'C') && list.len() == 4
 }
 
 fn stand_in_order(alloc: Global) -> Result<bool, AllocError> {
     let mut list = ActionList::new(alloc);
-    list.set_main(b'M')?;
-    list.do_first(b'A')?;
-    list.do_first(b'B')?;
-    list.do_last(b'C')?;
-    Ok(
-        list.iter().eq([b'B', b'A', b'M', b'C'].iter())
-            && list.get(3) == Some(&b'C')
-            && list.len() == 4,
-    )
+    add_four(&mut list)?;
+    Ok(is_in_order(&list))
 }
 
 #[test]
 fn actions_stand_in_order(rt: HostRuntime) -> Result<(), Fail> {
-    assert!(rt; stand_in_order(rt.alloc())?);
-    Ok(())
+    all_hold(&[("BAMC", stand_in_order(rt.alloc()) == Ok(true))])
 }
 
 fn shape_of(alloc: Global, arg: Arg, out: Option<Form>) -> Result<Shape, AllocError> {
@@ -83,22 +110,34 @@ fn fit(alloc: Global, arg: Arg, text: &str) -> Result<Fit, AllocError> {
     Ok(shape.accepts(&values, &[], &[]))
 }
 
-#[test]
-fn arguments_fit_their_shapes(rt: HostRuntime) -> Result<(), Fail> {
-    for (arg, text, want) in [
-        (Arg::Text, "a\nb", Fit::Yes),
-        (Arg::Line, "a b", Fit::Yes),
-        (Arg::Line, "a\nb", Fit::BadArgument),
-        (Arg::Key, "k", Fit::Yes),
-        (Arg::Key, "", Fit::BadArgument),
-        (Arg::Key, "a@b", Fit::BadArgument),
-        (Arg::Rel, "a/b", Fit::Yes),
-        (Arg::Rel, "a//b", Fit::BadArgument),
-        (Arg::Rel, "", Fit::BadArgument),
-    ] {
-        assert_eq!(rt; fit(rt.alloc(), arg, text)?, want, "at {text:?}");
+/// How an argument takes a text.
+type Case = (Arg, &'static str, Fit);
+
+const CASES: [Case; 9] = [
+    (Arg::Text, "a\nb", Fit::Yes),
+    (Arg::Line, "a b", Fit::Yes),
+    (Arg::Line, "a\nb", Fit::BadArgument),
+    (Arg::Key, "k", Fit::Yes),
+    (Arg::Key, "", Fit::BadArgument),
+    (Arg::Key, "a@b", Fit::BadArgument),
+    (Arg::Rel, "a/b", Fit::Yes),
+    (Arg::Rel, "a//b", Fit::BadArgument),
+    (Arg::Rel, "", Fit::BadArgument),
+];
+
+/// Fails at the first text that fits otherwise.
+fn fit_so(alloc: Global, cases: &[Case]) -> Result<(), Fail> {
+    for case in cases {
+        if fit(alloc, case.0, case.1) != Ok(case.2) {
+            return Err(Fail::new(case.1));
+        }
     }
     Ok(())
+}
+
+#[test]
+fn arguments_fit_their_shapes(rt: HostRuntime) -> Result<(), Fail> {
+    fit_so(rt.alloc(), &CASES)
 }
 
 /// How no arguments fit a shape that wants one, a property and a folder.
@@ -130,9 +169,20 @@ fn fit_of_no_output(alloc: Global) -> Result<Fit, NameFault> {
 
 #[test]
 fn shapes_count_before_arguments(rt: HostRuntime) -> Result<(), Fail> {
-    assert_eq!(rt; fit_of_no_property(rt.alloc())?, Fit::BadShape);
-    assert_eq!(rt; fit_of_no_output(rt.alloc())?, Fit::BadShape);
-    assert_eq!(rt; fit_of_form(rt.alloc(), Form::File)?, Fit::BadShape);
-    assert_eq!(rt; fit_of_form(rt.alloc(), Form::Dir)?, Fit::BadArgument);
-    Ok(())
+    let alloc = rt.alloc();
+    all_hold(&[
+        (
+            "no property",
+            fit_of_no_property(alloc) == Ok(Fit::BadShape),
+        ),
+        ("no output", fit_of_no_output(alloc) == Ok(Fit::BadShape)),
+        (
+            "a file",
+            fit_of_form(alloc, Form::File) == Ok(Fit::BadShape),
+        ),
+        (
+            "a folder",
+            fit_of_form(alloc, Form::Dir) == Ok(Fit::BadArgument),
+        ),
+    ])
 }

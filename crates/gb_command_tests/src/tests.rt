@@ -1,7 +1,6 @@
 //! Whole builds over folders on a disk, in memory and of those that fail.
 use gb_action::actions::Actions;
 use gb_action::table::ActionTable;
-use gb_answer::builtin_runs;
 use gb_command::run::{Handed, run};
 use gb_core::place::Place;
 use gb_disk::disk::DiskFolder;
@@ -10,7 +9,8 @@ use gb_folder::folder::Folder;
 use gb_folder::memory::MemoryFolder;
 use gb_kinds::builtin::{Builtin, StoredAction};
 use gb_kinds::function_table::FunctionTable;
-use gb_kinds::table::builtin_table;
+use gb_kinds::table::add_text_kinds;
+use gb_kinds::texts::{fail, print_line, write_text};
 use gb_provider::transforms::Transforms;
 use gb_registry::tables::Tables;
 use std::alloc::Global;
@@ -18,32 +18,54 @@ use std::fs;
 use std::io::{self, ErrorKind, Write};
 use std::test::Fail;
 
-/// A task that writes a file.
+/// The line that puts a script with a task that writes a file.
 const GEN: &str =
     "put build.gb register gen : writeText(\"abc\") { outputFile out = file(\"build/a.txt\") }";
 
 /// What is printed where it succeeds.
 const DONE: &str = "> Task :gen\nBUILD SUCCESSFUL\n1 actionable task: 1 executed\n";
 
-/// What is printed where the file stands already.
-const STANDS: &str = "> Task :gen UP-TO-DATE\nBUILD SUCCESSFUL\n1 actionable task: 1 up-to-date\n";
+/// Lines, and what is answered to them behind that one.
+type Row<'a> = (&'a str, &'a str);
 
+/// The kinds that write texts.
 fn actions(alloc: Global) -> Result<ActionTable<StoredAction>, Fail> {
-    Ok(builtin_table(alloc, builtin_runs!(alloc))?)
+    let mut table = ActionTable::new(alloc);
+    add_text_kinds(
+        alloc,
+        &mut table,
+        Box::new(alloc, print_line)?,
+        Box::new(alloc, write_text)?,
+        Box::new(alloc, fail)?,
+    )?;
+    Ok(table)
 }
 
-/// What is printed of lines, with all kinds and no function of values: `put PLACE BYTES`, `read PLACE`,
-/// `run WORDS`, and `status WORDS` for its status.
-fn answers<F: Folder>(alloc: Global, folder: &mut F, lines: &str) -> Result<String, Fail> {
-    let tables = Tables {
+fn tables(alloc: Global) -> Result<Handed<Builtin, Builtin>, Fail> {
+    Ok(Tables {
         actions: actions(alloc)?,
         transforms: FunctionTable::new(alloc),
-    };
+    })
+}
+
+/// What is printed of lines: `put PLACE BYTES`, `read PLACE`, `run WORDS`, and `status WORDS` for its status.
+fn answers<F: Folder>(alloc: Global, folder: &mut F, lines: &str) -> Result<String, Fail> {
+    let tables = tables(alloc)?;
+    let out = answered::<Builtin, Builtin, F>(alloc, folder, &tables, lines)?;
+    Ok(String::from_utf8(out)?)
+}
+
+fn answered<A: Actions, T: Transforms, F: Folder>(
+    alloc: Global,
+    folder: &mut F,
+    tables: &Handed<A, T>,
+    lines: &str,
+) -> Result<Vec<u8>, Fail> {
     let mut out = Vec::new(alloc);
     for line in lines.split('\n') {
-        take::<Builtin, Builtin, F>(alloc, folder, &tables, line, &mut out)?;
+        take::<A, T, F>(alloc, folder, tables, line, &mut out)?;
     }
-    Ok(String::from_utf8(out)?)
+    Ok(out)
 }
 
 fn take<A: Actions, T: Transforms, F: Folder>(
@@ -112,110 +134,94 @@ fn status<A: Actions, T: Transforms, F: Folder>(
     Ok(out.extend_from_slice(format!(in alloc; "{status}")?.as_bytes())?)
 }
 
-/// What an empty folder in memory answers.
-fn in_memory(alloc: Global, lines: &str) -> Result<String, Fail> {
-    answers(alloc, &mut MemoryFolder::new(alloc), lines)
+/// What a folder answers that has the task.
+fn asked<F: Folder>(alloc: Global, folder: &mut F, lines: &str) -> Result<String, Fail> {
+    answers(alloc, folder, GEN)?;
+    answers(alloc, folder, lines)
 }
 
-/// What a new folder of this name answers, which is then taken away.
+fn in_memory(alloc: Global, lines: &str) -> Result<String, Fail> {
+    asked(alloc, &mut MemoryFolder::new(alloc), lines)
+}
+
+/// What a folder of this name on a disk answers.
 fn on_disk(rt: &HostRuntime, name: &str, lines: &str) -> Result<String, Fail> {
-    if fs::exists(rt, name)? {
+    let mut folder = DiskFolder::new(rt, String::from_str(rt.alloc(), name)?);
+    asked(rt.alloc(), &mut folder, lines)
+}
+
+/// Fails where something else was answered than a row has.
+fn is_answered(row: &Row<'_>, answer: &str) -> Result<(), Fail> {
+    if answer == row.1 {
+        Ok(())
+    } else {
+        Err(Fail::new(answer))
+    }
+}
+
+/// Fails at the first row that is answered otherwise in memory.
+fn hold(alloc: Global, rows: &[Row<'_>]) -> Result<(), Fail> {
+    for row in rows {
+        is_answered(row, in_memory(alloc, row.0)?.as_str())?;
+    }
+    Ok(())
+}
+
+/// Fails at the first row that is answered otherwise in a new folder of this name.
+fn hold_on_disk(rt: &HostRuntime, name: &str, rows: &[Row<'_>]) -> Result<(), Fail> {
+    for row in rows {
+        fs::create_dir(rt, name)?;
+        is_answered(row, on_disk(rt, name, row.0)?.as_str())?;
         fs::remove_dir_all(rt, name)?;
     }
-    fs::create_dir(rt, name)?;
-    let mut folder = DiskFolder::new(rt, String::from_str(rt.alloc(), name)?);
-    let all = answers(rt.alloc(), &mut folder, lines)?;
-    fs::remove_dir_all(rt, name)?;
-    Ok(all)
-}
-
-#[test]
-fn a_blocked_output_fails_the_task(rt: HostRuntime) -> Result<(), Fail> {
-    let lines = format!(in rt.alloc(); "put build x\n{GEN}\nrun gen\nread build")?;
-    let want = "> Task :gen FAILED\nFAILED :gen: 12 blocked build/a.txt\nBUILD FAILED\n\
-         1 actionable task: 1 executed\nx\n";
-    assert_eq!(rt; in_memory(rt.alloc(), lines.as_str())?.as_str(), want);
-    assert_eq!(rt; on_disk(&rt, "blocked", lines.as_str())?.as_str(), want);
     Ok(())
 }
 
-#[test]
-fn one_output_file(rt: HostRuntime) -> Result<(), Fail> {
-    let lines = format!(in rt.alloc();
-        "{GEN}\nrun gen\nread build/a.txt\nput build/a.txt Z\nrun gen\nread build/a.txt"
-    )?;
-    let want = format!(in rt.alloc(); "{DONE}abc\n{DONE}abc\n")?;
-    assert_eq!(rt;
-        in_memory(rt.alloc(), lines.as_str())?.as_str(),
-        want.as_str()
-    );
-    assert_eq!(rt;
-        on_disk(&rt, "one_output", lines.as_str())?.as_str(),
-        want.as_str()
-    );
-    Ok(())
-}
+const BUILDS: [Row<'static>; 3] = [
+    (
+        "put build x\nrun gen\nread build",
+        "> Task :gen FAILED\nFAILED :gen: 12 blocked build/a.txt\nBUILD FAILED\n1 actionable task: 1 executed\nx\n",
+    ),
+    (
+        "run gen\nread build/a.txt\nput build/a.txt Z\nrun gen\nread build/a.txt",
+        "> Task :gen\nBUILD SUCCESSFUL\n1 actionable task: 1 executed\nabc\n> Task :gen\nBUILD SUCCESSFUL\n1 actionable task: 1 executed\nabc\n",
+    ),
+    (
+        "run -m gen\nread build/a.txt\nrun gen --continue\nrun gen\nrun gen -x gen",
+        ":gen SKIPPED\nBUILD SUCCESSFUL\nnone\n> Task :gen\nBUILD SUCCESSFUL\n1 actionable task: 1 executed\n> Task :gen UP-TO-DATE\nBUILD SUCCESSFUL\n1 actionable task: 1 up-to-date\nBUILD SUCCESSFUL\n",
+    ),
+];
 
-/// What the task that writes a file answers to one more line.
-fn asked(alloc: Global, line: &str) -> Result<String, Fail> {
-    let lines = format!(in alloc; "{GEN}\n{line}")?;
-    in_memory(alloc, lines.as_str())
+#[test]
+fn a_folder_in_memory_is_built(rt: HostRuntime) -> Result<(), Fail> {
+    hold(rt.alloc(), &BUILDS)
 }
 
 #[test]
-fn words_that_ask_for_a_build(rt: HostRuntime) -> Result<(), Fail> {
-    let alloc = rt.alloc();
-    assert_eq!(rt;
-        asked(alloc, "run gen --rerun-tasks --rerun-tasks")?.as_str(),
-        DONE
-    );
-    assert_eq!(rt;
-        asked(alloc, "run -Pa=b --project-prop c gen")?.as_str(),
-        DONE
-    );
-    assert_eq!(rt; asked(alloc, "run -- gen")?.as_str(), DONE);
-    assert_eq!(rt; asked(alloc, "status gen")?.as_str(), "0");
-    assert_eq!(rt;
-        asked(alloc, "run -P9=x gen")?.as_str(),
-        "REFUSED 1 bad name 9\nBUILD FAILED\n"
-    );
-    assert_eq!(rt; asked(alloc, "status -P9=x gen")?.as_str(), "1");
-    assert_eq!(rt; asked(alloc, "status odd")?.as_str(), "1");
-    assert_eq!(rt; asked(alloc, "status")?.as_str(), "1");
-    Ok(())
+fn a_folder_on_a_disk_is_built_alike(rt: HostRuntime) -> Result<(), Fail> {
+    hold_on_disk(&rt, "built", &BUILDS)
 }
 
-#[test]
-fn words_that_ask_for_no_build(rt: HostRuntime) -> Result<(), Fail> {
-    let alloc = rt.alloc();
-    assert_eq!(rt;
-        asked(alloc, "run gen --continue=x")?.as_str(),
-        "REFUSED 96 usage\nBUILD FAILED\n"
-    );
-    for words in ["--nope", "--help", "-V", "-x", "gen -P"] {
-        let status = asked(alloc, format!(in alloc; "status {words}")?.as_str())?;
-        assert_eq!(rt; status.as_str(), "2", "at {words}");
-    }
-    Ok(())
-}
+const WORDS: [Row<'static>; 14] = [
+    ("run gen --rerun-tasks --rerun-tasks", DONE),
+    ("run -Pa=b --project-prop c gen", DONE),
+    ("run -- gen", DONE),
+    ("status gen", "0"),
+    ("run -P9=x gen", "REFUSED 1 bad name 9\nBUILD FAILED\n"),
+    ("status -P9=x gen", "1"),
+    ("status odd", "1"),
+    ("status", "1"),
+    ("run gen --continue=x", "REFUSED 96 usage\nBUILD FAILED\n"),
+    ("status --nope", "2"),
+    ("status --help", "2"),
+    ("status -V", "2"),
+    ("status -x", "2"),
+    ("status gen -P", "2"),
+];
 
 #[test]
-fn what_stands_is_not_built_again(rt: HostRuntime) -> Result<(), Fail> {
-    let lines = format!(in rt.alloc();
-        "{GEN}\nrun -m gen\nread build/a.txt\nrun gen --continue\nrun gen\nrun gen -x gen"
-    )?;
-    let want = format!(in rt.alloc();
-        ":gen SKIPPED\nBUILD SUCCESSFUL\nnone\n{DONE}{STANDS}BUILD SUCCESSFUL\n"
-    )?;
-    assert_eq!(rt;
-        in_memory(rt.alloc(), lines.as_str())?.as_str(),
-        want.as_str()
-    );
-    assert_eq!(rt;
-        on_disk(&rt, "stands", lines.as_str())?.as_str(),
-        want.as_str()
-    );
-    Ok(())
+fn words_ask_for_a_build_or_for_none(rt: HostRuntime) -> Result<(), Fail> {
+    hold(rt.alloc(), &WORDS)
 }
 
 /// How a device fails: 0 once, 1 it stops, and else it stops within a write.
@@ -233,30 +239,38 @@ fn on_failing(alloc: Global, at: u64, kind: u8) -> Result<String, Fail> {
     answers(alloc, &mut inner, GEN)?;
     let mut folder = FaultyFolder::new(inner, at, mode(alloc, kind)?);
     let mut all = answers(alloc, &mut folder, "run gen")?;
-    all.push_str(answers(alloc, &mut folder.into_inner(), "read build.gb\nread src/a")?.as_str())?;
+    all.push_str(answers(alloc, &mut folder.into_inner(), OUTSIDE)?.as_str())?;
     Ok(all)
 }
+
+/// Lines that read the files outside the build folder.
+const OUTSIDE: &str = "read build.gb\nread src/a";
 
 /// Whether an answer tells that the device failed, or that no record could be written.
 fn tells_of_failure(told: &str) -> bool {
     told.contains("10 device ") || told.contains("90 history not written")
 }
 
-/// Fails at the first call whose failure is not told, or where a file outside differs; a build is good in the
-/// end, after as many calls as are answered.
+/// Whether all calls of the build were answered. Fails where one was not and this is not told, or where a file
+/// outside differs.
+fn is_good(all: &str, files: &str) -> Result<bool, Fail> {
+    let told = all.strip_suffix(files).unwrap_or("");
+    if told == DONE || tells_of_failure(told) {
+        Ok(told == DONE)
+    } else {
+        Err(Fail::new(all))
+    }
+}
+
+/// After how many calls that are answered a build is good.
 fn failures_told(alloc: Global, kind: u8) -> Result<u64, Fail> {
-    let files = in_memory(
-        alloc,
-        format!(in alloc; "{GEN}\nread build.gb\nread src/a")?.as_str(),
-    )?;
+    let files = in_memory(alloc, OUTSIDE)?;
     for before in 0..100u64 {
-        let all = on_failing(alloc, before + 1, kind)?;
-        let told = all.strip_suffix(files.as_str()).unwrap_or("");
-        if told == DONE {
+        if is_good(
+            on_failing(alloc, before + 1, kind)?.as_str(),
+            files.as_str(),
+        )? {
             return Ok(before);
-        }
-        if !tells_of_failure(told) {
-            return Err(Fail::new(format!(in alloc; "{before}: {all}")?.as_str()));
         }
     }
     Err(Fail::new("the build is never good"))
@@ -265,8 +279,9 @@ fn failures_told(alloc: Global, kind: u8) -> Result<u64, Fail> {
 #[test]
 fn a_failing_device_is_told(rt: HostRuntime) -> Result<(), Fail> {
     for kind in 0..3u8 {
-        let calls = failures_told(rt.alloc(), kind)?;
-        assert!(rt; calls > 3, "at {kind}: {calls}");
+        if failures_told(rt.alloc(), kind)? <= 3 {
+            return Err(Fail::new("a build of few calls"));
+        }
     }
     Ok(())
 }
@@ -285,22 +300,19 @@ impl Write for FailingWriter {
     }
 }
 
-#[test]
-fn a_failing_writer_is_status_1(rt: HostRuntime) -> Result<(), Fail> {
-    let alloc = rt.alloc();
-    let tables = Tables {
-        actions: ActionTable::new(alloc),
-        transforms: FunctionTable::new(alloc),
-    };
+/// The status of a build that cannot be printed.
+fn unprinted<A: Actions, T: Transforms>(alloc: Global, tables: &Handed<A, T>) -> u8 {
     let mut folder = MemoryFolder::new(alloc);
     let words = Ok(Vec::new(alloc));
-    let status = run::<Builtin, Builtin, _, _>(
-        alloc,
-        &mut folder,
-        words,
-        &mut FailingWriter,
-        &tables,
-    );
-    assert_eq!(rt; status, 1);
-    Ok(())
+    run::<A, T, _, _>(alloc, &mut folder, words, &mut FailingWriter, tables)
+}
+
+#[test]
+fn a_failing_writer_is_status_1(rt: HostRuntime) -> Result<(), Fail> {
+    let tables = tables(rt.alloc())?;
+    if unprinted::<Builtin, Builtin>(rt.alloc(), &tables) == 1 {
+        Ok(())
+    } else {
+        Err(Fail::new("another status"))
+    }
 }

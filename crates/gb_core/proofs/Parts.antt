@@ -1,5 +1,5 @@
 -- The parts of a task's path.
-use Rattle.std.proofs.Common.{◌≡◌, ◌≢◌, ℕ, zero, suc, ◌+◌, ◌-◌, ◌<◌, ◌≤◌, ◌⊎◌, inl, inr, Bool, true, false, not, cond, ◌&&◌, ◌||◌, eqb, List, [], ◌∷◌, ◌++◌, length, take, drop, get_or, refl, ap, sym, ◌∙◌, subst, true≢false, arith, length-append}
+use Rattle.std.proofs.Common.{◌≡◌, ℕ, zero, suc, ◌+◌, ◌-◌, ◌<◌, ◌≤◌, ◌⊎◌, inl, inr, Bool, true, false, not, ◌&&◌, ◌||◌, eqb, List, [], ◌∷◌, ◌++◌, length, take, drop, get_or, refl, ap, sym, ◌∙◌, subst, true≢false, arith, length-append}
 use Rattle.std.specs.Prelude.{All, IsTrue, codes, bytes_eq, if◌then◌else◌}
 use Rattle.std.specs.List.{list_all, slice_split, after_last, before_last, suffix_len}
 use Rattle.std.proofs.Math.Seq.{drop-append-add, take-append_seam, get_or-append_seam}
@@ -9,7 +9,7 @@ use Rattle.std.proofs.lemmas.List.Sums.{suffix_len_is}
 use Rattle.std.proofs.lemmas.List.Splits.{slice_split_none}
 use Rattle.std.proofs.lemmas.Bool.{eqb-true}
 use Rattle.std.proofs.lemmas.Slice.Eq.{bytes_eq-Decides}
-use Rattle.gb_core.specs.Name.{is_name, is_name_byte, is_letter}
+use Rattle.gb_core.specs.Name.{is_name, is_name_byte}
 use Rattle.gb_core.specs.Path.{is_project_path, is_task_path, project_of, root_if_empty, task_in, task_name}
 use Rattle.gb_core.proofs.Splits.{parts-joined}
 use Rattle.gb_core.proofs.TaskPaths.{in_root, left_of, right_of, name_byte, letter_byte, name_bytes}

@@ -1,10 +1,10 @@
 //! Paths of projects and of tasks.
-ghost use Rattle.std.specs.Prelude.{◌≡◌, ◌==◌, ◌∷◌, false};
+ghost use Rattle.std.specs.Prelude.{◌≡◌, ◌==◌, false};
 ghost use Rattle.std.specs.List.{list_all, slice_split};
 ghost use Rattle.gb_core.specs.Name.{is_name};
 ghost use Rattle.gb_core.specs.Path.{is_project_path, is_task_path, root_if_empty};
 
-use crate::name::{Name, NameFault, is_name};
+use crate::name::{NameFault, is_name};
 use crate::text::Text;
 use std::alloc::{AllocError, Global};
 use std::fmt;
@@ -106,17 +106,6 @@ impl TaskPath {
         }
         Ok(TaskPath {
             text: Text::from_str(alloc, text)?,
-        })
-    }
-
-    /// The path of a task of the root project.
-    pub fn in_root(alloc: Global, name: &Name) -> Result<TaskPath, AllocError>
-        ensures { IfOk result (λ path. path ≡ 58 ∷ name.now) }
-    {
-        let mut text = String::from_str(alloc, ":")?;
-        text.push_str(name.as_str())?;
-        Ok(TaskPath {
-            text: Text::new(text),
         })
     }
 

@@ -1,8 +1,9 @@
 //! The text of whole histories, and texts of no history.
-use crate::sample::{empty, task, worked};
+use crate::sample::{empty, raised, task, worked};
 use gb_history::fault::RecordFault;
 use gb_history::history::History;
-use std::alloc::Global;
+use gb_history::record::Record;
+use std::alloc::{AllocError, Global};
 use std::test::Fail;
 
 /// Of no record.
@@ -27,23 +28,39 @@ const TWO_FIRST: &str =
 689d983615603d27fb0b13c0c08b034179e51c68f424072fce973be791a509a1
 "#;
 
+fn record_at(alloc: Global, index: usize) -> Result<Record, Fail> {
+    if index == 0 {
+        return worked(alloc);
+    }
+    Ok(empty(alloc))
+}
+
+fn put(alloc: Global, history: &mut History, index: usize, path: &str) -> Result<(), Fail> {
+    let run = record_at(alloc, index)?;
+    history.put(task(alloc, path)?, run)?;
+    Ok(())
+}
+
 /// The history of these tasks, the first of which writes `abc`.
 fn history(alloc: Global, tasks: &[&str]) -> Result<History, Fail> {
     let mut history = History::new(alloc);
-    for (at, path) in tasks.iter().enumerate() {
-        let run = if at == 0 {
-            worked(alloc)?
-        } else {
-            empty(alloc)
-        };
-        history.put(task(alloc, path)?, run)?;
+    for (index, path) in tasks.iter().enumerate() {
+        put(alloc, &mut history, index, path)?;
     }
     Ok(history)
 }
 
-fn is_written(alloc: Global, tasks: &[&str], text: &str) -> Result<bool, Fail> {
-    let written = history(alloc, tasks)?.text(alloc)?;
-    Ok(written.as_slice() == text.as_bytes())
+fn text_of(alloc: Global, tasks: &[&str]) -> Result<Vec<u8>, Fail> {
+    let history = history(alloc, tasks)?;
+    Ok(history.text(alloc)?)
+}
+
+/// Fails unless the history of these tasks has this text.
+fn is_written(alloc: Global, tasks: &[&str], text: &str) -> Result<(), Fail> {
+    if text_of(alloc, tasks)?.as_slice() != text.as_bytes() {
+        return Err(Fail::new(text));
+    }
+    Ok(())
 }
 
 /// The history that is read from a text, written again.
@@ -54,25 +71,44 @@ fn rewritten(alloc: Global, text: &[u8]) -> Result<Vec<u8>, Fail> {
     }
 }
 
-fn is_rewritten(alloc: Global, text: &str, again: &str) -> Result<bool, Fail> {
-    Ok(rewritten(alloc, text.as_bytes())?.as_slice() == again.as_bytes())
+/// Fails unless the first text is read, and written again as the second.
+fn is_rewritten(alloc: Global, text: &str, again: &str) -> Result<(), Fail> {
+    if rewritten(alloc, text.as_bytes())?.as_slice() != again.as_bytes() {
+        return Err(Fail::new(text));
+    }
+    Ok(())
 }
 
 /// There and back it has the same text.
 fn comes_back(alloc: Global, tasks: &[&str]) -> Result<bool, Fail> {
-    let history = history(alloc, tasks)?;
-    let text = history.text(alloc)?;
+    let text = text_of(alloc, tasks)?;
     let again = rewritten(alloc, text.as_slice())?;
     Ok(again.as_slice() == text.as_slice())
+}
+
+fn have_one_text(alloc: Global, left: &History, right: &History) -> Result<bool, AllocError> {
+    let text = left.text(alloc)?;
+    let other = right.text(alloc)?;
+    Ok(text.as_slice() == other.as_slice())
 }
 
 /// So it has in one call.
 fn goes_through(alloc: Global, tasks: &[&str]) -> Result<bool, Fail> {
     let history = history(alloc, tasks)?;
     match history.through_text(alloc) {
-        Ok(same) => Ok(same.text(alloc)?.as_slice() == history.text(alloc)?.as_slice()),
+        Ok(same) => Ok(have_one_text(alloc, &history, &same)?),
         Err(_) => Ok(false),
     }
+}
+
+/// Fails where a history of these tasks has another text, there and back.
+fn come_back(alloc: Global, histories: &[&[&str]]) -> Result<(), Fail> {
+    for tasks in histories {
+        if !comes_back(alloc, tasks)? || !goes_through(alloc, tasks)? {
+            return Err(Fail::new("another text"));
+        }
+    }
+    Ok(())
 }
 
 fn is_refused(alloc: Global, bytes: &[u8]) -> bool {
@@ -80,73 +116,59 @@ fn is_refused(alloc: Global, bytes: &[u8]) -> bool {
 }
 
 /// No front of the text but itself is a history.
-fn fronts_are_refused(alloc: Global) -> bool {
-    let text = TWO.as_bytes();
-    let mut refused = true;
+fn fronts_are_refused(alloc: Global, text: &[u8]) -> Result<(), Fail> {
     for end in 0..text.len() {
-        refused = refused && is_refused(alloc, &text[..end]);
+        if !is_refused(alloc, &text[..end]) {
+            return Err(Fail::new("a front is a history"));
+        }
     }
-    refused
+    Ok(())
 }
 
 /// No text with one byte raised by one is a history.
-fn raised_are_refused(alloc: Global) -> Result<bool, Fail> {
-    let text = TWO.as_bytes();
-    let mut refused = true;
+fn raised_are_refused(alloc: Global, text: &[u8]) -> Result<(), Fail> {
     for at in 0..text.len() {
-        let mut raised = Vec::new(alloc);
-        raised.extend_from_slice(text)?;
-        raised[at] = text[at].wrapping_add(1);
-        refused = refused && is_refused(alloc, raised.as_slice());
+        let other = raised(alloc, text, at)?;
+        if !is_refused(alloc, other.as_slice()) {
+            return Err(Fail::new("a raised text is a history"));
+        }
     }
-    Ok(refused)
+    Ok(())
 }
 
 /// Paths out of order and twice, other forms, keys, space and paths, and bad seals.
-fn others_are_refused(alloc: Global) -> bool {
-    let mut refused = true;
+fn others_are_refused(alloc: Global) -> Result<(), Fail> {
     for text in OTHERS.split('|') {
-        refused = refused && is_refused(alloc, text.as_bytes());
+        if !is_refused(alloc, text.as_bytes()) {
+            return Err(Fail::new(text));
+        }
     }
-    refused
+    Ok(())
 }
 
 #[test]
 fn a_history_has_its_text(rt: HostRuntime) -> Result<(), Fail> {
-    let alloc = rt.alloc();
-    assert!(rt; is_written(alloc, &[], NONE)?);
-    assert!(rt; is_written(alloc, &[":gen", ":lib:gen"], TWO)?);
-    Ok(())
+    is_written(rt.alloc(), &[], NONE)?;
+    is_written(rt.alloc(), &[":gen", ":lib:gen"], TWO)
 }
 
 #[test]
 fn either_edition_is_read(rt: HostRuntime) -> Result<(), Fail> {
-    let alloc = rt.alloc();
-    assert!(rt; is_rewritten(alloc, NONE_FIRST, NONE)?);
-    assert!(rt; is_rewritten(alloc, TWO, TWO)?);
-    assert!(rt; is_rewritten(alloc, TWO_FIRST, TWO)?);
-    Ok(())
+    is_rewritten(rt.alloc(), NONE_FIRST, NONE)?;
+    is_rewritten(rt.alloc(), TWO, TWO)?;
+    is_rewritten(rt.alloc(), TWO_FIRST, TWO)
 }
 
 #[test]
 fn a_history_comes_back(rt: HostRuntime) -> Result<(), Fail> {
-    let alloc = rt.alloc();
-    assert!(rt; comes_back(alloc, &[])?);
-    assert!(rt; comes_back(alloc, &[":gen"])?);
-    assert!(rt; comes_back(alloc, &[":lib:gen", ":b", ":a"])?);
-    assert!(rt; goes_through(alloc, &[])?);
-    assert!(rt; goes_through(alloc, &[":gen"])?);
-    assert!(rt; goes_through(alloc, &[":lib:gen", ":b", ":a"])?);
-    Ok(())
+    come_back(rt.alloc(), &[&[], &[":gen"], &[":lib:gen", ":b", ":a"]])
 }
 
 #[test]
 fn other_texts_are_no_histories(rt: HostRuntime) -> Result<(), Fail> {
-    let alloc = rt.alloc();
-    assert!(rt; fronts_are_refused(alloc));
-    assert!(rt; raised_are_refused(alloc)?);
-    assert!(rt; others_are_refused(alloc));
-    Ok(())
+    fronts_are_refused(rt.alloc(), TWO.as_bytes())?;
+    raised_are_refused(rt.alloc(), TWO.as_bytes())?;
+    others_are_refused(rt.alloc())
 }
 
 /// Texts of no history, parted by bars.

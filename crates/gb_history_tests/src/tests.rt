@@ -1,9 +1,10 @@
 //! The text of a worked record, and texts of no record.
-use crate::sample::{task, worked};
+use crate::sample::{raised, task, worked};
 use gb_core::path::TaskPath;
 use gb_history::fault::RecordFault;
+use gb_history::record::Record;
 use gb_history::text::{read_record, record_text};
-use std::alloc::Global;
+use std::alloc::{AllocError, Global};
 use std::test::Fail;
 
 /// What stands after the first run of a task that writes `abc` to `build/a.txt`.
@@ -18,26 +19,36 @@ const STORED_FIRST: &str =
 d075510cbf1b60d97c23d1462bc14617e7d32f2285ef1b385b1956761cf96c72
 "#;
 
-fn is_written(alloc: Global) -> Result<bool, Fail> {
-    let text = record_text(alloc, &task(alloc, ":gen")?, &worked(alloc)?)?;
+fn has_text(alloc: Global, path: &TaskPath, run: &Record) -> Result<bool, AllocError> {
+    let text = record_text(alloc, path, run)?;
     Ok(text.as_slice() == STORED.as_bytes())
 }
 
-/// The record that is read from a text, written again.
-fn rewritten(alloc: Global, text: &str) -> Result<Vec<u8>, Fail> {
+fn is_written(alloc: Global) -> Result<bool, Fail> {
     let path = task(alloc, ":gen")?;
-    match read_record(alloc, &path, text.as_bytes()) {
-        Ok(run) => Ok(record_text(alloc, &path, &run)?),
+    let run = worked(alloc)?;
+    Ok(has_text(alloc, &path, &run)?)
+}
+
+/// The record that is read from a text, written again.
+fn rewritten(alloc: Global, path: &TaskPath, text: &str) -> Result<Vec<u8>, AllocError> {
+    match read_record(alloc, path, text.as_bytes()) {
+        Ok(run) => record_text(alloc, path, &run),
         Err(_) => Ok(Vec::new(alloc)),
     }
 }
 
-/// Either edition is read, and written in the second.
-fn is_read(alloc: Global) -> Result<bool, Fail> {
-    Ok(
-        rewritten(alloc, STORED)?.as_slice() == STORED.as_bytes()
-            && rewritten(alloc, STORED_FIRST)?.as_slice() == STORED.as_bytes(),
-    )
+/// Fails unless a text is read, and written in the second edition.
+fn is_read(alloc: Global, path: &TaskPath, text: &str) -> Result<(), Fail> {
+    if rewritten(alloc, path, text)?.as_slice() != STORED.as_bytes() {
+        return Err(Fail::new(text));
+    }
+    Ok(())
+}
+
+fn editions_are_read(alloc: Global, path: &TaskPath) -> Result<(), Fail> {
+    is_read(alloc, path, STORED)?;
+    is_read(alloc, path, STORED_FIRST)
 }
 
 fn is_refused(alloc: Global, path: &TaskPath, bytes: &[u8]) -> bool {
@@ -49,60 +60,69 @@ fn is_refused(alloc: Global, path: &TaskPath, bytes: &[u8]) -> bool {
 
 /// A good record of another task is no record.
 fn is_of_its_task(alloc: Global) -> Result<bool, Fail> {
-    Ok(is_refused(alloc, &task(alloc, ":other")?, STORED.as_bytes()))
+    let other = task(alloc, ":other")?;
+    Ok(is_refused(alloc, &other, STORED.as_bytes()))
 }
 
 /// No front of the text but itself is a record.
-fn fronts_are_refused(alloc: Global) -> Result<bool, Fail> {
-    let path = task(alloc, ":gen")?;
-    let text = STORED.as_bytes();
-    let mut refused = true;
+fn fronts_are_refused(alloc: Global, path: &TaskPath, text: &[u8]) -> Result<(), Fail> {
     for end in 0..text.len() {
-        refused = refused && is_refused(alloc, &path, &text[..end]);
+        if !is_refused(alloc, path, &text[..end]) {
+            return Err(Fail::new("a front is a record"));
+        }
     }
-    Ok(refused)
+    Ok(())
 }
 
 /// No text with one byte raised by one is a record.
-fn raised_are_refused(alloc: Global) -> Result<bool, Fail> {
-    let path = task(alloc, ":gen")?;
-    let text = STORED.as_bytes();
-    let mut refused = true;
+fn raised_are_refused(alloc: Global, path: &TaskPath, text: &[u8]) -> Result<(), Fail> {
     for at in 0..text.len() {
-        let mut raised = Vec::new(alloc);
-        raised.extend_from_slice(text)?;
-        raised[at] = text[at].wrapping_add(1);
-        refused = refused && is_refused(alloc, &path, raised.as_slice());
+        let other = raised(alloc, text, at)?;
+        if !is_refused(alloc, path, other.as_slice()) {
+            return Err(Fail::new("a raised text is a record"));
+        }
     }
-    Ok(refused)
+    Ok(())
 }
 
 /// Texts with a good seal: other forms, numbers, keys, space, digests, places, names, and orders.
-fn others_are_refused(alloc: Global) -> Result<bool, Fail> {
-    let path = task(alloc, ":gen")?;
-    let mut refused = true;
+fn others_are_refused(alloc: Global, path: &TaskPath) -> Result<(), Fail> {
     for text in OTHERS.split('|') {
-        refused = refused && is_refused(alloc, &path, text.as_bytes());
+        if !is_refused(alloc, path, text.as_bytes()) {
+            return Err(Fail::new(text));
+        }
     }
-    Ok(refused)
+    Ok(())
+}
+
+fn all_are_refused(alloc: Global, path: &TaskPath) -> Result<(), Fail> {
+    fronts_are_refused(alloc, path, STORED.as_bytes())?;
+    raised_are_refused(alloc, path, STORED.as_bytes())?;
+    others_are_refused(alloc, path)
 }
 
 #[test]
 fn a_record_has_its_text(rt: HostRuntime) -> Result<(), Fail> {
-    let alloc = rt.alloc();
-    assert!(rt; is_written(alloc)?);
-    assert!(rt; is_read(alloc)?);
+    assert!(rt; is_written(rt.alloc())?);
+    Ok(())
+}
+
+#[test]
+fn either_edition_is_read(rt: HostRuntime) -> Result<(), Fail> {
+    let path = task(rt.alloc(), ":gen")?;
+    editions_are_read(rt.alloc(), &path)
+}
+
+#[test]
+fn a_record_is_of_its_task(rt: HostRuntime) -> Result<(), Fail> {
+    assert!(rt; is_of_its_task(rt.alloc())?);
     Ok(())
 }
 
 #[test]
 fn other_texts_are_no_records(rt: HostRuntime) -> Result<(), Fail> {
-    let alloc = rt.alloc();
-    assert!(rt; is_of_its_task(alloc)?);
-    assert!(rt; fronts_are_refused(alloc)?);
-    assert!(rt; raised_are_refused(alloc)?);
-    assert!(rt; others_are_refused(alloc)?);
-    Ok(())
+    let path = task(rt.alloc(), ":gen")?;
+    all_are_refused(rt.alloc(), &path)
 }
 
 /// Texts of no record of the task, parted by bars.

@@ -1,9 +1,9 @@
 //! The kinds of actions that every build has, and the closures that stand for them.
 //!
 //! `Builtin` says what each number of a kind means. For each kind there is one plain function,
-//! whose contract is that meaning, and its shape. A program boxes the functions and hands them to
-//! `builtin_table`: no function here can make the boxes, since what is known of a boxed closure
-//! would then hang on that function's body.
+//! whose contract is that meaning, and its shape. A program boxes the functions and adds them to a
+//! `table`: no function here can make the boxes, since what is known of a boxed closure would then
+//! hang on that function's body.
 //! The functions of values, of which properties and providers are made, have the same form.
 #![tactic(auto)]
 

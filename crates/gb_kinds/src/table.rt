@@ -1,8 +1,8 @@
 //! All built-in actions by name.
 //!
-//! `builtin_table` gives them all. It adds them in three steps, which can also be called alone, so
-//! that few boxes are held at a time: each way out of a function lets go all boxes that it holds.
-ghost use Rattle.std.specs.Prelude.{◌≡◌, ◌++◌, ◌∷◌, [], ℕ, List, false, bytes_eq, IfErr, IfOk, OnOk, map};
+//! A program fills its table in three steps, or in the first of them alone, so that few boxes are held
+//! at a time: each way out of a function lets go all boxes that it holds.
+ghost use Rattle.std.specs.Prelude.{◌≡◌, ◌++◌, ◌∷◌, [], ℕ, List, false, bytes_eq, IfErr, OnOk, map};
 ghost use Rattle.std.specs.List.{list_any};
 ghost use Rattle.gb_action.specs.declared.table.TableFault.TheVariants.{OutOfMemory};
 ghost use Rattle.gb_kinds.specs.Builtin.{StandsFor, builtin_shape, builtin_names, text_names, file_names};
@@ -17,63 +17,6 @@ use gb_action::shape::Shape;
 use gb_action::table::{ActionTable, TableFault};
 use gb_core::name::Name;
 use std::alloc::Global;
-
-/// The boxed functions of the kinds, each under the name of its kind.
-#[derive(Drop)]
-pub struct Runs {
-    pub print_line: Run,
-    pub write_text: Run,
-    pub fail: Run,
-    pub copy_files: Run,
-    pub replace_tokens: Run,
-    pub keep_lines: Run,
-    pub sums: Run,
-    pub word_index: Run,
-    pub concat: Run,
-    pub add_file: Run,
-}
-
-/// All kinds by name. Only want of memory refuses.
-pub fn builtin_table(alloc: Global, runs: Runs) -> Result<ActionTable<StoredAction>, TableFault>
-    requires print_line { StandsFor PRINT_LINE (Run.pre runs.print_line) (Run.post runs.print_line) }
-    requires write_text { StandsFor WRITE_TEXT (Run.pre runs.write_text) (Run.post runs.write_text) }
-    requires fail { StandsFor FAIL (Run.pre runs.fail) (Run.post runs.fail) }
-    requires copy_files { StandsFor COPY_FILES (Run.pre runs.copy_files) (Run.post runs.copy_files) }
-    requires replace_tokens { StandsFor REPLACE_TOKENS (Run.pre runs.replace_tokens) (Run.post runs.replace_tokens) }
-    requires keep_lines { StandsFor KEEP_LINES (Run.pre runs.keep_lines) (Run.post runs.keep_lines) }
-    requires sums { StandsFor SUMS (Run.pre runs.sums) (Run.post runs.sums) }
-    requires word_index { StandsFor WORD_INDEX (Run.pre runs.word_index) (Run.post runs.word_index) }
-    requires concat { StandsFor CONCAT (Run.pre runs.concat) (Run.post runs.concat) }
-    requires add_file { StandsFor ADD_FILE (Run.pre runs.add_file) (Run.post runs.add_file) }
-    ensures ok { IfOk result (λ table. map {B = List ℕ × ℕ × ℕ} (λ e. (e.0, e.1.kind, e.1.version)) table ≡ builtin_names) }
-    ensures err { IfErr result (λ fault. fault ≡ OutOfMemory) }
-{
-    let Runs {
-        print_line,
-        write_text,
-        fail,
-        copy_files,
-        replace_tokens,
-        keep_lines,
-        sums,
-        word_index,
-        concat,
-        add_file,
-    } = runs;
-    let mut table = ActionTable::new(alloc);
-    add_text_kinds(alloc, &mut table, print_line, write_text, fail)?;
-    add_file_kinds(
-        alloc,
-        &mut table,
-        copy_files,
-        replace_tokens,
-        keep_lines,
-        sums,
-        word_index,
-    )?;
-    add_one_file_kinds(alloc, &mut table, concat, add_file)?;
-    Ok(table)
-}
 
 /// Adds the kinds that read no files to an empty table. All kinds have version 1.
 pub fn add_text_kinds(

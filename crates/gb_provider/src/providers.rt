@@ -371,17 +371,6 @@ impl<'a, T: Transforms> Providers<'a, T> {
         }
     }
 
-    /// Whether `test` takes so many arguments under this name: 31 where no test has it, then 32.
-    /// Nothing is evaluated.
-    pub fn accepts_test(&self, name: &str, count: usize) -> Result<(), StepFault>
-        ensures { IsAccepted T.meanings.test.arity count (test_named self.now.table name.now) result }
-    {
-        match accepted_test::<T>(self.table, name, count) {
-            Ok(_) => Ok(()),
-            Err(fault) => Err(fault),
-        }
-    }
-
     // The answer of a test that takes as many arguments.
     fn test_by(
         &mut self,

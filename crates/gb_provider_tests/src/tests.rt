@@ -2,11 +2,8 @@
 use crate::asking::{self, number};
 use crate::sample::{Only, Sample};
 use gb_core::name::Name;
-use gb_core::path::TaskPath;
-use gb_core::text::{Text, Texts};
-use gb_core::value::Value;
 use gb_provider::expression::Node;
-use gb_provider::fault::{ProviderFault, TableFault};
+use gb_provider::fault::TableFault;
 use gb_provider::providers::Providers;
 use gb_provider::table::TransformTable;
 use gb_provider::transforms::Transforms;
@@ -20,13 +17,34 @@ fn name(alloc: Global, text: &str) -> Result<Name, TableFault> {
     Name::read(alloc, text).map_err(|_| TableFault::OutOfMemory)
 }
 
+fn add_map(alloc: Global, table: &mut Table, text: &str) -> Result<(), TableFault> {
+    table.add_map(&name(alloc, text)?, Only)
+}
+
+fn add_flat(alloc: Global, table: &mut Table, text: &str) -> Result<(), TableFault> {
+    table.add_flat(&name(alloc, text)?, Only)
+}
+
+fn add_zip(alloc: Global, table: &mut Table, text: &str) -> Result<(), TableFault> {
+    table.add_zip(&name(alloc, text)?, Only)
+}
+
+fn add_test(alloc: Global, table: &mut Table, text: &str) -> Result<(), TableFault> {
+    table.add_test(&name(alloc, text)?, Only)
+}
+
+/// Adds the functions of the sample.
+fn add_all(alloc: Global, table: &mut Table) -> Result<(), TableFault> {
+    add_map(alloc, table, "nonEmpty")?;
+    add_flat(alloc, table, "output")?;
+    add_zip(alloc, table, "concat")?;
+    add_test(alloc, table, "isTrue")
+}
+
 /// A table of the functions of the sample.
 fn sample_table(alloc: Global) -> Result<Table, TableFault> {
     let mut table = Table::new(alloc);
-    table.add_map(&name(alloc, "nonEmpty")?, Only)?;
-    table.add_flat(&name(alloc, "output")?, Only)?;
-    table.add_zip(&name(alloc, "concat")?, Only)?;
-    table.add_test(&name(alloc, "isTrue")?, Only)?;
+    add_all(alloc, &mut table)?;
     Ok(table)
 }
 
@@ -43,9 +61,14 @@ fn refuses(table: &mut Table, name: &Name) -> bool {
         .all(|added| added.map_err(TableFault::number) == Err(37))
 }
 
+fn refuses_taken(alloc: Global, table: &mut Table) -> Result<bool, TableFault> {
+    let name = name(alloc, "concat")?;
+    Ok(refuses(table, &name))
+}
+
 fn are_taken_once(alloc: Global) -> Result<bool, TableFault> {
     let mut table = sample_table(alloc)?;
-    Ok(refuses(&mut table, &name(alloc, "concat")?))
+    refuses_taken(alloc, &mut table)
 }
 
 #[test]
@@ -60,29 +83,27 @@ fn missing_fault<T: Transforms>(
     providers: &mut Providers<'_, T>,
     source: Node,
 ) -> u16 {
-    number(&asking::map(alloc, providers, source, "nope"))
+    number(asking::map(alloc, providers, source, "nope"))
 }
 
 /// What `map` makes of an empty text by nonEmpty.
-fn mapped<T: Transforms>(
-    alloc: Global,
-    providers: &mut Providers<'_, T>,
-) -> Result<Node, ProviderFault> {
-    let empty = providers.value(asking::text(alloc, "")?)?;
-    asking::map(alloc, providers, empty, "nonEmpty")
+fn mapped<T: Transforms>(alloc: Global, providers: &mut Providers<'_, T>) -> Option<Node> {
+    let empty = asking::text(alloc, providers, "")?;
+    asking::map(alloc, providers, empty, "nonEmpty").ok()
 }
 
 /// Nothing, and 33, and 31 by no function.
-fn is_mapped<T: Transforms>(
-    alloc: Global,
-    providers: &mut Providers<'_, T>,
-) -> Result<bool, ProviderFault> {
-    let mapped = mapped(alloc, providers)?;
-    Ok(
-        asking::is_absent(providers, mapped)
-            && asking::required_fault(providers, mapped) == 33
-            && missing_fault(alloc, providers, mapped) == 31,
-    )
+fn is_nothing<T: Transforms>(alloc: Global, providers: &mut Providers<'_, T>, node: Node) -> bool {
+    asking::is_absent(providers, node)
+        && asking::required_fault(providers, node) == 33
+        && missing_fault(alloc, providers, node) == 31
+}
+
+fn is_mapped<T: Transforms>(alloc: Global, providers: &mut Providers<'_, T>) -> bool {
+    match mapped(alloc, providers) {
+        Some(node) => is_nothing(alloc, providers, node),
+        None => false,
+    }
 }
 
 fn try_is_mapped<T: Transforms>(
@@ -90,82 +111,30 @@ fn try_is_mapped<T: Transforms>(
     table: &TransformTable<T::Map, T::FlatMap, T::Zip, T::Test>,
 ) -> bool {
     let mut providers = Providers::<T>::new(alloc, table);
-    is_mapped(alloc, &mut providers).is_ok_and(|is_so| is_so)
+    is_mapped(alloc, &mut providers)
+}
+
+fn are_mapped(alloc: Global) -> Result<bool, TableFault> {
+    let table = sample_table(alloc)?;
+    Ok(try_is_mapped::<Sample>(alloc, &table))
 }
 
 #[test]
 fn what_a_function_does_not_give_is_absent(rt: HostRuntime) -> Result<(), Fail> {
-    let alloc = rt.alloc();
-    let table = sample_table(alloc)?;
-    assert!(rt; try_is_mapped::<Sample>(alloc, &table));
-    Ok(())
-}
-
-/// What a test of this name with so many arguments is refused for, or 0.
-fn test_fault<T: Transforms>(
-    alloc: Global,
-    table: &TransformTable<T::Map, T::FlatMap, T::Zip, T::Test>,
-    name: &str,
-    count: usize,
-) -> u16 {
-    let providers = Providers::<T>::new(alloc, table);
-    match providers.accepts_test(name, count) {
-        Ok(()) => 0,
-        Err(fault) => fault.number(),
-    }
-}
-
-fn are_tests_accepted(alloc: Global) -> Result<bool, TableFault> {
-    let table = sample_table(alloc)?;
-    Ok(
-        test_fault::<Sample>(alloc, &table, "isTrue", 0) == 0
-            && test_fault::<Sample>(alloc, &table, "isTrue", 1) == 32
-            && test_fault::<Sample>(alloc, &table, "concat", 7) == 31,
-    )
-}
-
-#[test]
-fn a_test_is_accepted_before_it_is_asked(rt: HostRuntime) -> Result<(), Fail> {
-    assert!(rt; are_tests_accepted(rt.alloc())?);
+    assert!(rt; are_mapped(rt.alloc())?);
     Ok(())
 }
 
 /// An output of the task `:g`, by what chooses it.
-fn chosen<T: Transforms>(
-    alloc: Global,
-    providers: &mut Providers<'_, T>,
-) -> Result<Node, ProviderFault> {
-    let Ok(task) = TaskPath::read(alloc, ":g") else {
-        return Err(ProviderFault::OutOfMemory);
-    };
-    let mut arguments = Texts::new(alloc);
-    arguments.push(Text::from_str(alloc, "out")?)?;
-    let node = providers.value(Value::Task(task))?;
-    asking::flat_map(providers, node, "output", arguments).map_err(ProviderFault::Step)
+fn chosen<T: Transforms>(alloc: Global, providers: &mut Providers<'_, T>) -> Option<Node> {
+    let node = asking::task_node(alloc, providers)?;
+    asking::flat_map(providers, node, "output", asking::arguments(alloc)?)
 }
 
-/// The output `out` of the task `:g`.
-fn output<T: Transforms>(
-    alloc: Global,
-    providers: &mut Providers<'_, T>,
-) -> Result<Node, ProviderFault> {
-    let Ok(task) = TaskPath::read(alloc, ":g") else {
-        return Err(ProviderFault::OutOfMemory);
-    };
-    Ok(providers.output(task, Text::from_str(alloc, "out")?)?)
-}
-
-/// Declares it as a text.
-fn declare<T: Transforms>(
-    alloc: Global,
-    providers: &mut Providers<'_, T>,
-) -> Result<Node, ProviderFault> {
-    let Ok(task) = TaskPath::read(alloc, ":g") else {
-        return Err(ProviderFault::OutOfMemory);
-    };
-    let source = providers.value(asking::text(alloc, "build/a")?)?;
-    let name = Text::from_str(alloc, "out")?;
-    asking::declare_output(providers, task, name, source)
+/// Declares the output as a text.
+fn declare<T: Transforms>(alloc: Global, providers: &mut Providers<'_, T>) -> Option<Node> {
+    let source = asking::text(alloc, providers, "build/a")?;
+    asking::declare_output(alloc, providers, source)
 }
 
 /// Whether the node has this text, and is made by `:g` alone.
@@ -178,16 +147,27 @@ fn is_to_be_made<T: Transforms>(providers: &mut Providers<'_, T>, node: Node) ->
     asking::value_fault(providers, node) == 36 && asking::is_of_g(providers, node)
 }
 
-/// An output that is declared later, and what chooses it.
-fn is_realised<T: Transforms>(
+/// Whether two nodes have no value before the output is declared, and have it from then on.
+fn become_made<T: Transforms>(
     alloc: Global,
     providers: &mut Providers<'_, T>,
-) -> Result<bool, ProviderFault> {
-    let chosen = chosen(alloc, providers)?;
-    let output = output(alloc, providers)?;
+    chosen: Node,
+    output: Node,
+) -> bool {
     let before = is_to_be_made(providers, chosen) && is_to_be_made(providers, output);
-    declare(alloc, providers)?;
-    Ok(before && is_made(providers, chosen) && is_made(providers, output))
+    let is_declared = declare(alloc, providers).is_some();
+    before && is_declared && is_made(providers, chosen) && is_made(providers, output)
+}
+
+/// An output that is declared later, and what chooses it.
+fn is_realised<T: Transforms>(alloc: Global, providers: &mut Providers<'_, T>) -> bool {
+    let Some(chosen) = chosen(alloc, providers) else {
+        return false;
+    };
+    match asking::output(alloc, providers) {
+        Some(output) => become_made(alloc, providers, chosen, output),
+        None => false,
+    }
 }
 
 fn try_is_realised<T: Transforms>(
@@ -195,13 +175,16 @@ fn try_is_realised<T: Transforms>(
     table: &TransformTable<T::Map, T::FlatMap, T::Zip, T::Test>,
 ) -> bool {
     let mut providers = Providers::<T>::new(alloc, table);
-    is_realised(alloc, &mut providers).is_ok_and(|is_so| is_so)
+    is_realised(alloc, &mut providers)
+}
+
+fn are_realised(alloc: Global) -> Result<bool, TableFault> {
+    let table = sample_table(alloc)?;
+    Ok(try_is_realised::<Sample>(alloc, &table))
 }
 
 #[test]
 fn an_output_is_read_once_it_is_declared(rt: HostRuntime) -> Result<(), Fail> {
-    let alloc = rt.alloc();
-    let table = sample_table(alloc)?;
-    assert!(rt; try_is_realised::<Sample>(alloc, &table));
+    assert!(rt; are_realised(rt.alloc())?);
     Ok(())
 }

@@ -5,11 +5,9 @@
 #![tactic(auto)]
 
 use gb_action::table::ActionTable;
-use gb_answer::functions::function_table;
-use gb_answer::{builtin_functions, builtin_runs};
+use gb_answer::{builtin_actions, builtin_functions};
 use gb_kinds::builtin::{Builtin, StoredAction};
 use gb_kinds::function_table::FunctionTable;
-use gb_kinds::table::builtin_table;
 use gb_lines::replay::replay;
 use gb_lines::stop::Stop;
 use gb_registry::tables::Tables;
@@ -17,16 +15,12 @@ use std::io::{self, BufWriter};
 use std::process::ExitCode;
 
 fn main(rt: HostRuntime) -> Result<ExitCode, Stop> {
-    let alloc = rt.alloc();
-    let actions = builtin_table(alloc, builtin_runs!(alloc))?;
-    with_actions(&rt, actions)
+    with_actions(&rt, builtin_actions!(rt.alloc()))
 }
 
 /// Replays with these actions and all functions of values.
 fn with_actions(rt: &HostRuntime, actions: ActionTable<StoredAction>) -> Result<ExitCode, Stop> {
-    let alloc = rt.alloc();
-    let transforms = function_table(alloc, builtin_functions!(alloc))?;
-    replayed(rt, actions, transforms)
+    replayed(rt, actions, builtin_functions!(rt.alloc()))
 }
 
 /// Replays standard input to standard output.

@@ -1,7 +1,9 @@
 //! Each call that takes memory, once, and texts from outside.
-use gb_core::name::Name;
+//!
+//! Each case is a function that answers whether it holds, so that no assertion stands where values live.
+use gb_core::name::{Name, NameFault};
 use gb_core::path::TaskPath;
-use gb_core::place::{Place, RelPath};
+use gb_core::place::{Place, PlaceFault, RelPath};
 use gb_core::tasks::TaskList;
 use gb_core::text::{Text, Texts};
 use gb_report::fault::{Fault, Limited};
@@ -10,178 +12,228 @@ use gb_report::report::{Outcome, Report, TaskReport, TaskReports};
 use std::alloc::{AllocError, Global};
 use std::test::Fail;
 
+/// Fails with the name of the first case that does not hold.
+fn all_hold(cases: &[(&str, bool)]) -> Result<(), Fail> {
+    for case in cases {
+        if !case.1 {
+            return Err(Fail::new(case.0));
+        }
+    }
+    Ok(())
+}
+
+fn texts_of(alloc: Global, texts: &[&str]) -> Result<Texts, AllocError> {
+    let mut all = Texts::new(alloc);
+    for text in texts {
+        all.push(Text::from_str(alloc, text)?)?;
+    }
+    Ok(all)
+}
+
+/// The path of a task, how it ended, and the lines that it printed.
+type Row<'a> = (&'a str, &'a str, &'a [&'a str]);
+
+/// The outcome of this name; any other text is why an action failed.
+fn outcome_of(alloc: Global, name: &str) -> Result<Outcome, AllocError> {
+    Ok(match name {
+        "executed" => Outcome::Executed,
+        "up to date" => Outcome::UpToDate,
+        _ => Outcome::Failed(Fault::ActionFailed(Text::from_str(alloc, name)?)),
+    })
+}
+
 /// A task with an action.
-fn ran(path: TaskPath, outcome: Outcome, lines: Texts) -> TaskReport {
-    TaskReport {
+fn ran(alloc: Global, path: TaskPath, row: &Row<'_>) -> Result<TaskReport, AllocError> {
+    let lines = texts_of(alloc, row.2)?;
+    let outcome = outcome_of(alloc, row.1)?;
+    Ok(TaskReport {
         path,
         outcome,
         has_actions: true,
         lines,
-    }
+    })
 }
 
-fn add(tasks: &mut Vec<TaskReport>, task: TaskReport) -> Result<(), AllocError> {
-    tasks.push(task)?;
-    Ok(())
+fn task_of(alloc: Global, row: &Row<'_>) -> Result<TaskReport, NameFault> {
+    let path = TaskPath::read(alloc, row.0)?;
+    Ok(ran(alloc, path, row)?)
 }
 
-/// A task of this path that printed nothing.
-fn add_quiet(tasks: &mut Vec<TaskReport>, alloc: Global, path: &str) -> Result<(), Fail> {
-    let path = TaskPath::read(alloc, path)?;
-    Ok(add(tasks, ran(path, Outcome::UpToDate, Texts::new(alloc)))?)
-}
-
-fn one_line(alloc: Global, line: &str) -> Result<Texts, AllocError> {
-    let mut lines = Texts::new(alloc);
-    lines.push(Text::from_str(alloc, line)?)?;
-    Ok(lines)
-}
-
-/// Whether the report is printed so.
-fn prints(alloc: Global, report: &Report, want: &str) -> Result<bool, Fail> {
-    Ok(render(alloc, report)?.as_slice() == want.as_bytes())
-}
-
-/// A build of three tasks, one of which failed.
-fn three_tasks(alloc: Global) -> Result<Vec<TaskReport>, Fail> {
+fn tasks_of(alloc: Global, rows: &[Row<'_>]) -> Result<Vec<TaskReport>, Fail> {
     let mut tasks = Vec::new(alloc);
-    let path = TaskPath::read(alloc, ":hi")?;
-    let lines = one_line(alloc, "2")?;
-    add(&mut tasks, ran(path, Outcome::Executed, lines))?;
-    add_quiet(&mut tasks, alloc, ":a")?;
-    let path = TaskPath::read(alloc, ":t")?;
-    let text = Text::from_str(alloc, "no")?;
-    let lines = one_line(alloc, "a")?;
-    add(
-        &mut tasks,
-        ran(path, Outcome::Failed(Fault::ActionFailed(text)), lines),
-    )?;
+    for row in rows {
+        tasks.push(task_of(alloc, row)?)?;
+    }
     Ok(tasks)
 }
 
-fn copies_of(alloc: Global, tasks: &[TaskReport]) -> Result<Vec<TaskReport>, AllocError> {
+fn copy_of(alloc: Global, task: &TaskReport) -> Result<TaskReport, AllocError> {
+    let path = task.path.copy()?;
+    let lines = task.lines.copy(alloc)?;
+    let outcome = task.outcome.copy(alloc)?;
+    Ok(TaskReport {
+        path,
+        outcome,
+        has_actions: true,
+        lines,
+    })
+}
+
+fn copies_of(alloc: Global, tasks: &[TaskReport]) -> Result<Vec<TaskReport>, Fail> {
     let mut copies = Vec::new(alloc);
     for task in tasks {
-        let path = task.path.copy()?;
-        let lines = task.lines.copy(alloc)?;
-        add(&mut copies, ran(path, task.outcome.copy(alloc)?, lines))?;
+        copies.push(copy_of(alloc, task)?)?;
     }
     Ok(copies)
 }
 
+/// Copies of the tasks of these rows.
+fn reports_of(alloc: Global, rows: &[Row<'_>]) -> Result<TaskReports, Fail> {
+    let tasks = tasks_of(alloc, rows)?;
+    Ok(TaskReports::from_vec(copies_of(alloc, tasks.as_slice())?))
+}
+
+/// Whether the report is of a build that ended so, and is printed so.
+fn is_told_so(alloc: Global, report: &Report, is_successful: bool, want: &str) -> bool {
+    match render(alloc, report) {
+        Ok(bytes) => {
+            bytes.as_slice() == want.as_bytes() && report.is_successful() == is_successful
+        }
+        Err(_error) => false,
+    }
+}
+
+const ROWS: [Row<'static>; 3] = [
+    (":hi", "executed", &["2"]),
+    (":a", "up to date", &[]),
+    (":t", "no", &["a"]),
+];
+
 fn a_build_is_printed(alloc: Global) -> Result<bool, Fail> {
-    let tasks = three_tasks(alloc)?;
-    let copied = copies_of(alloc, tasks.as_slice())?;
     let report = Report {
-        tasks: TaskReports::from_vec(copied),
+        tasks: reports_of(alloc, &ROWS)?,
         dry_run: false,
         listener_refused: true,
     };
-    let want =
-        "> Task :hi\n2\n> Task :a UP-TO-DATE\n> Task :t FAILED\na\nFAILED :t: 42 no\nFAILED listener: 91 listener refused\nBUILD FAILED\n3 actionable tasks: 2 executed, 1 up-to-date\n";
-    Ok(!report.is_successful() && prints(alloc, &report, want)?)
+    let want = "> Task :hi\n2\n> Task :a UP-TO-DATE\n> Task :t FAILED\na\n\
+         FAILED :t: 42 no\nFAILED listener: 91 listener refused\nBUILD FAILED\n\
+         3 actionable tasks: 2 executed, 1 up-to-date\n";
+    Ok(is_told_so(alloc, &report, false, want))
 }
 
 fn a_dry_run_is_printed(alloc: Global) -> Result<bool, Fail> {
-    let mut tasks = Vec::new(alloc);
-    add_quiet(&mut tasks, alloc, ":a")?;
     let report = Report {
-        tasks: TaskReports::from_vec(tasks),
+        tasks: reports_of(alloc, &[(":a", "up to date", &[])])?,
         dry_run: true,
         listener_refused: false,
     };
-    prints(alloc, &report, ":a SKIPPED\nBUILD SUCCESSFUL\n")
+    let want = ":a SKIPPED\nBUILD SUCCESSFUL\n";
+    Ok(is_told_so(alloc, &report, true, want))
 }
 
-fn no_task_is_printed(alloc: Global) -> Result<bool, Fail> {
+fn no_task_is_printed(alloc: Global) -> bool {
     let report = Report {
         tasks: TaskReports::new(alloc),
         dry_run: false,
         listener_refused: false,
     };
-    Ok(report.is_successful() && prints(alloc, &report, "BUILD SUCCESSFUL\n")?)
+    is_told_so(alloc, &report, true, "BUILD SUCCESSFUL\n")
 }
 
 #[test]
 fn builds_are_printed(rt: HostRuntime) -> Result<(), Fail> {
     assert!(rt; a_build_is_printed(rt.alloc())?);
     assert!(rt; a_dry_run_is_printed(rt.alloc())?);
-    assert!(rt; no_task_is_printed(rt.alloc())?);
     Ok(())
 }
 
-fn push(faults: &mut Vec<Fault>, fault: Fault) -> Result<(), AllocError> {
-    faults.push(fault)?;
-    Ok(())
+#[test]
+fn a_build_of_no_task_is_printed(rt: HostRuntime) -> Result<(), Fail> {
+    all_hold(&[("no task", no_task_is_printed(rt.alloc()))])
 }
 
-fn rows(alloc: Global) -> Result<(Texts, TaskList), Fail> {
-    let mut names = Texts::new(alloc);
-    names.push(Text::from_str(alloc, ":#a")?)?;
-    names.push(Text::from_str(alloc, ":lib#b")?)?;
-    let mut tasks = TaskList::new(alloc);
-    tasks.push(TaskPath::read(alloc, ":b")?)?;
-    tasks.push(TaskPath::read(alloc, ":a")?)?;
-    Ok((names, tasks))
+/// What is printed of a copy of the fault.
+fn copy_printed(alloc: Global, fault: &Fault) -> Result<Vec<u8>, AllocError> {
+    let copied = fault.copy(alloc)?;
+    let bytes = render_fault(alloc, &copied);
+    drop(copied);
+    bytes
+}
+
+/// Whether a copy of the fault is told so.
+fn is_told(alloc: Global, fault: Fault, want: &str) -> Result<bool, AllocError> {
+    let bytes = copy_printed(alloc, &fault);
+    drop(fault);
+    Ok(bytes?.as_slice() == want.as_bytes())
 }
 
 /// A text from outside of 81 characters, two of them control characters and one of two bytes.
-fn long_text(alloc: Global) -> Result<Text, AllocError> {
-    Text::from_str(
-        alloc,
-        "é\n34567890123456789012345678901234567890123456789012345678901234567890123456789\x7f1",
-    )
-}
+const LONG: &str =
+    "é\n34567890123456789012345678901234567890123456789012345678901234567890123456789\x7f1";
 
-/// Faults of scripts, of plans and of tasks.
-fn faults_of_each_form(alloc: Global) -> Result<Vec<Fault>, Fail> {
-    let mut faults = Vec::new(alloc);
-    let (names, tasks) = rows(alloc)?;
-    push(&mut faults, Fault::BadPlace(long_text(alloc)?))?;
-    push(
-        &mut faults,
-        Fault::Syntax(Place::read(alloc, "build.gb")?, 12),
-    )?;
-    push(&mut faults, Fault::Circular(names))?;
-    push(&mut faults, Fault::TooMany(Limited::Tasks))?;
-    push(&mut faults, Fault::Cycle(tasks))?;
-    let path = RelPath::read(alloc, "m/a")?;
-    push(
-        &mut faults,
-        Fault::DuplicateInput(Name::read(alloc, "src")?, path),
-    )?;
-    Ok(faults)
-}
-
-fn copies(alloc: Global, faults: &[Fault]) -> Result<Vec<Fault>, AllocError> {
-    let mut copies = Vec::new(alloc);
-    for fault in faults {
-        push(&mut copies, fault.copy(alloc)?)?;
-    }
-    Ok(copies)
-}
-
-fn lines_of(alloc: Global, faults: &[Fault]) -> Result<Vec<u8>, AllocError> {
-    let mut lines = Vec::new(alloc);
-    for fault in faults {
-        lines.extend_from_slice(render_fault(alloc, fault)?.as_slice())?;
-        lines.push(b'\n')?;
-    }
-    Ok(lines)
-}
-
-fn copies_are_told(alloc: Global) -> Result<bool, Fail> {
+fn a_long_text_is_told(alloc: Global) -> Result<bool, AllocError> {
+    let text = Text::from_str(alloc, LONG)?;
     let want =
-        "2 bad place é?34567890123456789012345678901234567890123456789012345678901234567890123456789?\n20 syntax build.gb:12\n30 circular :#a, :lib#b\n58 too many tasks\n60 cycle :b, :a\n71 duplicate input src m/a\n";
-    let faults = faults_of_each_form(alloc)?;
-    let copied = copies(alloc, faults.as_slice())?;
-    Ok(lines_of(alloc, copied.as_slice())?.as_slice() == want.as_bytes())
+        "2 bad place é?34567890123456789012345678901234567890123456789012345678901234567890123456789?";
+    is_told(alloc, Fault::BadPlace(text), want)
+}
+
+fn a_line_is_told(alloc: Global) -> Result<bool, PlaceFault> {
+    let script = Place::read(alloc, "build.gb")?;
+    Ok(is_told(alloc, Fault::Syntax(script, 12), "20 syntax build.gb:12")?)
+}
+
+fn names_are_told(alloc: Global) -> Result<bool, AllocError> {
+    let names = texts_of(alloc, &[":#a", ":lib#b"])?;
+    is_told(alloc, Fault::Circular(names), "30 circular :#a, :lib#b")
+}
+
+fn a_limit_is_told(alloc: Global) -> Result<bool, AllocError> {
+    is_told(alloc, Fault::TooMany(Limited::Tasks), "58 too many tasks")
+}
+
+fn task_list(alloc: Global, paths: &[&str]) -> Result<TaskList, NameFault> {
+    let mut tasks = TaskList::new(alloc);
+    for path in paths {
+        tasks.push(TaskPath::read(alloc, path)?)?;
+    }
+    Ok(tasks)
+}
+
+fn tasks_are_told(alloc: Global) -> Result<bool, NameFault> {
+    let tasks = task_list(alloc, &[":b", ":a"])?;
+    Ok(is_told(alloc, Fault::Cycle(tasks), "60 cycle :b, :a")?)
+}
+
+fn an_input_is_told(alloc: Global, path: RelPath) -> Result<bool, NameFault> {
+    let name = Name::read(alloc, "src")?;
+    let want = "71 duplicate input src m/a";
+    Ok(is_told(alloc, Fault::DuplicateInput(name, path), want)?)
+}
+
+fn a_path_is_told(alloc: Global) -> Result<bool, PlaceFault> {
+    let path = RelPath::read(alloc, "m/a")?;
+    Ok(an_input_is_told(alloc, path) == Ok(true))
 }
 
 #[test]
 fn faults_are_copied_and_told(rt: HostRuntime) -> Result<(), Fail> {
-    assert!(rt; copies_are_told(rt.alloc())?);
-    Ok(())
+    let alloc = rt.alloc();
+    all_hold(&[
+        ("2 bad place", a_long_text_is_told(alloc) == Ok(true)),
+        ("20 syntax", a_line_is_told(alloc) == Ok(true)),
+        ("30 circular", names_are_told(alloc) == Ok(true)),
+    ])
+}
+
+#[test]
+fn faults_of_builds_are_copied_and_told(rt: HostRuntime) -> Result<(), Fail> {
+    let alloc = rt.alloc();
+    all_hold(&[
+        ("58 too many", a_limit_is_told(alloc) == Ok(true)),
+        ("60 cycle", tasks_are_told(alloc) == Ok(true)),
+        ("71 duplicate input", a_path_is_told(alloc) == Ok(true)),
+    ])
 }
 
 /// Both wants of memory become faults.
@@ -191,11 +243,14 @@ fn one_text(alloc: Global) -> Result<Vec<Text>, Fault> {
     Ok(texts)
 }
 
-#[test]
-fn want_of_memory_is_a_fault(rt: HostRuntime) -> Result<(), Fail> {
-    let answer = one_text(rt.alloc());
+fn is_there(alloc: Global) -> bool {
+    let answer = one_text(alloc);
     let is_there = answer.is_ok();
     drop(answer);
-    assert!(rt; is_there);
-    Ok(())
+    is_there
+}
+
+#[test]
+fn want_of_memory_is_a_fault(rt: HostRuntime) -> Result<(), Fail> {
+    all_hold(&[("one text", is_there(rt.alloc()))])
 }

@@ -24,18 +24,10 @@ const WRAPPINGS: [&str; 12] = [
     ",steps:[]",
 ];
 
-fn without(alloc: Global, text: &str, part: &str) -> Result<String, AllocError> {
-    let mut out = String::new(alloc);
-    for piece in text.split(part) {
-        out.push_str(piece)?;
-    }
-    Ok(out)
-}
-
 fn unwrapped(alloc: Global, text: String) -> Result<String, AllocError> {
     let mut out = text;
-    for wrapping in WRAPPINGS {
-        out = without(alloc, &out, wrapping)?;
+    for wrapping in &WRAPPINGS {
+        out = out.replace(alloc, *wrapping, "")?;
     }
     Ok(out)
 }
@@ -66,6 +58,16 @@ fn is_told_of_settings(alloc: Global, bytes: &[u8], want: &str) -> Result<bool, 
 
 fn is_read(alloc: Global, text: &str) -> bool {
     read_script(alloc, text.as_bytes()).is_ok()
+}
+
+/// Fails with the name of the first case that does not hold.
+fn all_hold(cases: &[(&str, bool)]) -> Result<(), Fail> {
+    for case in cases {
+        if !case.1 {
+            return Err(Fail::new(case.0));
+        }
+    }
+    Ok(())
 }
 
 /// A text, and what it is told as.
@@ -138,7 +140,8 @@ const STATEMENTS: [Case; 12] = [
     ),
     (
         "register a : k(\"x\", y) {}",
-        "[Register(Registrationname:\"a\",action:Some(Callname:\"k\",arguments:[Text(\"x\"),Property(\"y\")]),block:[])]",
+        "[Register(Registrationname:\"a\",action:Some(Callname:\"k\",arguments:[Text(\"x\"),\
+         Property(\"y\")]),block:[])]",
     ),
     (
         "named a { enabled true }",
@@ -163,15 +166,18 @@ const CLAUSES: [Case; 14] = [
     ),
     (
         "inputFiles src from dir(\"a\")",
-        "InputFiles(InputFilesname:\"src\",incremental:false,skip_when_empty:false,name_only:false,from:[Dir(\"a\")],include:[],exclude:[])",
+        "InputFiles(InputFilesname:\"src\",incremental:false,skip_when_empty:false,name_only:false,\
+         from:[Dir(\"a\")],include:[],exclude:[])",
     ),
     (
         "inputFiles src incremental skipWhenEmpty nameOnly from a, b include \"x\", \"y\" exclude \"z\"",
-        "InputFiles(InputFilesname:\"src\",incremental:true,skip_when_empty:true,name_only:true,from:[Property(\"a\"),Property(\"b\")],include:[\"x\",\"y\"],exclude:[\"z\"])",
+        "InputFiles(InputFilesname:\"src\",incremental:true,skip_when_empty:true,name_only:true,\
+         from:[Property(\"a\"),Property(\"b\")],include:[\"x\",\"y\"],exclude:[\"z\"])",
     ),
     (
         "inputFiles from skipWhenEmpty from from exclude \"z\"",
-        "InputFiles(InputFilesname:\"from\",incremental:false,skip_when_empty:true,name_only:false,from:[Property(\"from\")],include:[],exclude:[\"z\"])",
+        "InputFiles(InputFilesname:\"from\",incremental:false,skip_when_empty:true,name_only:false,\
+         from:[Property(\"from\")],include:[],exclude:[\"z\"])",
     ),
     (
         "outputFile out = file(\"a/b\")",
@@ -186,7 +192,8 @@ const CLAUSES: [Case; 14] = [
     ("finalizedBy \"a\"", "FinalizedBy([\"a\"])"),
     (
         "doFirst f doLast g(\"x\") doFirst doLast",
-        "DoFirst(Callname:\"f\",arguments:[]),DoLast(Callname:\"g\",arguments:[Text(\"x\")]),DoFirst(Callname:\"doLast\",arguments:[])",
+        "DoFirst(Callname:\"f\",arguments:[]),DoLast(Callname:\"g\",arguments:[Text(\"x\")]),\
+         DoFirst(Callname:\"doLast\",arguments:[])",
     ),
     (
         "onlyIf is is isTrue",
@@ -220,11 +227,13 @@ const VALUES: [Case; 7] = [
     ("task(\":a:b\")", "Task(\":a:b\")"),
     (
         "a.map(f).flatMap(g(\"x\")).zip(b, h).orElse(\"y\")",
-        "Property(\"a\"),steps:[Map(Functionname:\"f\",arguments:[]),FlatMap(Functionname:\"g\",arguments:[\"x\"]),Zip(Property(\"b\"),Functionname:\"h\",arguments:[]),OrElse(Text(\"y\"))]",
+        "Property(\"a\"),steps:[Map(Functionname:\"f\",arguments:[]),FlatMap(Functionname:\"g\",\
+         arguments:[\"x\"]),Zip(Property(\"b\"),Functionname:\"h\",arguments:[]),OrElse(Text(\"y\"))]",
     ),
     (
         "map.zip([a.orElse(b)], f).orElse([])",
-        "Property(\"map\"),steps:[Zip(List([Property(\"a\"),steps:[OrElse(Property(\"b\"))]]),Functionname:\"f\",arguments:[]),OrElse(List([]))]",
+        "Property(\"map\"),steps:[Zip(List([Property(\"a\"),steps:[OrElse(Property(\"b\"))]]),\
+         Functionname:\"f\",arguments:[]),OrElse(List([]))]",
     ),
 ];
 
@@ -249,10 +258,8 @@ const RESERVED: [&str; 7] = [
 ];
 
 fn is_a_name(alloc: Global, word: &str) -> Result<bool, AllocError> {
-    let text = format!(in alloc;
-        "register {word} : {word}({word}s) {{ input {word} = a doLast {word} onlyIf a is {word} }}"
-    )?;
-    Ok(is_read(alloc, text.as_str()))
+    let text = "register % : %(%s) { input % = a doLast % onlyIf a is % }";
+    Ok(is_read(alloc, text.replace(alloc, '%', word)?.as_str()))
 }
 
 fn is_refused_behind(alloc: Global, statement: &str, word: &str) -> Result<bool, AllocError> {
@@ -260,22 +267,35 @@ fn is_refused_behind(alloc: Global, statement: &str, word: &str) -> Result<bool,
     is_told(alloc, text.as_bytes(), "20 syntax error in line 2")
 }
 
+/// Fails at the first word that is no name.
+fn are_names(alloc: Global, words: &[&str]) -> Result<(), Fail> {
+    for word in words {
+        if is_a_name(alloc, word) != Ok(true) {
+            return Err(Fail::new(*word));
+        }
+    }
+    Ok(())
+}
+
 #[test]
 fn knows_reserved_words_as_names(rt: HostRuntime) -> Result<(), Fail> {
-    for word in RESERVED {
-        let is_name = is_a_name(rt.alloc(), word)?;
-        assert!(rt; is_name, "naming {word}");
+    are_names(rt.alloc(), &RESERVED)
+}
+
+/// Fails at the first word that may stand behind the statement.
+fn are_refused_behind(alloc: Global, statement: &str, words: &[&str]) -> Result<(), Fail> {
+    for word in words {
+        if is_refused_behind(alloc, statement, word) != Ok(true) {
+            return Err(Fail::new(*word));
+        }
     }
     Ok(())
 }
 
 #[test]
 fn reserved_words_are_no_properties(rt: HostRuntime) -> Result<(), Fail> {
-    for statement in ["property", "unset", "disallowChanges", "set"] {
-        for word in RESERVED {
-            let is_refused = is_refused_behind(rt.alloc(), statement, word)?;
-            assert!(rt; is_refused, "{statement} {word}");
-        }
+    for statement in &["property", "unset", "disallowChanges", "set"] {
+        are_refused_behind(rt.alloc(), statement, &RESERVED)?;
     }
     Ok(())
 }
@@ -330,9 +350,8 @@ fn is_read_as_set(alloc: Global, text: &str, want: &str) -> Result<bool, ScriptF
 #[test]
 fn reads_escapes(rt: HostRuntime) -> Result<(), Fail> {
     let text = "set a = \"q\\\"b\\\\n\\n\\t//é\u{7f}\"";
-    let is_set = is_read_as_set(rt.alloc(), text, "q\"b\\n\n\t//é\u{7f}")?;
-    assert!(rt; is_set);
-    Ok(())
+    let want = "q\"b\\n\n\t//é\u{7f}";
+    all_hold(&[(text, is_read_as_set(rt.alloc(), text, want) == Ok(true))])
 }
 
 fn is_a_word_of(alloc: Global, count: usize) -> Result<bool, AllocError> {
@@ -347,11 +366,14 @@ fn is_told_behind_a_word_of(alloc: Global, count: usize, want: &str) -> Result<b
 
 #[test]
 fn takes_words_of_64_bytes(rt: HostRuntime) -> Result<(), Fail> {
-    let is_word = is_a_word_of(rt.alloc(), 64)?;
-    assert!(rt; is_word);
-    let is_refused = is_told_behind_a_word_of(rt.alloc(), 65, "20 syntax error in line 2")?;
-    assert!(rt; is_refused);
-    Ok(())
+    let refused = "20 syntax error in line 2";
+    all_hold(&[
+        ("64 bytes", is_a_word_of(rt.alloc(), 64) == Ok(true)),
+        (
+            "65 bytes",
+            is_told_behind_a_word_of(rt.alloc(), 65, refused) == Ok(true),
+        ),
+    ])
 }
 
 /// Whether 64 open brackets and then this are told so.
@@ -385,15 +407,33 @@ fn is_told_of_nested_steps(alloc: Global, want: &str) -> Result<bool, AllocError
 #[test]
 fn takes_64_brackets(rt: HostRuntime) -> Result<(), Fail> {
     let alloc = rt.alloc();
-    assert!(rt; are_64_brackets_read(alloc)?);
-    // A bracket that closes makes room again.
-    let again = "\nproperty b.orElse(a)";
-    assert!(rt; is_told_behind_closed_brackets(alloc, again, "20 syntax error in line 2")?);
-    assert!(rt; is_told_behind_64_brackets(alloc, "\n[", "22 too deep in line 2")?);
-    // At one token it is an error of the syntax.
-    assert!(rt; is_told_behind_64_brackets(alloc, "\n(", "20 syntax error in line 2")?);
-    assert!(rt; is_told_of_nested_steps(alloc, "22 too deep in line 2")?);
-    Ok(())
+    let deep = "22 too deep in line 2";
+    let refused = "20 syntax error in line 2";
+    all_hold(&[
+        ("64", are_64_brackets_read(alloc) == Ok(true)),
+        (
+            "65",
+            is_told_behind_64_brackets(alloc, "\n[", deep) == Ok(true),
+        ),
+        (
+            "65 at one token that is refused",
+            is_told_behind_64_brackets(alloc, "\n(", refused) == Ok(true),
+        ),
+        (
+            "64 steps and one more",
+            is_told_of_nested_steps(alloc, deep) == Ok(true),
+        ),
+    ])
+}
+
+#[test]
+fn a_bracket_that_closes_makes_room_again(rt: HostRuntime) -> Result<(), Fail> {
+    let text = "\nproperty b.orElse(a)";
+    let refused = "20 syntax error in line 2";
+    all_hold(&[(
+        text,
+        is_told_behind_closed_brackets(rt.alloc(), text, refused) == Ok(true),
+    )])
 }
 
 /// Whether 64 steps between these are told so.
@@ -410,29 +450,69 @@ fn are_64_steps_read(alloc: Global, around: &Pair) -> Result<bool, AllocError> {
 #[test]
 fn takes_64_steps(rt: HostRuntime) -> Result<(), Fail> {
     let alloc = rt.alloc();
-    assert!(rt; are_64_steps_read(alloc, &["set a = a", ""])?);
-    assert!(rt; is_told_of_64_steps(alloc, &["set a = a", "\n.map(f)"], "22 too deep in line 2")?);
-    // Each chain counts its own.
-    assert!(rt; are_64_steps_read(alloc, &["set a = [b.map(f), a", "].map(f)"])?);
-    Ok(())
+    let deep = "22 too deep in line 2";
+    all_hold(&[
+        (
+            "64",
+            are_64_steps_read(alloc, &["set a = a", ""]) == Ok(true),
+        ),
+        (
+            "65",
+            is_told_of_64_steps(alloc, &["set a = a", "\n.map(f)"], deep) == Ok(true),
+        ),
+        (
+            "64 and one of another chain",
+            are_64_steps_read(alloc, &["set a = [b.map(f), a", "].map(f)"]) == Ok(true),
+        ),
+    ])
 }
 
-/// Whether a mebibyte of spaces and then these bytes are told so, as a script or as settings.
-fn is_told_of_a_mebibyte(alloc: Global, then: &[u8], want: &str) -> Result<bool, AllocError> {
+/// A mebibyte of spaces, and then these bytes.
+fn a_mebibyte_and(alloc: Global, then: &[u8]) -> Result<Vec<u8>, AllocError> {
     let mut bytes = vec![in alloc; b' '; 1_048_576]?;
     bytes.extend_from_slice(then)?;
-    Ok(is_told(alloc, &bytes, want)? && is_told_of_settings(alloc, &bytes, want)?)
+    Ok(bytes)
+}
+
+/// Whether these bytes are told so, as a script and as settings.
+fn is_told_of_both(alloc: Global, bytes: &[u8], want: &str) -> Result<bool, AllocError> {
+    Ok(is_told(alloc, bytes, want)? && is_told_of_settings(alloc, bytes, want)?)
+}
+
+fn is_told_of_a_mebibyte(alloc: Global, then: &[u8], want: &str) -> Result<bool, AllocError> {
+    let bytes = a_mebibyte_and(alloc, then)?;
+    is_told_of_both(alloc, bytes.as_slice(), want)
 }
 
 #[test]
 fn takes_a_mebibyte_of_text(rt: HostRuntime) -> Result<(), Fail> {
     let alloc = rt.alloc();
-    assert!(rt; is_told_of_a_mebibyte(alloc, b"", "[]")?);
-    assert!(rt; is_told_of_a_mebibyte(alloc, b" ", "21 too long")?);
-    assert!(rt; is_told_of_a_mebibyte(alloc, b" \xff", "21 too long")?);
-    assert!(rt; is_told(alloc, b"\xff", "23 not UTF-8")?);
-    assert_eq!(rt; ScriptFault::OutOfMemory.number(), 3);
-    Ok(())
+    let long = "21 too long";
+    all_hold(&[
+        (
+            "a mebibyte",
+            is_told_of_a_mebibyte(alloc, b"", "[]") == Ok(true),
+        ),
+        (
+            "a byte more",
+            is_told_of_a_mebibyte(alloc, b" ", long) == Ok(true),
+        ),
+        (
+            "more, and no text",
+            is_told_of_a_mebibyte(alloc, b" \xff", long) == Ok(true),
+        ),
+    ])
+}
+
+#[test]
+fn tells_other_faults(rt: HostRuntime) -> Result<(), Fail> {
+    all_hold(&[
+        (
+            "no text",
+            is_told(rt.alloc(), b"\xff", "23 not UTF-8") == Ok(true),
+        ),
+        ("out of memory", ScriptFault::OutOfMemory.number() == 3),
+    ])
 }
 
 const SETTINGS: [Case; 5] = [
@@ -443,13 +523,19 @@ const SETTINGS: [Case; 5] = [
     ("include \"a\"\nproperty b", "20 syntax error in line 2"),
 ];
 
-#[test]
-fn reads_settings(rt: HostRuntime) -> Result<(), Fail> {
-    for (text, want) in SETTINGS {
-        let is_told = is_told_of_settings(rt.alloc(), text.as_bytes(), want)?;
-        assert!(rt; is_told, "reading {text}");
+/// Fails at the first text that is told as other settings.
+fn are_told_as_settings(alloc: Global, cases: &[Case]) -> Result<(), Fail> {
+    for case in cases {
+        if is_told_of_settings(alloc, case.0.as_bytes(), case.1) != Ok(true) {
+            return Err(Fail::new(case.0));
+        }
     }
     Ok(())
+}
+
+#[test]
+fn reads_settings(rt: HostRuntime) -> Result<(), Fail> {
+    are_told_as_settings(rt.alloc(), &SETTINGS)
 }
 
 /// Whether the one configuration has these clauses: a list of one element, and a call with two arguments.
@@ -477,9 +563,12 @@ fn is_read_as_configuration(alloc: Global, bytes: &[u8]) -> Result<bool, ScriptF
     })
 }
 
+fn is_true(value: &Expression) -> bool {
+    matches!(value.source(), Source::Flag(true))
+}
+
 fn is_made_of_its_source(alloc: Global) -> bool {
-    let made = Expression::new(Source::Flag(true), Vec::new(alloc));
-    matches!(made.source(), Source::Flag(true))
+    is_true(&Expression::new(Source::Flag(true), Vec::new(alloc)))
 }
 
 fn has_one_include(alloc: Global, bytes: &[u8]) -> Result<bool, ScriptFault> {
@@ -490,8 +579,16 @@ fn has_one_include(alloc: Global, bytes: &[u8]) -> Result<bool, ScriptFault> {
 #[test]
 fn gives_what_it_is_made_from(rt: HostRuntime) -> Result<(), Fail> {
     let alloc = rt.alloc();
-    assert!(rt; is_read_as_configuration(alloc, b"named a { enabled [true] doLast k(b, c) }")?);
-    assert!(rt; is_made_of_its_source(alloc));
-    assert!(rt; has_one_include(alloc, b"include \"a\"")?);
-    Ok(())
+    let named = b"named a { enabled [true] doLast k(b, c) }";
+    all_hold(&[
+        (
+            "a configuration",
+            is_read_as_configuration(alloc, named) == Ok(true),
+        ),
+        ("an expression", is_made_of_its_source(alloc)),
+        (
+            "an include",
+            has_one_include(alloc, b"include \"a\"") == Ok(true),
+        ),
+    ])
 }

@@ -1,8 +1,8 @@
 -- What calls change in a folder.
-use Rattle.std.specs.Prelude.{◌≡◌, ◌⊎◌, ◌++◌, Bool, List, [], ◌∷◌, map, Option, None, Result, Ok, Err, bytes_eq, fold, if◌then◌else◌}
+use Rattle.std.specs.Prelude.{◌≡◌, ◌⊎◌, ◌++◌, Bool, List, ◌∷◌, map, Option, None, bytes_eq, fold}
 use Rattle.std.specs.Borrow.{Bor}
 use Rattle.std.specs.List.{list_any}
-use Rattle.gb_folder.specs.Files.{Place, Bytes, Files, Contents, DiffersOnlyAt, Tearing, file_at, is_blocked, with_file, with_left, without}
+use Rattle.gb_folder.specs.Files.{Place, Bytes, Files, Contents, DiffersOnlyAt, Tearing, file_at, with_left, without}
 use Rattle.gb_report.specs.declared.fault.Fault.{Fault}
 use Rattle.gb_report.specs.declared.fault.Fault.TheVariants as faults
 
@@ -44,8 +44,3 @@ pub record IsCutShort (may_leave : Tearing) (places : List Place) (old : Content
 -- files whose bytes are borrowed
 abbrev pub shown : List (Place × Bor Bytes) → List (Place × Bytes)
 shown files = map (λ file. (file.0, file.1.now)) files
-
--- files put into a folder one after another, where no other file is in the way
-abbrev pub put_in : Files → List (Place × Bytes) → Result Files Fault
-put_in folder [] = Ok folder
-put_in folder (file ∷ files) = if is_blocked folder file.0 then Err (faults.Blocked file.0) else put_in (with_file folder file.0 file.1) files

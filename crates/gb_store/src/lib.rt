@@ -1,4 +1,4 @@
-//! The folder as builds use it: places listed, emptied and written, with faults that name the place.
+//! The folder as builds use it: places listed and emptied, with faults that name the place.
 //!
 //! Each function says what it leaves where the folder tells what it holds, and always that the count of failures
 //! never falls, that the device is blamed only where it failed and at a place of the call alone, and that what a
@@ -8,6 +8,3 @@
 pub mod faults;
 pub mod listing;
 pub mod removal;
-#[cfg(test)]
-mod tests;
-pub mod writing;

@@ -1,6 +1,6 @@
 //! Vectors from outside, and each call that takes memory once.
 //!
-//! What is shown is compared by a function that lets it go, so that no assertion stands where values live.
+//! What is asked and shown stands in tables, so that no assertion stands where values live.
 use gb_action::change::Change;
 use gb_action::files::Files;
 use gb_action::snapshot::Snapshot;
@@ -13,22 +13,33 @@ use gb_tree::changes::compare;
 use gb_tree::digest::prints;
 use gb_tree::fault::TreeFault;
 use gb_tree::output::{output_prints, outputs};
-use gb_tree::pattern::{Pattern, PatternFault};
+use gb_tree::pattern::Pattern;
 use gb_tree::prints::Prints;
 use gb_tree::property::{Naming, prints_of, snapshot};
-use std::alloc::Global;
+use std::alloc::{AllocError, Global};
 use std::test::Fail;
 
-/// Whether the pattern matches the path.
-fn is_match(alloc: Global, pattern: &str, path: &str) -> Result<bool, Fail> {
-    Ok(Pattern::read(alloc, pattern)?.matches(&Place::read(alloc, path)?))
+fn name(alloc: Global, text: &str) -> Result<Name, Fail> {
+    Ok(Name::read(alloc, text)?)
 }
 
-/// A pattern, a path, and whether it matches.
-type Case = (&'static str, &'static str, bool);
+fn place(alloc: Global, text: &str) -> Result<Place, Fail> {
+    Ok(Place::read(alloc, text)?)
+}
 
-/// Whether each pattern matches as told; if not, which does not.
-fn are_matched(alloc: Global, cases: &[Case]) -> Result<(), Fail> {
+fn pattern(alloc: Global, text: &str) -> Result<Pattern, Fail> {
+    Ok(Pattern::read(alloc, text)?)
+}
+
+/// Whether the pattern matches the path.
+fn is_match(alloc: Global, text: &str, path: &str) -> Result<bool, Fail> {
+    let pattern = pattern(alloc, text)?;
+    let path = place(alloc, path)?;
+    Ok(pattern.matches(&path))
+}
+
+/// Fails with the first pattern that does not match its path as told.
+fn are_matched(alloc: Global, cases: &[(&str, &str, bool)]) -> Result<(), Fail> {
     for (pattern, path, matches) in cases {
         if is_match(alloc, pattern, path)? != *matches {
             return Err(Fail::new(*pattern));
@@ -37,7 +48,7 @@ fn are_matched(alloc: Global, cases: &[Case]) -> Result<(), Fail> {
     Ok(())
 }
 
-const SEGMENTS: [Case; 20] = [
+const SEGMENTS: [(&str, &str, bool); 20] = [
     ("**/*.txt", "a.txt", true),
     ("**/*.txt", "d/a.txt", true),
     ("**/*.txt", "d/e/a.txt", true),
@@ -65,7 +76,7 @@ fn segments_are_matched(rt: HostRuntime) -> Result<(), Fail> {
     are_matched(rt.alloc(), &SEGMENTS)
 }
 
-const CHARACTERS: [Case; 9] = [
+const CHARACTERS: [(&str, &str, bool); 9] = [
     ("?.c", "a.c", true),
     ("?.c", "ab.c", false),
     ("?.c", ".c", false),
@@ -82,20 +93,14 @@ fn characters_are_matched(rt: HostRuntime) -> Result<(), Fail> {
     are_matched(rt.alloc(), &CHARACTERS)
 }
 
-/// Whether the pattern matches a thousand letters.
-fn is_match_of_many(alloc: Global, pattern: &str) -> Result<bool, Fail> {
-    let mut letters = String::new(alloc);
-    for _ in 0..1000 {
-        letters.push('a')?;
-    }
-    is_match(alloc, pattern, letters.as_str())
-}
-
 #[test]
 fn many_stars_take_no_longer(rt: HostRuntime) -> Result<(), Fail> {
-    assert!(rt; !is_match_of_many(rt.alloc(), "*a*a*a*a*b")?);
-    assert!(rt; is_match_of_many(rt.alloc(), "*a*a*a*a*")?);
-    Ok(())
+    let letters = "a".repeat(rt.alloc(), 1000)?;
+    let path = letters.as_str();
+    are_matched(
+        rt.alloc(),
+        &[("*a*a*a*a*b", path, false), ("*a*a*a*a*", path, true)],
+    )
 }
 
 fn fault_number(alloc: Global, text: &str) -> u16 {
@@ -105,191 +110,253 @@ fn fault_number(alloc: Global, text: &str) -> u16 {
     }
 }
 
-/// Whether the text is read as this pattern, which is copied and shown as it stands.
-fn is_read_as(alloc: Global, text: &str, want: &str) -> Result<bool, PatternFault> {
-    let pattern = Pattern::read(alloc, text)?.copy()?;
+/// Fails with the first text that is a pattern.
+fn are_refused(alloc: Global, texts: &[&str]) -> Result<(), Fail> {
+    for text in texts {
+        if fault_number(alloc, text) != 70 {
+            return Err(Fail::new(*text));
+        }
+    }
+    Ok(())
+}
+
+fn is_shown_as(alloc: Global, pattern: &Pattern, want: &str) -> Result<bool, AllocError> {
     let shown = format!(in alloc; "{pattern}")?;
     Ok(pattern.as_str() == want && shown.as_str() == want)
 }
 
-#[test]
-fn patterns_are_read(rt: HostRuntime) -> Result<(), Fail> {
-    for text in ["", "/", "/a", "a//b", "a\\b", "../a", "./a"] {
-        assert_eq!(rt; fault_number(rt.alloc(), text), 70, "{text}");
+fn is_copied_as(alloc: Global, pattern: &Pattern, want: &str) -> Result<bool, AllocError> {
+    let copied = pattern.copy()?;
+    is_shown_as(alloc, &copied, want)
+}
+
+/// Whether the text is read as this pattern, which is copied and shown as it stands.
+fn is_read_as(alloc: Global, text: &str, want: &str) -> Result<bool, Fail> {
+    let pattern = pattern(alloc, text)?;
+    Ok(is_copied_as(alloc, &pattern, want)?)
+}
+
+/// Fails with the first text that is read as another pattern.
+fn are_read_as(alloc: Global, cases: &[(&str, &str)]) -> Result<(), Fail> {
+    for (text, want) in cases {
+        if !is_read_as(alloc, text, want)? {
+            return Err(Fail::new(*text));
+        }
     }
-    assert!(rt; is_read_as(rt.alloc(), "src/", "src/**")?);
-    assert!(rt; is_read_as(rt.alloc(), "*.txt", "*.txt")?);
     Ok(())
 }
 
-/// Whether this is shown.
-fn is(shown: Result<String, Fail>, want: &str) -> Result<bool, Fail> {
-    Ok(shown?.as_str() == want)
+#[test]
+fn patterns_are_read(rt: HostRuntime) -> Result<(), Fail> {
+    are_refused(rt.alloc(), &["", "/", "/a", "a//b", "a\\b", "../a", "./a"])?;
+    are_read_as(rt.alloc(), &[("src/", "src/**"), ("*.txt", "*.txt")])
+}
+
+/// Fails with what is shown where it is not this.
+fn is(shown: Result<String, Fail>, want: &str) -> Result<(), Fail> {
+    let shown = shown?;
+    if shown.as_str() != want {
+        return Err(Fail::new(shown.as_str()));
+    }
+    Ok(())
+}
+
+/// The path and the text of `path=text`; no text where there is no `=`.
+fn parted(file: &str) -> (&str, &str) {
+    file.split_once('=').unwrap_or((file, ""))
+}
+
+/// Puts a file among the files.
+fn put(alloc: Global, files: &mut Files, path: &str, text: &str) -> Result<(), Fail> {
+    let path = RelPath::read(alloc, path)?;
+    files.insert(path, Bytes::from_slice(alloc, text.as_bytes())?)?;
+    Ok(())
+}
+
+/// The files, which stand between spaces.
+fn files_of(alloc: Global, texts: &str) -> Result<Files, Fail> {
+    let mut files = Files::new(alloc);
+    for file in texts.split_whitespace() {
+        let (path, text) = parted(file);
+        put(alloc, &mut files, path, text)?;
+    }
+    Ok(files)
+}
+
+/// A property `src` with these files.
+fn property_of(alloc: Global, files: &str) -> Result<Snapshot, Fail> {
+    let files = files_of(alloc, files)?;
+    Ok(Snapshot::new(name(alloc, "src")?, files))
 }
 
 /// The prints of a property `src` with these files.
-fn prints_over(alloc: Global, contents: &[(&str, &str)]) -> Result<Prints, Fail> {
-    let mut files = Files::new(alloc);
-    for (path, bytes) in contents {
-        files.insert(
-            RelPath::read(alloc, path)?,
-            Bytes::from_slice(alloc, bytes.as_bytes())?,
-        )?;
-    }
-    Ok(prints(alloc, &Snapshot::new(Name::read(alloc, "src")?, files))?)
+fn prints_over(alloc: Global, files: &str) -> Result<Prints, Fail> {
+    let property = property_of(alloc, files)?;
+    Ok(prints(alloc, &property)?)
+}
+
+/// Puts two words behind the lines, as a line.
+fn push_line(lines: &mut String, first: &str, second: &str) -> Result<(), AllocError> {
+    lines.push_str(first)?;
+    lines.push_str(" ")?;
+    lines.push_str(second)?;
+    lines.push_str("\n")
+}
+
+/// Puts a path and its digest in hexadecimal behind the lines.
+fn push_print(
+    alloc: Global,
+    lines: &mut String,
+    path: &RelPath,
+    digest: &[u8],
+) -> Result<(), AllocError> {
+    let digest = hex::encode(alloc, digest)?;
+    push_line(lines, path.as_str(), digest.as_str())
 }
 
 /// A line for each path, with its digest in hexadecimal.
 fn shown_prints(alloc: Global, prints: &Prints) -> Result<String, Fail> {
     let mut lines = String::new(alloc);
     for (path, digest) in prints.as_slice() {
-        let shown = hex::encode(alloc, digest.as_slice())?;
-        let line = format!(in alloc; "{path} {shown}\n")?;
-        lines.push_str(line.as_str())?;
+        push_print(alloc, &mut lines, path, digest.as_slice())?;
     }
     Ok(lines)
 }
 
-/// The name of the prints of two files, and then the prints.
-fn shown_standard(alloc: Global) -> Result<String, Fail> {
-    let prints = prints_over(alloc, &[("b", ""), ("a", "abc")])?;
-    let shown = shown_prints(alloc, &prints)?;
+/// The name of the prints, and then a line for each path.
+fn shown_with_name(alloc: Global, prints: &Prints) -> Result<String, Fail> {
+    let shown = shown_prints(alloc, prints)?;
     Ok(format!(in alloc; "{} {shown}", prints.name().as_str())?)
+}
+
+fn shown_standard(alloc: Global) -> Result<String, Fail> {
+    let prints = prints_over(alloc, "b= a=abc")?;
+    shown_with_name(alloc, &prints)
 }
 
 #[test]
 fn digests_are_those_of_the_standard(rt: HostRuntime) -> Result<(), Fail> {
     let want = "src a ba7816bf8f01cfea414140de5dae2223b00361a396177a9cb410ff61f20015ad\n\
          b e3b0c44298fc1c149afbf4c8996fb92427ae41e4649b934ca495991b7852b855\n";
-    assert!(rt; is(shown_standard(rt.alloc()), want)?);
-    Ok(())
+    is(shown_standard(rt.alloc()), want)
+}
+
+/// Puts a letter and the path of a change behind the lines.
+fn push_change(lines: &mut String, change: &Change) -> Result<(), AllocError> {
+    match change {
+        Change::Added(path) => push_line(lines, "A", path.as_str()),
+        Change::Modified(path) => push_line(lines, "M", path.as_str()),
+        Change::Removed(path) => push_line(lines, "R", path.as_str()),
+    }
 }
 
 /// A letter and the path of each change.
-fn shown_changes(alloc: Global, old: &Prints, new: &Prints) -> Result<String, Fail> {
+fn shown_changes(alloc: Global, changes: &[Change]) -> Result<String, Fail> {
     let mut lines = String::new(alloc);
-    for change in compare(alloc, old, new)?.as_slice() {
-        let line = match change {
-            Change::Added(path) => format!(in alloc; "A {path}\n")?,
-            Change::Modified(path) => format!(in alloc; "M {path}\n")?,
-            Change::Removed(path) => format!(in alloc; "R {path}\n")?,
-        };
-        lines.push_str(line.as_str())?;
+    for change in changes {
+        push_change(&mut lines, change)?;
     }
     Ok(lines)
 }
 
+/// What changed between these prints and those.
+fn told_of_prints(alloc: Global, old: &Prints, new: &Prints) -> Result<String, Fail> {
+    let changes = compare(alloc, old, new)?;
+    shown_changes(alloc, changes.as_slice())
+}
+
 /// What changed between these files and those.
-fn told(alloc: Global, before: &[(&str, &str)], after: &[(&str, &str)]) -> Result<String, Fail> {
+fn told(alloc: Global, before: &str, after: &str) -> Result<String, Fail> {
     let old = prints_over(alloc, before)?;
     let new = prints_over(alloc, after)?;
-    shown_changes(alloc, &old, &new)
+    told_of_prints(alloc, &old, &new)
 }
 
 #[test]
 fn changes_are_told_by_path(rt: HostRuntime) -> Result<(), Fail> {
-    let alloc = rt.alloc();
-    let old = [("a", "1"), ("b", "2")];
-    let new = [("b", "3"), ("c", "1")];
-    assert!(rt; is(told(alloc, &old, &new), "R a\nM b\nA c\n")?);
-    assert!(rt; is(told(alloc, &old, &old), "")?);
+    is(told(rt.alloc(), "a=1 b=2", "b=3 c=1"), "R a\nM b\nA c\n")?;
+    is(told(rt.alloc(), "a=1 b=2", "a=1 b=2"), "")
+}
+
+fn write(alloc: Global, folder: &mut MemoryFolder, path: &str, bytes: &[u8]) -> Result<(), Fail> {
+    let place = place(alloc, path)?;
+    folder.write(&place, bytes, u64::MAX)?;
     Ok(())
 }
 
-/// A folder with these files.
-fn folder_of(alloc: Global, contents: &[(&str, &str)]) -> Result<MemoryFolder, Fail> {
+/// A folder with these files, which stand between spaces.
+fn folder_of(alloc: Global, files: &str) -> Result<MemoryFolder, Fail> {
     let mut folder = MemoryFolder::new(alloc);
-    for (place, bytes) in contents {
-        folder.write(&Place::read(alloc, place)?, bytes.as_bytes(), 100)?;
+    for file in files.split_whitespace() {
+        let (path, text) = parted(file);
+        write(alloc, &mut folder, path, text.as_bytes())?;
     }
     Ok(folder)
+}
+
+/// Puts a path and how many bytes its file has behind the lines.
+fn push_file(
+    alloc: Global,
+    lines: &mut String,
+    path: &RelPath,
+    bytes: &Bytes,
+) -> Result<(), AllocError> {
+    let count = format!(in alloc; "{}", bytes.as_slice().len())?;
+    push_line(lines, path.as_str(), count.as_str())
 }
 
 /// A line for each file with its path and how many bytes it has.
 fn shown_snapshot(alloc: Global, snapshot: &Snapshot) -> Result<String, Fail> {
     let mut lines = String::new(alloc);
     for (path, bytes) in snapshot.files().as_slice() {
-        let count = bytes.as_slice().len();
-        let line = format!(in alloc; "{path} {count}\n")?;
-        lines.push_str(line.as_str())?;
+        push_file(alloc, &mut lines, path, bytes)?;
     }
     Ok(lines)
 }
 
-fn shown_fault(alloc: Global, fault: &TreeFault) -> Result<String, Fail> {
+/// A line with the number of the fault and its text.
+fn shown_fault(alloc: Global, fault: TreeFault) -> Result<String, Fail> {
     let number = fault.number();
-    Ok(format!(in alloc; "{number} {fault}\n")?)
+    let line = format!(in alloc; "{number} {fault}\n");
+    drop(fault);
+    Ok(line?)
 }
 
 /// The files, or a line for the fault.
 fn shown_files(alloc: Global, files: Result<Snapshot, TreeFault>) -> Result<String, Fail> {
     match files {
         Ok(snapshot) => shown_snapshot(alloc, &snapshot),
-        Err(fault) => shown_fault(alloc, &fault),
+        Err(fault) => shown_fault(alloc, fault),
     }
-}
-
-/// The outputs through the bound alone.
-fn shown_outputs<F: Folder>(alloc: Global, folder: &mut F, place: &str) -> Result<String, Fail> {
-    let name = Name::read(alloc, "out")?;
-    let files = outputs(alloc, folder, &name, &Place::read(alloc, place)?);
-    shown_files(alloc, files)
 }
 
 /// A line for each path with its digest, or one for the fault.
 fn shown_digests(alloc: Global, prints: Result<Prints, TreeFault>) -> Result<String, Fail> {
     match prints {
         Ok(prints) => shown_prints(alloc, &prints),
-        Err(fault) => shown_fault(alloc, &fault),
+        Err(fault) => shown_fault(alloc, fault),
     }
 }
 
-/// The outputs at this place among these files.
-fn shown_outputs_among(alloc: Global, files: &[(&str, &str)], place: &str) -> Result<String, Fail> {
-    let mut folder = folder_of(alloc, files)?;
-    shown_outputs(alloc, &mut folder, place)
+/// The outputs at this place, through the bound alone.
+fn shown_outputs<F: Folder>(alloc: Global, folder: &mut F, path: &str) -> Result<String, Fail> {
+    let name = name(alloc, "out")?;
+    let place = place(alloc, path)?;
+    shown_files(alloc, outputs(alloc, folder, &name, &place))
 }
 
-const OUTPUTS: [(&str, &str); 5] = [
-    ("build/x", "123"),
-    ("out/b", "1"),
-    ("out/a/c", ""),
-    ("out/a-c", "12"),
-    ("outer", "1"),
-];
-
-#[test]
-fn outputs_stand_by_their_paths(rt: HostRuntime) -> Result<(), Fail> {
-    for (place, shown) in [
-        ("build/x", " 3\n"),
-        ("out", "a-c 2\na/c 0\nb 1\n"),
-        ("none", ""),
-    ] {
-        assert!(rt; is(shown_outputs_among(rt.alloc(), &OUTPUTS, place), shown)?);
-    }
-    Ok(())
+/// The digests of the output at this place, through the bound alone.
+fn output_digests<F: Folder>(alloc: Global, folder: &mut F, path: &str) -> Result<String, Fail> {
+    let name = name(alloc, "src")?;
+    let place = place(alloc, path)?;
+    shown_digests(alloc, output_prints(alloc, folder, &name, &place))
 }
 
-const OWN: [(&str, &str); 2] = [(".gb/state/a", "1"), (".gbx/b", "12")];
-
-#[test]
-fn the_own_folder_has_no_outputs(rt: HostRuntime) -> Result<(), Fail> {
-    for (place, shown) in [
-        (".gb", ""),
-        (".gb/state", ""),
-        (".gb/state/a", ""),
-        (".gbx", "b 2\n"),
-    ] {
-        assert!(rt; is(shown_outputs_among(rt.alloc(), &OWN, place), shown)?);
-    }
-    Ok(())
-}
-
-/// The place of each text.
-fn places(alloc: Global, texts: &[&str]) -> Result<Vec<Place>, Fail> {
+/// The places, which stand between spaces.
+fn places(alloc: Global, texts: &str) -> Result<Vec<Place>, Fail> {
     let mut places = Vec::new(alloc);
-    for text in texts {
-        places.push(Place::read(alloc, text)?)?;
+    for text in texts.split_whitespace() {
+        places.push(place(alloc, text)?)?;
     }
     Ok(places)
 }
@@ -298,176 +365,38 @@ fn places(alloc: Global, texts: &[&str]) -> Result<Vec<Place>, Fail> {
 fn patterns(alloc: Global, texts: &str) -> Result<Vec<Pattern>, Fail> {
     let mut patterns = Vec::new(alloc);
     for text in texts.split_whitespace() {
-        patterns.push(Pattern::read(alloc, text)?)?;
+        patterns.push(pattern(alloc, text)?)?;
     }
     Ok(patterns)
 }
 
-/// The files of a property `src` with these roots.
-fn shown_roots(alloc: Global, files: &[(&str, &str)], roots: &[&str]) -> Result<String, Fail> {
-    let mut folder = folder_of(alloc, files)?;
-    let roots = places(alloc, roots)?;
-    shown_property(alloc, &mut folder, Naming::Relative, roots.as_slice())
-}
-
-/// The files of a property `src` with no patterns, through the bound alone.
+/// The files of a property `src` with these roots and patterns, through the bound alone.
 fn shown_property<F: Folder>(
     alloc: Global,
     folder: &mut F,
     naming: Naming,
-    roots: &[Place],
+    roots: &str,
+    include: &[Pattern],
+    exclude: &[Pattern],
 ) -> Result<String, Fail> {
-    let name = Name::read(alloc, "src")?;
-    let files = snapshot(alloc, folder, &name, naming, roots, &[], &[]);
-    shown_files(alloc, files)
-}
-
-const ROOTS: [(&str, &str); 4] = [
-    ("m/a", "1"),
-    ("m/sub/b", "12"),
-    ("m-x", "123"),
-    ("n/a", "1234"),
-];
-
-/// Whether these roots, which stand between spaces, have these files.
-fn are_files_of(alloc: Global, roots: &str, shown: &str) -> Result<bool, Fail> {
-    let mut folder = folder_of(alloc, &ROOTS)?;
-    let mut places = Vec::new(alloc);
-    for root in roots.split_whitespace() {
-        places.push(Place::read(alloc, root)?)?;
-    }
-    let files = shown_property(alloc, &mut folder, Naming::Relative, places.as_slice());
-    is(files, shown)
-}
-
-#[test]
-fn roots_give_their_files(rt: HostRuntime) -> Result<(), Fail> {
-    for (roots, shown) in [
-        ("m m", "a 1\nsub/b 2\n"),
-        ("m m/sub", "a 1\nb 2\nsub/b 2\n"),
-        ("m/sub/b", "b 2\n"),
-        ("m-x m/sub", "b 2\nm-x 3\n"),
-        ("m n", "71 duplicate input src a\n"),
-        ("none", ""),
-    ] {
-        let is_so = are_files_of(rt.alloc(), roots, shown)?;
-        assert!(rt; is_so, "{roots}");
-    }
-    Ok(())
-}
-
-#[test]
-fn a_folder_does_not_stand_where_a_file_does(rt: HostRuntime) -> Result<(), Fail> {
-    let alloc = rt.alloc();
-    let files = [("x/m", ""), ("y/m-n", ""), ("z/m/c", ""), ("z/m/b", "")];
-    assert!(rt;
-        is(
-            shown_roots(alloc, &files, &["x", "y", "z"]),
-            "71 duplicate input src m/b\n"
-        )?
-    );
-    assert!(rt;
-        is(
-            shown_roots(alloc, &files, &["y", "z"]),
-            "m-n 0\nm/b 0\nm/c 0\n"
-        )?
-    );
-    Ok(())
-}
-
-#[test]
-fn the_tools_own_folder_does_not_count(rt: HostRuntime) -> Result<(), Fail> {
-    let alloc = rt.alloc();
-    let files = [(".gb/state/a", ""), (".gbx/b", ""), ("m/.gb/c", "")];
-    assert!(rt;
-        is(
-            shown_roots(alloc, &files, &[".gb", ".gb/state", ".gbx", "m"]),
-            ".gb/c 0\nb 0\n"
-        )?
-    );
-    Ok(())
-}
-
-/// The files beneath `m` that stand by their names.
-fn shown_names(alloc: Global, files: &[(&str, &str)]) -> Result<String, Fail> {
-    let mut folder = folder_of(alloc, files)?;
-    let roots = places(alloc, &["m"])?;
-    shown_property(alloc, &mut folder, Naming::NameOnly, roots.as_slice())
-}
-
-#[test]
-fn files_stand_by_their_names(rt: HostRuntime) -> Result<(), Fail> {
-    let alloc = rt.alloc();
-    assert!(rt;
-        is(
-            shown_names(alloc, &[("m/d/a", "1"), ("m/b", "12")]),
-            "a 1\nb 2\n"
-        )?
-    );
-    assert!(rt;
-        is(
-            shown_names(alloc, &[("m/d/a", "1"), ("m/a", "12")]),
-            "71 duplicate input src a\n"
-        )?
-    );
-    Ok(())
-}
-
-/// The files beneath `m` that the patterns let in, by their names.
-fn shown_let_in(alloc: Global, include: &str, exclude: &str) -> Result<String, Fail> {
-    let mut folder = folder_of(alloc, &[("m/a.txt", ""), ("m/d/b.txt", ""), ("m/d/c", "")])?;
-    let roots = places(alloc, &["m"])?;
-    let include = patterns(alloc, include)?;
-    let exclude = patterns(alloc, exclude)?;
-    let name = Name::read(alloc, "src")?;
+    let name = name(alloc, "src")?;
+    let roots = places(alloc, roots)?;
     let files = snapshot(
         alloc,
-        &mut folder,
+        folder,
         &name,
-        Naming::NameOnly,
+        naming,
         roots.as_slice(),
-        include.as_slice(),
-        exclude.as_slice(),
+        include,
+        exclude,
     );
     shown_files(alloc, files)
 }
 
-#[test]
-fn patterns_let_files_in(rt: HostRuntime) -> Result<(), Fail> {
-    let alloc = rt.alloc();
-    for (include, exclude, shown) in [
-        ("", "", "a.txt 0\nb.txt 0\nc 0\n"),
-        ("**/*.txt", "", "a.txt 0\nb.txt 0\n"),
-        ("d/", "", "b.txt 0\nc 0\n"),
-        ("*.txt d/c", "", "a.txt 0\nc 0\n"),
-        ("**/*.txt", "d/", "a.txt 0\n"),
-        ("", "d/b.txt", "a.txt 0\nc 0\n"),
-    ] {
-        assert!(rt; is(shown_let_in(alloc, include, exclude), shown)?);
-    }
-    Ok(())
-}
-
-/// So many bytes, which tell where they stand.
-fn bytes_of(alloc: Global, count: usize) -> Result<Vec<u8>, Fail> {
-    let mut bytes = Vec::with_capacity(alloc, count)?;
-    for index in 0..count {
-        bytes.push((index % 251) as u8)?;
-    }
-    Ok(bytes)
-}
-
-/// A folder with one file `m/a`.
-fn one_file(alloc: Global, bytes: &[u8]) -> Result<MemoryFolder, Fail> {
-    let mut folder = MemoryFolder::new(alloc);
-    folder.write(&Place::read(alloc, "m/a")?, bytes, u64::MAX)?;
-    Ok(folder)
-}
-
-/// The digests of the property with the root `m`, through the bound alone.
-fn property_digests<F: Folder>(alloc: Global, folder: &mut F) -> Result<String, Fail> {
-    let name = Name::read(alloc, "src")?;
-    let roots = places(alloc, &["m"])?;
+/// The digests of a property `src` with these roots, through the bound alone.
+fn property_digests<F: Folder>(alloc: Global, folder: &mut F, roots: &str) -> Result<String, Fail> {
+    let name = name(alloc, "src")?;
+    let roots = places(alloc, roots)?;
     let prints = prints_of(
         alloc,
         folder,
@@ -480,24 +409,169 @@ fn property_digests<F: Folder>(alloc: Global, folder: &mut F) -> Result<String, 
     shown_digests(alloc, prints)
 }
 
-/// The digests of the output at `m`, through the bound alone.
-fn output_digests<F: Folder>(alloc: Global, folder: &mut F) -> Result<String, Fail> {
-    let name = Name::read(alloc, "src")?;
-    let prints = output_prints(alloc, folder, &name, &Place::read(alloc, "m")?);
-    shown_digests(alloc, prints)
-}
-
-/// The digests of a file of so many bytes, as a property and as an output.
-fn is_digested_as(alloc: Global, count: usize, want: &str) -> Result<bool, Fail> {
-    let bytes = bytes_of(alloc, count)?;
-    let mut folder = one_file(alloc, bytes.as_slice())?;
-    Ok(
-        is(property_digests(alloc, &mut folder), want)?
-            && is(output_digests(alloc, &mut folder), want)?,
+/// The files beneath `m` that one of the first patterns lets in and none of the others keeps out.
+fn shown_let_in<F: Folder>(
+    alloc: Global,
+    folder: &mut F,
+    include: &str,
+    exclude: &str,
+) -> Result<String, Fail> {
+    let include = patterns(alloc, include)?;
+    let exclude = patterns(alloc, exclude)?;
+    shown_property(
+        alloc,
+        folder,
+        Naming::NameOnly,
+        "m",
+        include.as_slice(),
+        exclude.as_slice(),
     )
 }
 
-/// How many bytes there are, and their digest.
+/// The files beneath `m` by their names, with patterns that let in, a bar, and patterns that keep out.
+fn shown_names<F: Folder>(alloc: Global, folder: &mut F, texts: &str) -> Result<String, Fail> {
+    let (include, exclude) = texts.split_once('|').unwrap_or((texts, ""));
+    shown_let_in(alloc, folder, include, exclude)
+}
+
+/// What is shown of a folder: a word for what is asked, and then a place, roots or patterns.
+fn asked<F: Folder>(alloc: Global, folder: &mut F, words: &str) -> Result<String, Fail> {
+    let (word, rest) = words.split_once(' ').unwrap_or((words, ""));
+    match word {
+        "outputs" => shown_outputs(alloc, folder, rest),
+        "files" => shown_property(alloc, folder, Naming::Relative, rest, &[], &[]),
+        "names" => shown_names(alloc, folder, rest),
+        "digests" => property_digests(alloc, folder, rest),
+        _ => output_digests(alloc, folder, rest),
+    }
+}
+
+/// What is shown of a folder with these files.
+fn asked_of_files(alloc: Global, files: &str, words: &str) -> Result<String, Fail> {
+    let mut folder = folder_of(alloc, files)?;
+    asked(alloc, &mut folder, words)
+}
+
+/// Fails with what is shown in place of the text beside what is asked of these files.
+fn hold(alloc: Global, files: &str, rows: &[(&str, &str)]) -> Result<(), Fail> {
+    for (words, want) in rows {
+        is(asked_of_files(alloc, files, words), want)?;
+    }
+    Ok(())
+}
+
+const OUTPUTS: [(&str, &str); 3] = [
+    ("outputs build/x", " 3\n"),
+    ("outputs out", "a-c 2\na/c 0\nb 1\n"),
+    ("outputs none", ""),
+];
+
+#[test]
+fn outputs_stand_by_their_paths(rt: HostRuntime) -> Result<(), Fail> {
+    hold(
+        rt.alloc(),
+        "build/x=123 out/b=1 out/a/c out/a-c=12 outer=1",
+        &OUTPUTS,
+    )
+}
+
+const OWN: [(&str, &str); 4] = [
+    ("outputs .gb", ""),
+    ("outputs .gb/state", ""),
+    ("outputs .gb/state/a", ""),
+    ("outputs .gbx", "b 2\n"),
+];
+
+#[test]
+fn the_own_folder_has_no_outputs(rt: HostRuntime) -> Result<(), Fail> {
+    hold(rt.alloc(), ".gb/state/a=1 .gbx/b=12", &OWN)
+}
+
+const ROOTS: [(&str, &str); 6] = [
+    ("files m m", "a 1\nsub/b 2\n"),
+    ("files m m/sub", "a 1\nb 2\nsub/b 2\n"),
+    ("files m/sub/b", "b 2\n"),
+    ("files m-x m/sub", "b 2\nm-x 3\n"),
+    ("files m n", "71 duplicate input src a\n"),
+    ("files none", ""),
+];
+
+#[test]
+fn roots_give_their_files(rt: HostRuntime) -> Result<(), Fail> {
+    hold(rt.alloc(), "m/a=1 m/sub/b=12 m-x=123 n/a=1234", &ROOTS)
+}
+
+const ALIKE: [(&str, &str); 2] = [
+    ("files x y z", "71 duplicate input src m/b\n"),
+    ("files y z", "m-n 0\nm/b 0\nm/c 0\n"),
+];
+
+#[test]
+fn a_folder_does_not_stand_where_a_file_does(rt: HostRuntime) -> Result<(), Fail> {
+    hold(rt.alloc(), "x/m y/m-n z/m/c z/m/b", &ALIKE)
+}
+
+#[test]
+fn the_tools_own_folder_does_not_count(rt: HostRuntime) -> Result<(), Fail> {
+    let row = ("files .gb .gb/state .gbx m", ".gb/c 0\nb 0\n");
+    hold(rt.alloc(), ".gb/state/a .gbx/b m/.gb/c", &[row])
+}
+
+#[test]
+fn files_stand_by_their_names(rt: HostRuntime) -> Result<(), Fail> {
+    let alloc = rt.alloc();
+    hold(alloc, "m/d/a=1 m/b=12", &[("names", "a 1\nb 2\n")])?;
+    hold(
+        alloc,
+        "m/d/a=1 m/a=12",
+        &[("names", "71 duplicate input src a\n")],
+    )
+}
+
+const LET_IN: [(&str, &str); 6] = [
+    ("names |", "a.txt 0\nb.txt 0\nc 0\n"),
+    ("names **/*.txt |", "a.txt 0\nb.txt 0\n"),
+    ("names d/ |", "b.txt 0\nc 0\n"),
+    ("names *.txt d/c |", "a.txt 0\nc 0\n"),
+    ("names **/*.txt | d/", "a.txt 0\n"),
+    ("names | d/b.txt", "a.txt 0\nc 0\n"),
+];
+
+#[test]
+fn patterns_let_files_in(rt: HostRuntime) -> Result<(), Fail> {
+    hold(rt.alloc(), "m/a.txt m/d/b.txt m/d/c", &LET_IN)
+}
+
+/// So many bytes, which tell where they stand.
+fn bytes_of(alloc: Global, count: usize) -> Result<Vec<u8>, Fail> {
+    let mut bytes = Vec::with_capacity(alloc, count)?;
+    for index in 0..count {
+        bytes.push((index % 251) as u8)?;
+    }
+    Ok(bytes)
+}
+
+/// What is shown of a folder with one file `m/a`.
+fn asked_of_file(alloc: Global, bytes: &[u8], words: &str) -> Result<String, Fail> {
+    let mut folder = MemoryFolder::new(alloc);
+    write(alloc, &mut folder, "m/a", bytes)?;
+    asked(alloc, &mut folder, words)
+}
+
+/// What is shown of a folder with one file `m/a` of so many bytes.
+fn asked_of_count(alloc: Global, count: usize, words: &str) -> Result<String, Fail> {
+    let bytes = bytes_of(alloc, count)?;
+    asked_of_file(alloc, bytes.as_slice(), words)
+}
+
+/// Fails with what is shown in place of the text beside how many bytes there are.
+fn hold_of_counts(alloc: Global, words: &str, rows: &[(usize, &str)]) -> Result<(), Fail> {
+    for (count, want) in rows {
+        is(asked_of_count(alloc, *count, words), want)?;
+    }
+    Ok(())
+}
+
 const PIECES: [(usize, &str); 5] = [
     (
         0,
@@ -523,74 +597,67 @@ const PIECES: [(usize, &str); 5] = [
 
 #[test]
 fn pieces_make_up_the_file(rt: HostRuntime) -> Result<(), Fail> {
-    for (count, want) in PIECES {
-        let is_so = is_digested_as(rt.alloc(), count, want)?;
-        assert!(rt; is_so, "{count}");
-    }
-    Ok(())
+    hold_of_counts(rt.alloc(), "digests m", &PIECES)?;
+    hold_of_counts(rt.alloc(), "output-digests m", &PIECES)
 }
 
-/// The output `m` with one file of so many bytes.
-fn shown_large(alloc: Global, count: usize) -> Result<String, Fail> {
-    let bytes = bytes_of(alloc, count)?;
-    let mut folder = one_file(alloc, bytes.as_slice())?;
-    shown_outputs(alloc, &mut folder, "m")
-}
+const EIGHT_MEBIBYTES: usize = 8 * 1024 * 1024;
+
+const READ: [(usize, &str); 2] = [
+    (EIGHT_MEBIBYTES, "a 8388608\n"),
+    (EIGHT_MEBIBYTES + 1, "13 too large m/a\n"),
+];
 
 #[test]
 fn eight_mebibytes_are_read(rt: HostRuntime) -> Result<(), Fail> {
-    let alloc = rt.alloc();
-    for (count, shown) in [
-        (8 * 1024 * 1024, "a 8388608\n"),
-        (8 * 1024 * 1024 + 1, "13 too large m/a\n"),
-    ] {
-        assert!(rt; is(shown_large(alloc, count), shown)?);
-    }
-    Ok(())
+    hold_of_counts(rt.alloc(), "outputs m", &READ)
 }
 
-/// The digests of the property `m` with one file of so many bytes.
-fn large_digest(alloc: Global, count: usize) -> Result<String, Fail> {
-    let bytes = bytes_of(alloc, count)?;
-    let mut folder = one_file(alloc, bytes.as_slice())?;
-    property_digests(alloc, &mut folder)
-}
+const DIGESTED: [(usize, &str); 2] = [
+    (
+        EIGHT_MEBIBYTES,
+        "a bdf23837181f5808331800c1ae2b4f7d7a839536b10d58491471c50dde23833a\n",
+    ),
+    (EIGHT_MEBIBYTES + 1, "13 too large m/a\n"),
+];
 
 #[test]
 fn eight_mebibytes_are_digested(rt: HostRuntime) -> Result<(), Fail> {
-    let alloc = rt.alloc();
-    for (count, shown) in [
-        (
-            8 * 1024 * 1024,
-            "a bdf23837181f5808331800c1ae2b4f7d7a839536b10d58491471c50dde23833a\n",
-        ),
-        (8 * 1024 * 1024 + 1, "13 too large m/a\n"),
-    ] {
-        assert!(rt; is(large_digest(alloc, count), shown)?);
+    hold_of_counts(rt.alloc(), "digests m", &DIGESTED)
+}
+
+/// Writes an empty file beneath `m` with this number as its name.
+fn write_number(alloc: Global, folder: &mut MemoryFolder, number: usize) -> Result<(), Fail> {
+    let path = format!(in alloc; "m/{number}")?;
+    write(alloc, folder, path.as_str(), b"")
+}
+
+/// A folder with so many empty files beneath `m`.
+fn many_files(alloc: Global, count: usize) -> Result<MemoryFolder, Fail> {
+    let mut folder = MemoryFolder::new(alloc);
+    for number in 0..count {
+        write_number(alloc, &mut folder, number)?;
+    }
+    Ok(folder)
+}
+
+/// What is shown of the property `m` of so many empty files.
+fn shown_many(alloc: Global, count: usize) -> Result<String, Fail> {
+    let mut folder = many_files(alloc, count)?;
+    asked(alloc, &mut folder, "files m")
+}
+
+/// Fails unless so many files are shown.
+fn are_all_shown(alloc: Global, count: usize) -> Result<(), Fail> {
+    let shown = shown_many(alloc, count)?;
+    if shown.as_str().lines().count() != count {
+        return Err(Fail::new("another number of lines"));
     }
     Ok(())
-}
-
-/// Whether so many lines are shown.
-fn has_lines(shown: Result<String, Fail>, count: usize) -> Result<bool, Fail> {
-    Ok(shown?.as_str().lines().count() == count)
-}
-
-/// The property `m` of so many empty files.
-fn shown_many(alloc: Global, count: usize) -> Result<String, Fail> {
-    let mut folder = MemoryFolder::new(alloc);
-    for index in 0..count {
-        let place = format!(in alloc; "m/{index}")?;
-        folder.write(&Place::read(alloc, place.as_str())?, b"", 0)?;
-    }
-    let roots = places(alloc, &["m"])?;
-    shown_property(alloc, &mut folder, Naming::Relative, roots.as_slice())
 }
 
 #[test]
 fn many_files_are_read(rt: HostRuntime) -> Result<(), Fail> {
-    let alloc = rt.alloc();
-    assert!(rt; has_lines(shown_many(alloc, 65_536), 65_536)?);
-    assert!(rt; is(shown_many(alloc, 65_537), "72 too many files src\n")?);
-    Ok(())
+    are_all_shown(rt.alloc(), 65_536)?;
+    is(shown_many(rt.alloc(), 65_537), "72 too many files src\n")
 }

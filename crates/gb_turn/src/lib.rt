@@ -1,7 +1,6 @@
-//! What a task's turn reads before anything is changed: its inputs, whole or by their digests.
+//! What a task's turn reads before anything is changed: the digests of its inputs and of its outputs.
 #![tactic(auto)]
 
 pub mod fault;
-pub mod inputs;
 pub mod outputs;
 pub mod prints;

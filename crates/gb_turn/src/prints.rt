@@ -52,8 +52,8 @@ fn print_one<F: Folder>(
     }
 }
 
-/// The prints of all file properties of a task, refused as [`read_inputs`](crate::inputs::read_inputs)
-/// refuses. Of the contents one piece is held at a time.
+/// The prints of all file properties of a task, in the order of their names. Of the contents one piece is held
+/// at a time. Nothing is changed, also not by an error: the first of what hinders reading them.
 pub fn print_inputs<F: Folder>(
     alloc: Global,
     folder: &mut F,

@@ -1,4 +1,5 @@
 //! Where the projects of settings stand.
+use crate::crowds::push_pieces;
 use crate::showing::push_fault;
 use gb_core::path::ProjectPath;
 use gb_core::place::Place;
@@ -44,9 +45,61 @@ fn projects_stand_in_the_folders_of_their_names(rt: HostRuntime) -> Result<(), F
         ("include \":b\", \"a\" include \"b\"", " : :b=b :a=a"),
         ("include \"build\"", "57 bad project place :build"),
         ("include \"a b\"", "1 bad name a b"),
+        (
+            "include \"lib:a\", \":lib\", \":\", \"\"",
+            " : :lib=lib :lib:a=lib/a",
+        ),
+        ("include \"a:build:b\"", "57 bad project place :a:build"),
+        ("include \"b:\", \"build\"", "1 bad name b:"),
+        ("include \"build\", \"b:\"", "57 bad project place :build"),
     ] {
         let shown = found(rt.alloc(), text)?;
         assert!(rt; shown.as_str() == wanted, "{text}");
     }
+    Ok(())
+}
+
+/// What settings come to that include 13 names of 64 letters and one of so many, one beneath the other.
+fn deep(alloc: Global, last: usize) -> Result<String, Fail> {
+    let mut text = String::from_str(alloc, "include \"")?;
+    for _ in 0..13 {
+        push_letters(&mut text, 64)?;
+        text.push_str(":")?;
+    }
+    push_letters(&mut text, last)?;
+    text.push_str("\"")?;
+    found(alloc, text.as_str())
+}
+
+fn push_letters(text: &mut String, count: usize) -> Result<(), Fail> {
+    for _ in 0..count {
+        text.push_str("a")?;
+    }
+    Ok(())
+}
+
+#[test]
+fn the_place_of_a_folder_has_at_most_896_bytes(rt: HostRuntime) -> Result<(), Fail> {
+    assert!(rt; deep(rt.alloc(), 51)?.as_str().starts_with(" : :"));
+    assert!(rt;
+        deep(rt.alloc(), 52)?
+            .as_str()
+            .starts_with("57 bad project place :")
+    );
+    Ok(())
+}
+
+/// What settings come to that include so many projects, beside the root.
+fn crowd(alloc: Global, count: usize) -> Result<String, Fail> {
+    let mut text = String::from_str(alloc, "include \"")?;
+    push_pieces(alloc, &mut text, count, "p", "\", \"")?;
+    text.push_str("p0\"")?;
+    found(alloc, text.as_str())
+}
+
+#[test]
+fn there_are_at_most_256_projects(rt: HostRuntime) -> Result<(), Fail> {
+    assert!(rt; crowd(rt.alloc(), 255)?.as_str().ends_with(" :p254=p254"));
+    assert!(rt; crowd(rt.alloc(), 256)?.as_str().starts_with("58 "));
     Ok(())
 }

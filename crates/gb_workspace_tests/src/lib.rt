@@ -8,7 +8,13 @@ mod faults;
 #[cfg(test)]
 mod folders;
 #[cfg(test)]
+mod planning;
+#[cfg(test)]
+mod plans;
+#[cfg(test)]
 mod reading;
+#[cfg(test)]
+mod registering;
 #[cfg(test)]
 mod showing;
 #[cfg(test)]

@@ -3,19 +3,16 @@ ghost use Rattle.std.specs.Prelude.{◌≡◌, [], IfOk};
 ghost use Rattle.gb_registry.specs.Configure.{configure_faults};
 ghost use Rattle.gb_registry.specs.Tables.{tables_of};
 
+use crate::planning::{ordered, told};
 use crate::showing::{push_fault, push_task};
 use gb_action::actions::Actions;
 use gb_action::table::ActionTable;
-use gb_answer::functions::function_table;
-use gb_answer::{builtin_functions, builtin_runs};
+use gb_answer::{builtin_actions, builtin_functions};
 use gb_core::name::Name;
 use gb_core::path::TaskPath;
 use gb_core::text::Text;
-use gb_graph::plan::plan;
 use gb_kinds::builtin::{Builtin, StoredAction};
 use gb_kinds::function_table::FunctionTable;
-use gb_kinds::table::builtin_table;
-use gb_plan::plan::Plan;
 use gb_provider::transforms::Transforms;
 use gb_registry::projects::projects;
 use gb_registry::registry::Registry;
@@ -23,12 +20,11 @@ use gb_registry::tables::Tables;
 use gb_report::fault::Fault;
 use gb_script::script::{Script, Settings};
 use gb_script::{read_script, read_settings};
-use gb_tasks::script_tasks::ScriptTasks;
 use gb_workspace::workspace::Workspace;
 use std::alloc::Global;
 use std::test::Fail;
 
-type Handed<A, T> = Tables<
+pub type Handed<A, T> = Tables<
     <A as Actions>::Stored,
     <T as Transforms>::Map,
     <T as Transforms>::FlatMap,
@@ -37,7 +33,9 @@ type Handed<A, T> = Tables<
 >;
 
 /// The script of the root, that of `:lib`, tasks with blanks between them, and what they come to, one
-/// behind the other, with bars between them. Behind `plan` stand words, which come to the order of their plan.
+/// behind the other, with bars between them. In place of tasks stand `names`, which comes to all tasks; `plan`
+/// and words, which come to the order of their plan; or `tell`, two tasks, `of` and words, which come to what
+/// their plan tells of the two.
 pub type Row<'a> = (&'a str, &'a str, &'a str, &'a str);
 
 /// Values of a command line: `v` is `x`, `w` is `:a`, and `go` is `yes`.
@@ -103,6 +101,16 @@ fn realised<A: Actions, T: Transforms>(
     Ok(out)
 }
 
+/// The tasks of a registry, as they are registered.
+fn named(alloc: Global, registry: &Registry) -> Result<String, Fail> {
+    let mut out = String::new(alloc);
+    for name in &registry.names(alloc)? {
+        out.push_str(if out.is_empty() { "" } else { " " })?;
+        out.push_str(name.as_str())?;
+    }
+    Ok(out)
+}
+
 /// What tasks of a registry come to.
 fn of_registry<A: Actions, T: Transforms>(
     alloc: Global,
@@ -112,49 +120,21 @@ fn of_registry<A: Actions, T: Transforms>(
 ) -> Result<String, Fail>
     requires { configure_faults (tables_of T.meanings A.meanings tables.now) registry.now ≡ [] }
 {
-    if let Some(words) = tasks.strip_prefix("plan ") {
-        return planned::<A, T>(alloc, tables, registry, words);
+    if tasks == "names" {
+        return named(alloc, registry);
+    }
+    if let Some(words) = tasks.strip_prefix("plan") {
+        return ordered::<A, T>(alloc, tables, registry, words);
+    }
+    if let Some(asked) = tasks.strip_prefix("tell ") {
+        return told::<A, T>(alloc, tables, registry, asked);
     }
     let mut workspace = Workspace::<'_, A, T>::declare(alloc, tables, registry)?;
     realised::<A, T>(alloc, &mut workspace, tasks)
 }
 
-fn texts(alloc: Global, words: &str) -> Result<Vec<Text>, Fail> {
-    let mut texts = Vec::new(alloc);
-    for word in words.split(' ') {
-        texts.push(Text::from_str(alloc, word)?)?;
-    }
-    Ok(texts)
-}
-
-/// The tasks of a plan of these words, in their order, or why there is none.
-fn planned<A: Actions, T: Transforms>(
-    alloc: Global,
-    tables: &Handed<A, T>,
-    registry: &Registry,
-    words: &str,
-) -> Result<String, Fail>
-    requires { configure_faults (tables_of T.meanings A.meanings tables.now) registry.now ≡ [] }
-{
-    let words = texts(alloc, words)?;
-    let mut tasks = ScriptTasks::<'_, A, T>::declare(alloc, tables, registry)?;
-    match plan(alloc, &mut tasks, words.as_slice(), &[]) {
-        Ok(plan) => in_order(alloc, &plan),
-        Err(fault) => refused(alloc, fault),
-    }
-}
-
-/// The paths of the tasks of a plan, in their order.
-fn in_order(alloc: Global, plan: &Plan) -> Result<String, Fail> {
-    let mut out = String::new(alloc);
-    for planned in plan.as_slice() {
-        out.push_str(if out.is_empty() { "" } else { " " })?;
-        out.push_str(planned.task.path.as_str())?;
-    }
-    Ok(out)
-}
-
-fn refused(alloc: Global, fault: Fault) -> Result<String, Fail> {
+/// The text of a fault.
+pub fn refused(alloc: Global, fault: Fault) -> Result<String, Fail> {
     let mut out = String::new(alloc);
     push_fault(alloc, &mut out, fault)?;
     Ok(out)
@@ -179,42 +159,79 @@ pub fn come_to<A: Actions, T: Transforms>(
 fn of_row<A: Actions, T: Transforms>(
     alloc: Global,
     tables: &Handed<A, T>,
-    row: &Row<'_>,
+    row: Row<'_>,
 ) -> Result<String, Fail> {
     let settings = read_settings(alloc, b"include \"lib\"")?;
     let scripts = scripts(alloc, row.0, row.1)?;
     come_to::<A, T>(alloc, tables, &settings, scripts, row.2)
 }
 
-/// Fails at the first row that comes to something else.
+/// Fails where a row comes to something else.
+fn holds<A: Actions, T: Transforms>(
+    alloc: Global,
+    tables: &Handed<A, T>,
+    row: Row<'_>,
+) -> Result<(), Fail> {
+    let shown = of_row::<A, T>(alloc, tables, row)?;
+    if shown.as_str() == row.3 {
+        Ok(())
+    } else {
+        Err(Fail::new(shown.as_str()))
+    }
+}
+
+/// What stands before a mark, and what behind it; nothing where it is not there.
+fn cut<'a>(text: &'a str, mark: &str) -> (&'a str, &'a str) {
+    text.split_once(mark).unwrap_or((text, ""))
+}
+
+/// The row of a line.
+fn row_of(line: &str) -> Row<'_> {
+    let (scripts, rest) = cut(line, " => ");
+    let (root, lib) = cut(scripts, " & ");
+    let (tasks, told) = cut(rest, " => ");
+    (root, lib, tasks, told)
+}
+
 fn hold_all<A: Actions, T: Transforms>(
     alloc: Global,
     tables: &Handed<A, T>,
-    rows: &[Row<'_>],
+    rows: &str,
 ) -> Result<(), Fail> {
-    for row in rows {
-        let shown = of_row::<A, T>(alloc, tables, row)?;
-        if shown.as_str() != row.3 {
-            return Err(Fail::new(shown.as_str()));
+    for line in rows.split('\n') {
+        if !line.is_empty() && !line.starts_with('#') {
+            holds::<A, T>(alloc, tables, row_of(line))?;
         }
     }
     Ok(())
 }
 
 fn actions(alloc: Global) -> Result<ActionTable<StoredAction>, Fail> {
-    Ok(builtin_table(alloc, builtin_runs!(alloc))?)
+    Ok(builtin_actions!(alloc))
 }
 
 fn functions(alloc: Global) -> Result<FunctionTable, Fail> {
-    Ok(function_table(alloc, builtin_functions!(alloc))?)
+    Ok(builtin_functions!(alloc))
 }
 
-/// Fails at the first row that comes to something else.
-pub fn hold(alloc: Global, rows: &[Row<'_>]) -> Result<(), Fail> {
+/// All kinds and functions that every build has.
+fn tables(alloc: Global) -> Result<Handed<Builtin, Builtin>, Fail> {
     let transforms = functions(alloc)?;
-    let tables = Tables {
+    Ok(Tables {
         actions: actions(alloc)?,
         transforms,
-    };
+    })
+}
+
+/// Fails at the first row that comes to something else. A row is a line: the script of the root, that of `:lib`
+/// behind ` & `, tasks, and what they come to, with ` => ` between them; `#` begins a remark.
+pub fn hold(alloc: Global, rows: &str) -> Result<(), Fail> {
+    let tables = tables(alloc)?;
     hold_all::<Builtin, Builtin>(alloc, &tables, rows)
+}
+
+/// Fails where a row comes to something else.
+pub fn hold_row(alloc: Global, row: Row<'_>) -> Result<(), Fail> {
+    let tables = tables(alloc)?;
+    holds::<Builtin, Builtin>(alloc, &tables, row)
 }

@@ -1,6 +1,6 @@
-use Rattle.std.proofs.Common.{◌≡◌, lit<, ◌∙◌, ap, sym, subst, IsTrue}
+use Rattle.std.proofs.Common.{lit<, ◌∙◌, ap, sym, subst, IsTrue}
 use Rattle.gb_core.specs.Name.{is_name}
-use Rattle.gb_core.specs.Path.{is_task_path, task_name}
+use Rattle.gb_core.specs.Path.{task_name}
 use Rattle.gb_core.proofs.LastColon.{cut_at_last, no_last}
 use Rattle.gb_core.proofs.Parts.{has_parts}
 use Rattle.gb_core.proofs.path.TaskPath.name.Goals as goal

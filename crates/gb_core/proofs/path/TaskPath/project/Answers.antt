@@ -1,4 +1,4 @@
-use Rattle.std.proofs.Common.{rules, ◌≡◌, lit<, ◌∙◌, ap, sym, subst, IsTrue}
+use Rattle.std.proofs.Common.{rules, lit<, ◌∙◌, ap, sym, subst, IsTrue}
 use Rattle.gb_core.specs.Path.{is_project_path, root_if_empty, project_of}
 use Rattle.gb_core.proofs.LastColon.{cut_at_last, no_last}
 use Rattle.gb_core.proofs.Parts.{has_parts}

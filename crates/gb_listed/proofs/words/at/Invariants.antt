@@ -1,9 +1,0 @@
-use Rattle.std.proofs.Common.{◌≡◌, [], drop, filter, length, bytes_eq}
-use Rattle.gb_core.specs.Tasks.{with_tasks}
-use Rattle.gb_listed.specs.Listed.{paths_in}
-use Rattle.gb_listed.proofs.words.at.Given as goal
-
-abbrev pub invariant-loop-task : goal.invariant-loop-task
-invariant-loop-task l =
-    with_tasks [] (filter (bytes_eq l.path) (paths_in l.recipes.entries))
-    ≡ with_tasks l.found (filter (bytes_eq l.path) (drop (length l.yielded) (paths_in l.recipes.entries)))

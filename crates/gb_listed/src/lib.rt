@@ -1,8 +1,0 @@
-//! Tasks in a list, for tests of plans.
-#![tactic(auto)]
-
-mod declaring;
-mod folder;
-pub mod listed;
-pub mod recipe;
-mod words;

@@ -1,9 +1,0 @@
-//! Tests of `gb_registry`, apart from it, so that its proofs are not paid for once more with them.
-#![tactic(auto)]
-
-#[cfg(test)]
-mod reading;
-#[cfg(test)]
-mod sample;
-#[cfg(test)]
-mod tests;
