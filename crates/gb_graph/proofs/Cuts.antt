@@ -101,12 +101,12 @@ not_below i r h = elim (cases_order i r) [ inl e ↦ omega arith | inr (inl l) �
 below : (i r : ℕ) → (r ≤ i → ⊥) → i < r
 below i r h = elim (cases_order i r) [ inl e ↦ absurd (h (omega arith)) | inr (inl l) ↦ l | inr (inr g) ↦ absurd (h (omega arith)) ]
 
-pub in_range : (u v : Bool) (i first end n : ℕ) → end ≤ n → (i < first → u ≡ true) → (first ≤ i → i < n → u ≡ false) → (i < end → v ≡ true) → (end ≤ i → i < n → v ≡ false)
+pub in_range : (u v : Bool) (i first end n : ℕ) → end ≤ n → (i < first → u ≡ true) → (first ≤ i → i < n → u ≡ false) → (first ≤ i → i < end → v ≡ true) → (end ≤ i → i < n → v ≡ false)
     → ((first ≤ i) × (i < end)) ↔ ((i < n) × ((not u && v) ≡ true))
 in_range true v i first end n le p q r s = (λ l. absurd (false≢true (sym (q l.0 (omega (arith, l.1, le))))), λ h. not_true h.1)
 in_range false true i first end n le p q r s =
     (λ l. (omega (arith, l.1, le), refl), λ h. (not_below i first (λ l. false≢true (p l)), below i end (λ g. false≢true (sym (s g h.0)))))
-in_range false false i first end n le p q r s = (λ l. absurd (false≢true (r l.1)), λ h. not_true h.1)
+in_range false false i first end n le p q r s = (λ l. absurd (false≢true (r l.0 l.1)), λ h. not_true h.1)
 
 pub finds_same : (row : List TaskPlace) (f g : Place → Bool) → ((p : Place) → f p ≡ g p) → (old new : List ℕ) → FindsToo row f old new → FindsToo row g old new
 finds_same row f g same old new finds k = (

@@ -30,6 +30,24 @@ fn first_from(row: &[TaskPlace], text: &[u8]) -> usize
     low
 }
 
+/// Where the places from one on stop standing before a text. It goes along those that do, as all are found.
+fn end_from(row: &[TaskPlace], first: usize, text: &[u8]) -> usize
+    requires rising { IsRising row.now }
+    requires within { first ≤ length row.now }
+    ensures from { first ≤ result }
+    ensures within { result ≤ length row.now }
+    ensures below { (i : ℕ) → first ≤ i → i < result → is_before (place_at row.now i) text.now ≡ true }
+    ensures above { (i : ℕ) → result ≤ i → i < length row.now
+        → is_before (place_at row.now i) text.now ≡ false }
+{
+    for end in first..row.len() {
+        if row[end].place.as_str().as_bytes().cmp(text) != Ordering::Less {
+            return end;
+        }
+    }
+    row.len()
+}
+
 /// Finds the places from one text on up to another.
 fn find_between(
     found: &mut Vec<usize>,
@@ -41,7 +59,7 @@ fn find_between(
     ensures { OnOk result (FindsToo row.now (is_between from.now to.now) found.old.items found.new.items) }
 {
     let first = first_from(row, from);
-    let end = first_from(row, to);
+    let end = end_from(row, first, to);
     for index in first..end {
         found.push(index)?;
     }

@@ -1,33 +1,37 @@
 -- The case of a task, by what hinders it and by its source.
-use Rattle.std.specs.Prelude.{◌≡◌, ◌++◌, not, Bool, true, false, List, [], ◌∷◌, Option, None, Some, if◌then◌else◌}
-use Rattle.std.proofs.Common.{refl, sym, ap, ◌∙◌}
+use Rattle.std.specs.Prelude.{ℕ, ◌≡◌, ◌≤◌, ◌++◌, not, Bool, true, false, List, [], ◌∷◌, Option, None, Some, if◌then◌else◌}
+use Rattle.std.proofs.Common.{refl, sym, ap, ◌∙◌, inl, inr}
 use Rattle.gb_core.specs.Lists.{first_of}
 use Rattle.gb_folder.specs.Files.{Contents, is_empty}
-use Rattle.gb_meaning.specs.Label.{Early, CannotRead, HasNoActions, HasNoSource, Skips, early_case}
+use Rattle.gb_meaning.specs.Label.{Early, HasNoActions, HasNoSource, Skips, early_case}
+use Rattle.gb_meaning.specs.Label as label
 use Rattle.gb_meaning.specs.Tree.{has_no_source, input_faults, listing_faults}
 use Rattle.gb_meaning.proofs.Common.{none_some}
 use Rattle.gb_plan.proofs.Tests.{not_false}
 use Rattle.gb_plan.specs.declared.task.TaskDeclaration.{TaskDeclaration as Task}
 use Rattle.gb_report.specs.declared.fault.Fault.{Fault}
+use Rattle.gb_store.proofs.Machine.{machine_before}
+use Rattle.gb_turn.specs.Reading.{CannotRead}
+use Rattle.gb_label.specs.Looking.{IsHindered}
 
 abbrev cased : Bool → Bool → List Fault → Bool → Option Early
 cased runs idle hindrances dry =
     if not runs then Some Skips
     else if idle then Some HasNoActions
-    else if not (is_empty hindrances) then Some (CannotRead hindrances)
+    else if not (is_empty hindrances) then Some (label.CannotRead hindrances)
     else if dry then Some HasNoSource
     else None
 
 goes : (runs idle : Bool) (hindrances : List Fault) (dry : Bool) → runs ≡ true → idle ≡ false → cased runs idle hindrances dry ≡ cased true false hindrances dry
 goes runs idle hindrances dry is acts = ap (λ b. cased b idle hindrances dry) is ∙ ap (λ b. cased true b hindrances dry) acts
 
-some_hindrance : (hindrances : List Fault) (dry : Bool) (fault : Fault) → first_of hindrances ≡ Some fault → cased true false hindrances dry ≡ Some (CannotRead hindrances)
+some_hindrance : (hindrances : List Fault) (dry : Bool) (fault : Fault) → first_of hindrances ≡ Some fault → cased true false hindrances dry ≡ Some (label.CannotRead hindrances)
 some_hindrance [] dry fault is = none_some is
 some_hindrance (first ∷ hindrances) dry fault is = refl
 
 pub hindered : (task : Task) (folder : Contents) (fault : Fault) → task.runs ≡ true → is_empty task.actions ≡ false
     → first_of (input_faults task folder ++ listing_faults task folder) ≡ Some fault
-    → (hindrances : List Fault) × (early_case task folder ≡ Some (CannotRead hindrances)) × (first_of hindrances ≡ Some fault)
+    → (hindrances : List Fault) × (early_case task folder ≡ Some (label.CannotRead hindrances)) × (first_of hindrances ≡ Some fault)
 hindered task folder fault runs acts first =
     let hindrances = input_faults task folder ++ listing_faults task folder in (
       hindrances,
@@ -35,6 +39,20 @@ hindered task folder fault runs acts first =
           ∙ some_hindrance hindrances (has_no_source task folder.files) fault first,
       first,
     )
+
+-- a task whose inputs can be read is hindered by what hinders listing its outputs
+pub hindered_at_outputs : (task : Task) (folder : Contents) (before after : ℕ) (fault : Fault) → task.runs ≡ true → is_empty task.actions ≡ false
+    → input_faults task folder ≡ [] → CannotRead before after (listing_faults task folder) fault → IsHindered task folder before after fault
+hindered_at_outputs task folder before after fault runs acts inputs (inl machine) = inl machine
+hindered_at_outputs task folder before after fault runs acts inputs (inr first) =
+    inr (hindered task folder fault runs acts (ap (λ faults. first_of (faults ++ listing_faults task folder)) inputs ∙ first))
+
+-- what hinders it after other calls, which changed nothing, hinders it
+pub cannot_before : (task : Task) (old now : Contents) (first second third : ℕ) (fault : Fault) → now ≡ old → first ≤ second → second ≤ third
+    → CannotRead second third (listing_faults task now) fault → CannotRead first third (listing_faults task old) fault
+cannot_before task old now first second third fault same le more (inl machine) = inl (machine_before first second third fault le more machine)
+cannot_before task old now first second third fault same le more (inr odd) =
+    inr (ap (λ folder. first_of (listing_faults task folder)) (sym same) ∙ odd)
 
 -- the first of the front is the first of all
 pub first_in_front : {X : Type 0} (xs ys : List X) (x : X) → first_of xs ≡ Some x → first_of (xs ++ ys) ≡ Some x

@@ -1,18 +1,18 @@
--- Why the outputs of a task cannot be read that nothing odd stands at: they have grown.
-use Rattle.std.specs.Prelude.{ℕ, ◌≡◌, ◌⊎◌, ◌++◌, Bool, true, false, List, [], ◌∷◌, map, if◌then◌else◌, Option, None, Some, Result, Ok, Err, IfOk, IfErr}
-use Rattle.std.specs.List.{AllByRecursion, filter, flat_map}
+-- Why the outputs of a task cannot be read: something odd stands at them, or they have grown.
+use Rattle.std.specs.Prelude.{ℕ, ◌≡◌, ◌⊎◌, ◌++◌, ◌||◌, Bool, true, false, List, [], ◌∷◌, map, if◌then◌else◌, Some, Result, Ok, Err, IfOk, IfErr}
+use Rattle.std.specs.List.{AllByRecursion, filter, flat_map, list_any}
 use Rattle.std.proofs.Common.{refl, sym, ap, subst, ◌∙◌, inl, inr, cond}
 use Rattle.gb_core.specs.Lists.{first_of}
 use Rattle.gb_folder.specs.Files.{Contents, Files, Place, is_empty, is_odd_under, is_own, places_under}
 use Rattle.gb_meaning.specs.Tree.{listing_faults, told_of_tree}
 use Rattle.gb_meaning.proofs.Common.{none_some, some_same}
 use Rattle.gb_plan.proofs.Tests.{not_false}
+use Rattle.gb_plan.specs.Task.{output_places}
 use Rattle.gb_plan.specs.declared.task.Output.{Output}
 use Rattle.gb_plan.specs.declared.task.TaskDeclaration.{TaskDeclaration as Task}
 use Rattle.gb_report.specs.declared.fault.Fault.{Fault}
 use Rattle.gb_report.specs.declared.fault.Fault.TheVariants as faults
-use Rattle.gb_store.specs.Faults.{IsOfMachine}
-use Rattle.gb_tree.specs.Tree.{Entries, entries_from, odd_roots, output_faults, output_listing_faults, too_large, too_many}
+use Rattle.gb_tree.specs.Tree.{Entries, entries_from, odd_roots, output_entries, output_faults, output_listing_faults, too_large, too_many}
 use Rattle.gb_tree.specs.declared.fault.TreeFault.{TreeFault}
 use Rattle.gb_tree.specs.declared.fault.TreeFault.TheVariants as trees
 use Rattle.gb_turn.specs.Reading.{CannotRead, print_faults}
@@ -78,16 +78,112 @@ all folder (output ∷ outputs) none =
     let p = parts folder output outputs none in
     both IsGrown (print_faults folder output) _ (one folder output p.0) (all folder outputs p.1)
 
-first_is : (fs : List Fault) (fault : Fault) → AllByRecursion IsGrown fs → first_of fs ≡ Some fault → IsGrown fault
-first_is [] fault grown is = none_some is
-first_is (f ∷ fs) fault grown is = subst IsGrown (some_same is) grown.0
+abbrev odd_told : Contents → List Output → List Fault
+odd_told folder outputs = map told_of_tree (odd_roots folder (map (λ output. output.place) outputs))
 
--- a fault that no growth explains is the machine's
-pub of_machine : (task : Task) (folder : Contents) (before after : ℕ) (fault : Fault) → listing_faults task folder ≡ [] → (¬ IsGrown fault)
-    → CannotRead before after (flat_map (print_faults folder) task.outputs) fault → IsOfMachine before after fault
-of_machine task folder before after fault none other (inl machine) = machine
-of_machine task folder before after fault none other (inr first) =
-    absurd (other (first_is (flat_map (print_faults folder) task.outputs) fault (all folder task.outputs none) first))
+-- the first of grown ones and of others
+split : (fs gs : List Fault) (fault : Fault) → AllByRecursion IsGrown fs → first_of (fs ++ gs) ≡ Some fault → IsGrown fault ⊎ (first_of gs ≡ Some fault)
+split [] gs fault grown first = inr first
+split (f ∷ fs) gs fault grown first = inl (subst IsGrown (some_same first) grown.0)
+
+behind : (fs gs : List Fault) → fs ++ gs ≡ [] → gs ≡ []
+behind [] gs none = none
+behind (f ∷ fs) gs none = not_false (sym (ap is_empty none))
+
+module _ (folder : Contents) (output : Output) (outputs : List Output) where
+  -- what hinders listing outputs, by whether something odd stands at the first
+  odd_if : (b : Bool) → is_odd_under folder output.place ≡ b
+      → odd_told folder (output ∷ outputs) ≡ cond b (faults.BadFileName output.place ∷ odd_told folder outputs) (odd_told folder outputs)
+  odd_if b is = ap (λ c. map told_of_tree (map trees.BadFileName (cond c (output.place ∷ others) others))) is ∙ by_test b
+    where
+      others : List Place
+      others = filter (is_odd_under folder) (map (λ (o : Output). o.place) outputs)
+
+      by_test : (c : Bool) → map told_of_tree (map trees.BadFileName (cond c (output.place ∷ others) others))
+          ≡ cond c (faults.BadFileName output.place ∷ odd_told folder outputs) (odd_told folder outputs)
+      by_test true = refl
+      by_test false = refl
+
+  -- something odd at an output that is not the tool's own hinders reading it first
+  first_if : (rest : List Fault) → is_own output.place ≡ false → is_odd_under folder output.place ≡ true
+      → first_of (print_faults folder output ++ rest) ≡ Some (faults.BadFileName output.place)
+  first_if rest own odd =
+      ap (λ b. first_of (map told_of_tree ((if b then [] else (odd_roots folder (output.place ∷ []) ++ many_of)) ++ large_of) ++ rest)) own
+      ∙ ap (λ b. first_of (map told_of_tree ((map trees.BadFileName (cond b (output.place ∷ []) []) ++ many_of) ++ large_of) ++ rest)) odd
+    where
+      many_of : List TreeFault
+      many_of = too_many output.name (entries_from output.place (places_under folder.files output.place))
+
+      large_of : List TreeFault
+      large_of = too_large folder.files (output_entries folder.files output.place)
+
+-- none is the tool's own
+abbrev pub Foreign : List Output → Type 0
+Foreign outputs = list_any (λ output. is_own output.place) outputs ≡ false
+
+apart : (a b : Bool) → (a || b) ≡ false → (a ≡ false) × (b ≡ false)
+apart true b e = not_false e
+apart false b e = (refl, e)
+
+-- what hinders reading outputs is that they have grown, or the first thing that hinders listing them
+first_told : (folder : Contents) (outputs : List Output) (fault : Fault) → Foreign outputs → first_of (flat_map (print_faults folder) outputs) ≡ Some fault
+    → IsGrown fault ⊎ (first_of (odd_told folder outputs) ≡ Some fault)
+first_told folder [] fault own first = none_some first
+first_told folder (output ∷ outputs) fault own first =
+    by (first_told folder outputs fault (apart (is_own output.place) _ own).1) (is_odd_under folder output.place) refl
+  where
+    by : (first_of (flat_map (print_faults folder) outputs) ≡ Some fault → IsGrown fault ⊎ (first_of (odd_told folder outputs) ≡ Some fault))
+        → (b : Bool) → is_odd_under folder output.place ≡ b → IsGrown fault ⊎ (first_of (odd_told folder (output ∷ outputs)) ≡ Some fault)
+    by next true odd =
+        inr (ap first_of (odd_if folder output outputs true odd) ∙ sym (first_if folder output outputs (flat_map (print_faults folder) outputs) (apart (is_own output.place) _ own).0 odd) ∙ first)
+    by next false none = elim (split (print_faults folder output) (flat_map (print_faults folder) outputs) fault (one folder output none) first) [
+      | inl grown ↦ inl grown
+      | inr later ↦ elim (next later) [
+        | inl grown ↦ inl grown
+        | inr odd ↦ inr (ap first_of (odd_if folder output outputs false none) ∙ odd)
+      ]
+    ]
+
+-- outputs that can be read can be listed
+pub none_told : (folder : Contents) (outputs : List Output) → Foreign outputs → flat_map (print_faults folder) outputs ≡ [] → odd_told folder outputs ≡ []
+none_told folder [] own none = refl
+none_told folder (output ∷ outputs) own none =
+    by (none_told folder outputs (apart (is_own output.place) _ own).1 (behind (print_faults folder output) (flat_map (print_faults folder) outputs) none))
+    (is_odd_under folder output.place) refl
+  where
+    by : odd_told folder outputs ≡ [] → (b : Bool) → is_odd_under folder output.place ≡ b → odd_told folder (output ∷ outputs) ≡ []
+    by next true odd =
+        none_some (ap first_of (sym none) ∙ first_if folder output outputs (flat_map (print_faults folder) outputs) (apart (is_own output.place) _ own).0 odd)
+    by next false fine = odd_if folder output outputs false fine ∙ next
+
+-- Why outputs are not read: they have grown, or what hinders listing them.
+abbrev pub CannotPrint : Task → Contents → ℕ → ℕ → Fault → Type 0
+CannotPrint task folder before after fault =
+    (IsGrown fault × (is_empty (flat_map (print_faults folder) task.outputs) ≡ false))
+    ⊎ CannotRead before after (listing_faults task folder) fault
+
+some_first : (hindrances : List Fault) (fault : Fault) → first_of hindrances ≡ Some fault → is_empty hindrances ≡ false
+some_first [] fault first = none_some first
+some_first (f ∷ fs) fault first = refl
+
+pub cannot_print : (task : Task) (folder : Contents) (before after : ℕ) (fault : Fault) → Foreign task.outputs
+    → CannotRead before after (flat_map (print_faults folder) task.outputs) fault → CannotPrint task folder before after fault
+cannot_print task folder before after fault own (inl machine) = inr (inl machine)
+cannot_print task folder before after fault own (inr first) = elim (first_told folder task.outputs fault own first) [
+  | inl grown ↦ inl (grown, some_first (flat_map (print_faults folder) task.outputs) fault first)
+  | inr odd ↦ inr (inr odd)
+]
+
+-- where they were listed before, they have grown
+pub cannot_print_listed : (task : Task) (folder : Contents) (before after : ℕ) (fault : Fault) → listing_faults task folder ≡ []
+    → CannotRead before after (flat_map (print_faults folder) task.outputs) fault → CannotPrint task folder before after fault
+cannot_print_listed task folder before after fault none (inl machine) = inr (inl machine)
+cannot_print_listed task folder before after fault none (inr first) =
+    inl (first_is (flat_map (print_faults folder) task.outputs) fault (all folder task.outputs none) first, some_first (flat_map (print_faults folder) task.outputs) fault first)
+  where
+    first_is : (fs : List Fault) (fault : Fault) → AllByRecursion IsGrown fs → first_of fs ≡ Some fault → IsGrown fault
+    first_is [] fault grown is = none_some is
+    first_is (f ∷ fs) fault grown is = subst IsGrown (some_same is) grown.0
 
 abbrev is_large : Fault → Bool
 is_large (faults.TooLarge place) = true
@@ -98,13 +194,29 @@ large_if : (fault : Fault) → IsGrown fault → is_large fault ≡ true
 large_if fault (inl at) = ap is_large at.1
 large_if fault (inr of) = ap is_large of.1
 
+-- what hinders listing is no growth
+listing_is_not : (task : Task) (folder : Contents) (before after : ℕ) (fault : Fault) → CannotRead before after (listing_faults task folder) fault
+    → is_large fault ≡ false
+listing_is_not task folder before after fault (inl (inl memory)) = ap is_large memory
+listing_is_not task folder before after fault (inl (inr device)) = ap is_large device.1
+listing_is_not task folder before after fault (inr first) = odd (filter (is_odd_under folder) (output_places task)) first
+  where
+    odd : (places : List Place) → first_of (map told_of_tree (map trees.BadFileName places)) ≡ Some fault → is_large fault ≡ false
+    odd [] first = none_some first
+    odd (place ∷ places) first = ap is_large (sym (some_same first))
+
 -- a fault of growth is one of the outputs
-pub has_grown : (before after : ℕ) (hindrances : List Fault) (fault : Fault) → IsGrown fault → CannotRead before after hindrances fault
-    → is_empty hindrances ≡ false
-has_grown before after hindrances fault grown (inl (inl memory)) = not_false (sym (sym (ap is_large memory) ∙ large_if fault grown))
-has_grown before after hindrances fault grown (inl (inr device)) = not_false (sym (sym (ap is_large device.1) ∙ large_if fault grown))
-has_grown before after [] fault grown (inr first) = none_some first
-has_grown before after (f ∷ fs) fault grown (inr first) = refl
+pub has_grown : (task : Task) (folder : Contents) (before after : ℕ) (fault : Fault) → IsGrown fault → CannotPrint task folder before after fault
+    → is_empty (flat_map (print_faults folder) task.outputs) ≡ false
+has_grown task folder before after fault grown (inl has) = has.1
+has_grown task folder before after fault grown (inr read) =
+    not_false (sym (large_if fault grown) ∙ listing_is_not task folder before after fault read)
+
+-- any other hinders listing them
+pub cannot_read : (task : Task) (folder : Contents) (before after : ℕ) (fault : Fault) → (¬ IsGrown fault) → CannotPrint task folder before after fault
+    → CannotRead before after (listing_faults task folder) fault
+cannot_read task folder before after fault other (inl has) = absurd (other has.0)
+cannot_read task folder before after fault other (inr read) = read
 
 pub ok_as : {T E : Type 0} {P Q : T → Type 0} (r : Result T E) → IfOk r P → ((x : T) → P x → Q x) → IfOk r Q
 ok_as (Ok x) held as_well = as_well x held

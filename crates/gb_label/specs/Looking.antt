@@ -1,11 +1,11 @@
 -- What a task's turn is found to come to before its record is looked at.
-use Rattle.std.specs.Prelude.{ℕ, ◌≡◌, ◌⊎◌, ◌||◌, ◌&&◌, not, Bool, true, false, List, map, Some, None}
+use Rattle.std.specs.Prelude.{ℕ, ◌≡◌, ◌⊎◌, ◌||◌, ◌&&◌, not, Bool, true, false, List, [], map, Some}
 use Rattle.std.specs.List.{list_any, list_all, zip}
 use Rattle.gb_core.specs.Lists.{first_of}
 use Rattle.gb_folder.specs.Files.{Contents, is_empty}
 use Rattle.gb_history.specs.Remembered.{Prints}
-use Rattle.gb_meaning.specs.Label.{Early, CannotRead, HasNoActions, HasNoSource, Skips, early_case}
-use Rattle.gb_meaning.specs.Tree.{trees_of}
+use Rattle.gb_meaning.specs.Label.{CannotRead, HasNoActions, HasNoSource, Skips, early_case}
+use Rattle.gb_meaning.specs.Tree.{has_no_source, input_faults, trees_of}
 use Rattle.gb_plan.specs.declared.task.FileProperty.{FileProperty}
 use Rattle.gb_plan.specs.declared.task.TaskDeclaration.{TaskDeclaration as Task}
 use Rattle.gb_report.specs.declared.fault.Fault.{Fault}
@@ -23,13 +23,15 @@ abbrev pub lacks_source : List FileProperty → List Prints → Bool
 lacks_source properties inputs =
     list_any (λ property. property.skip_when_empty) properties && list_all gives_no_source (zip properties inputs)
 
--- what is found is the task's case; and where it is none, the digests of its inputs
+-- What is found is the task's case. Where its record is to decide, its inputs can be read and give it a source,
+-- and their digests are found; of what stands at its outputs nothing is said.
 abbrev pub IsCase : Task → Contents → Look → Type 0
 IsCase task folder looks.Skips = early_case task folder ≡ Some Skips
 IsCase task folder looks.HasNoActions = early_case task folder ≡ Some HasNoActions
 IsCase task folder looks.HasNoSource = early_case task folder ≡ Some HasNoSource
 IsCase task folder (looks.Goes inputs) =
-    (early_case task folder ≡ None) × (inputs.items ≡ digests_in (trees_of task folder.files))
+    (input_faults task folder ≡ []) × (has_no_source task folder.files ≡ false)
+    × (inputs.items ≡ digests_in (trees_of task folder.files))
 
 -- what may be found of the task over any folder
 abbrev pub MayBe : Task → Look → Type 0

@@ -3,6 +3,7 @@
 #![tactic(auto)]
 
 mod deciding;
+mod listing;
 mod look;
 pub mod prepare;
 mod present;

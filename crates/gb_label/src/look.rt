@@ -7,10 +7,10 @@ ghost use Rattle.gb_plan.specs.Task.{is_output_of};
 ghost use Rattle.gb_store.specs.Faults.{Blames, BlamesOnly};
 ghost use Rattle.gb_turn.specs.Reading.{is_input_of};
 
+use crate::listing::check_outputs;
 use gb_folder::folder::Folder;
 use gb_plan::task::{FileProperty, TaskDeclaration};
 use gb_report::fault::Fault;
-use gb_run::emptying::listed_outputs;
 use gb_tree::prints::Prints;
 use gb_turn::prints::print_inputs;
 use std::alloc::Global;
@@ -23,7 +23,7 @@ pub enum Look {
     HasNoActions,
     /// All file properties that skip the task when empty are empty.
     HasNoSource,
-    /// None of these. The prints are those of its file properties.
+    /// None of these, but its outputs have not been listed. The prints are those of its file properties.
     Goes(Vec<Prints>),
 }
 
@@ -81,15 +81,15 @@ fn look_at_files<F: Folder>(
         (IsHindered task.now (F.contents folder.old) (F.failures folder.old) (F.failures folder.new)) }
 {
     let inputs = print_inputs(alloc, folder, task)?;
-    let _places = listed_outputs(alloc, folder, task.outputs.as_slice())?;
     if is_without_source(task.files.as_slice(), inputs.as_slice()) {
+        check_outputs(alloc, folder, task)?;
         return Ok(Look::HasNoSource);
     }
     Ok(Look::Goes(inputs))
 }
 
 /// What a task is found to be before its record is looked at. Nothing is changed, also not by an error: the
-/// first of what hinders reading its inputs or listing its outputs, or the machine's.
+/// first of what hinders reading its inputs or, where it has no source, listing its outputs; or the machine's.
 pub fn looked_at<F: Folder>(
     alloc: Global,
     folder: &mut F,

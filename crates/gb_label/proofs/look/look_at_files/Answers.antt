@@ -1,13 +1,11 @@
-use Rattle.std.proofs.Common.{◌≡◌, [], false, true, Bool, List, IfErr, sym, ap, ◌∙◌, inl, inr}
+use Rattle.std.proofs.Common.{◌≡◌, false, true, Bool, List, IfErr, sym, ap, ◌∙◌, inl, inr}
 use Rattle.std.proofs.lemmas.Result.{err_from_is_err_and}
 use Rattle.gb_folder.specs.Files.{Contents}
 use Rattle.gb_history.specs.Remembered.{Prints}
 use Rattle.gb_meaning.specs.Tree.{has_no_source, listing_faults, trees_of}
 use Rattle.gb_plan.specs.declared.task.FileProperty.{FileProperty}
-use Rattle.gb_plan.specs.declared.task.Output.{Output}
 use Rattle.gb_plan.specs.declared.task.TaskDeclaration.{TaskDeclaration as Task}
 use Rattle.gb_report.specs.declared.fault.Fault.{Fault}
-use Rattle.gb_run.specs.Emptying.{odd_faults}
 use Rattle.gb_store.proofs.Machine.{at_err}
 use Rattle.gb_turn.specs.Reading.{digests_in}
 use Rattle.gb_label.specs.Looking.{IsHindered, lacks_source}
@@ -24,11 +22,6 @@ returns-in_err-inputs-clause-err g c = λ tells.
       | inr first ↦ inr (hindered c.args.task.now (g.F.Folder.contents c.args.folder.now) c.in_err-inputs.field-0.0 c.requires.runs c.requires.acts (first_in_front _ _ _ first))
     ])
 
--- nothing odd stands at the outputs, since nothing has changed
-listed : (task : Task) (old now : Contents) (outputs : List Output) → outputs ≡ task.outputs → now ≡ old → odd_faults outputs now ≡ []
-    → listing_faults task old ≡ []
-listed task old now outputs is same none = ap (λ folder. odd_faults task.outputs folder) (sym same) ∙ ap (λ os. odd_faults os now) (sym is) ∙ none
-
 -- what was found of the prints holds of the files
 sourced : (task : Task) (old : Contents) (properties : List FileProperty) (inputs seen : List Prints) (found b : Bool) → properties ≡ task.files
     → inputs ≡ digests_in (trees_of task old.files) → seen ≡ inputs → found ≡ lacks_source properties seen → found ≡ b
@@ -39,18 +32,18 @@ sourced task old properties inputs seen found b is read same told decided =
 
 pub returns-then-is_without_source-clause-case : goal.returns-then-is_without_source-clause-case
 returns-then-is_without_source-clause-case g c = λ tells.
-    let old = g.F.Folder.contents c.args.folder.now in
-    by_source c.args.task.now old true c.requires.runs c.requires.acts (c.in_ok-inputs.ensures.fit tells)
-    (listed c.args.task.now old _ c.as_slice.result.now c.as_slice.ensures (c.in_ok-inputs.ensures.same tells) (c.in_ok-_places.ensures.none_odd tells))
-    (sourced c.args.task.now old c.as_slice-2.result.now c.in_ok-inputs.inputs.items c.as_slice-3.result.now c.is_without_source.result true c.as_slice-2.ensures
-    (c.in_ok-inputs.ensures.prints tells) c.as_slice-3.ensures.value c.is_without_source.ensures c.if-is_without_source.true)
+    let task = c.args.task.now in
+    let old : Contents = g.F.Folder.contents c.args.folder.now in
+    by_source task old true c.requires.runs c.requires.acts (c.in_ok-inputs.ensures.fit tells)
+    (ap (listing_faults task) (sym (c.in_ok-inputs.ensures.same tells)) ∙ c.in_ok-check_outputs.ensures.none_odd tells)
+    (sourced task old c.as_slice.result.now c.in_ok-inputs.inputs.items c.as_slice-2.result.now c.is_without_source.result true c.as_slice.ensures
+    (c.in_ok-inputs.ensures.prints tells) c.as_slice-2.ensures.value c.is_without_source.ensures c.if-is_without_source.true)
 
 pub returns-clause-case : goal.returns-clause-case
 returns-clause-case g c = λ tells.
-    let old = g.F.Folder.contents c.args.folder.now in (
-      by_source c.args.task.now old false c.requires.runs c.requires.acts (c.in_ok-inputs.ensures.fit tells)
-          (listed c.args.task.now old _ c.as_slice.result.now c.as_slice.ensures (c.in_ok-inputs.ensures.same tells) (c.in_ok-_places.ensures.none_odd tells))
-          (sourced c.args.task.now old c.as_slice-2.result.now c.in_ok-inputs.inputs.items c.as_slice-3.result.now c.is_without_source.result false c.as_slice-2.ensures
-          (c.in_ok-inputs.ensures.prints tells) c.as_slice-3.ensures.value c.is_without_source.ensures c.if-is_without_source.false),
+    let old : Contents = g.F.Folder.contents c.args.folder.now in (
+      c.in_ok-inputs.ensures.fit tells,
+      sourced c.args.task.now old c.as_slice.result.now c.in_ok-inputs.inputs.items c.as_slice-2.result.now c.is_without_source.result false c.as_slice.ensures
+          (c.in_ok-inputs.ensures.prints tells) c.as_slice-2.ensures.value c.is_without_source.ensures c.if-is_without_source.false,
       c.in_ok-inputs.ensures.prints tells,
     )

@@ -1,4 +1,4 @@
-use Rattle.std.proofs.Common.{◌≡◌, ◌∷◌, [], ◌++◌, List, append_assoc, append-nil, sym, ap, ◌∙◌}
+use Rattle.std.proofs.Common.{◌∷◌, [], ◌++◌, List, append_assoc, append-nil, sym, ap, ◌∙◌}
 use Rattle.std.specs.VecDeque.Iter.{deque_iter_rest}
 use Rattle.gb_plan.specs.declared.task.Action.{Action}
 use Rattle.gb_label.proofs.Names.{none_left}

@@ -1,0 +1,32 @@
+//! Whether all that stands at a task's outputs can be listed.
+ghost use Rattle.std.specs.Prelude.{◌≡◌, ◌≤◌, [], IsTrue, IfErr, OnOk};
+ghost use Rattle.gb_folder.specs.Files.{SameTearing};
+ghost use Rattle.gb_meaning.specs.Tree.{listing_faults};
+ghost use Rattle.gb_plan.specs.Task.{is_output_of};
+ghost use Rattle.gb_store.specs.Faults.{Blames, BlamesOnly};
+ghost use Rattle.gb_turn.specs.Reading.{CannotRead};
+
+use gb_folder::folder::Folder;
+use gb_plan::task::TaskDeclaration;
+use gb_report::fault::Fault;
+use gb_run::emptying::listed_outputs;
+use std::alloc::Global;
+
+/// Lists the outputs of a task. An error is the first odd thing there (14), or the machine's (3, 10).
+pub(crate) fn check_outputs<F: Folder>(
+    alloc: Global,
+    folder: &mut F,
+    task: &TaskDeclaration,
+) -> Result<(), Fault>
+    ensures count { F.failures folder.old ≤ F.failures folder.new }
+    ensures blame { Blames result (F.failures folder.old) (F.failures folder.new) }
+    ensures blamed { BlamesOnly (is_output_of task.now) result }
+    ensures tearing { SameTearing (F.may_leave folder.old) (F.may_leave folder.new) }
+    ensures same { IsTrue F.tells → F.contents folder.new ≡ F.contents folder.old }
+    ensures none_odd { IsTrue F.tells → OnOk result (listing_faults task.now (F.contents folder.old) ≡ []) }
+    ensures err { IsTrue F.tells → IfErr result (CannotRead (F.failures folder.old) (F.failures folder.new)
+        (listing_faults task.now (F.contents folder.old))) }
+{
+    listed_outputs(alloc, folder, task.outputs.as_slice())?;
+    Ok(())
+}
