@@ -1,12 +1,6 @@
-//! Worked replays, the examples of the guide among them, apart from `gb_lines`, so that its proofs are
-//! not paid for once more.
+//! Replays that do not take all their lines, apart from `gb_lines`, so that its proofs are not paid for
+//! once more. The others are made by the run of `gb_replay`.
 #![tactic(auto)]
 
-#[cfg(test)]
-mod guide;
-#[cfg(test)]
-mod rows;
-#[cfg(test)]
-mod script_rows;
 #[cfg(test)]
 mod tests;

@@ -1,11 +1,7 @@
-//! Whole replays, and what fails outside.
-use crate::guide::{EXAMPLES_1, EXAMPLES_2, EXAMPLES_3, EXAMPLES_4, EXAMPLES_5};
-use crate::rows::{LINES, PLAIN};
-use crate::script_rows::{DECLARED, REBUILT};
+//! Replays that end early: at a line that is none, and where something fails outside.
 use gb_action::actions::Actions;
 use gb_action::table::ActionTable;
-use gb_answer::{builtin_actions, builtin_functions};
-use gb_kinds::builtin::{Builtin, StoredAction};
+use gb_kinds::builtin::Builtin;
 use gb_kinds::function_table::FunctionTable;
 use gb_lines::replay::{Handed, replay};
 use gb_provider::transforms::Transforms;
@@ -15,14 +11,26 @@ use std::io::{self, ErrorKind, Read, Write};
 use std::test::Fail;
 
 /// The name of a replay, its input, what it prints, and its status.
-pub type Row<'a> = (&'a str, &'a str, &'a str, u8);
+type Row<'a> = (&'a str, &'a str, &'a str, u8);
 
-fn actions(alloc: Global) -> Result<ActionTable<StoredAction>, Fail> {
-    Ok(builtin_actions!(alloc))
-}
+/// Replays without lines, and up to a bad line; the last is of the guide.
+const ENDED: [Row<'static>; 3] = [
+    ("no input", "", "", 0),
+    ("bad line", "\n\njump\n", "REFUSED 95 bad line 3\n", 2),
+    (
+        "lines after it",
+        "put a 1\n\njump\nshow a\n",
+        "REFUSED 95 bad line 3\n",
+        2,
+    ),
+];
 
-fn functions(alloc: Global) -> Result<FunctionTable, Fail> {
-    Ok(builtin_functions!(alloc))
+/// No kinds and no functions.
+fn nothing_handed(alloc: Global) -> Handed<Builtin, Builtin> {
+    Tables {
+        actions: ActionTable::new(alloc),
+        transforms: FunctionTable::new(alloc),
+    }
 }
 
 /// What is printed of an input, and the status.
@@ -37,13 +45,14 @@ fn replayed<A: Actions, T: Transforms>(
     Ok((String::from_utf8(writer)?, status))
 }
 
+fn replayed_with_nothing(alloc: Global, input: &str) -> Result<(String, u8), Fail> {
+    let tables = nothing_handed(alloc);
+    replayed::<Builtin, Builtin>(alloc, &tables, input)
+}
+
 /// Fails where a replay prints something else, or ends with another status.
-fn holds<A: Actions, T: Transforms>(
-    alloc: Global,
-    tables: &Handed<A, T>,
-    row: &Row<'_>,
-) -> Result<(), Fail> {
-    let (output, status) = replayed::<A, T>(alloc, tables, row.1)?;
+fn holds(alloc: Global, row: &Row<'_>) -> Result<(), Fail> {
+    let (output, status) = replayed_with_nothing(alloc, row.1)?;
     if output.as_str() == row.2 && status == row.3 {
         return Ok(());
     }
@@ -52,70 +61,12 @@ fn holds<A: Actions, T: Transforms>(
     Err(Fail::new(told.as_str()))
 }
 
-fn all_hold<A: Actions, T: Transforms>(
-    alloc: Global,
-    tables: &Handed<A, T>,
-    rows: &[Row<'_>],
-) -> Result<(), Fail> {
-    for row in rows {
-        holds::<A, T>(alloc, tables, row)?;
+#[test]
+fn a_bad_line_ends_the_replay(rt: HostRuntime) -> Result<(), Fail> {
+    for row in ENDED.iter() {
+        holds(rt.alloc(), row)?;
     }
     Ok(())
-}
-
-/// Replays each row with all kinds and functions, up to the first that does not hold.
-fn hold(alloc: Global, rows: &[Row<'_>]) -> Result<(), Fail> {
-    let transforms = functions(alloc)?;
-    let tables = Tables {
-        actions: actions(alloc)?,
-        transforms,
-    };
-    all_hold::<Builtin, Builtin>(alloc, &tables, rows)
-}
-
-#[test]
-fn plain_tasks(rt: HostRuntime) -> Result<(), Fail> {
-    hold(rt.alloc(), &PLAIN)
-}
-
-#[test]
-fn lines_of_all_forms(rt: HostRuntime) -> Result<(), Fail> {
-    hold(rt.alloc(), &LINES)
-}
-
-#[test]
-fn what_tasks_declare(rt: HostRuntime) -> Result<(), Fail> {
-    hold(rt.alloc(), &DECLARED)
-}
-
-#[test]
-fn what_is_built_again(rt: HostRuntime) -> Result<(), Fail> {
-    hold(rt.alloc(), &REBUILT)
-}
-
-#[test]
-fn the_guide_begins(rt: HostRuntime) -> Result<(), Fail> {
-    hold(rt.alloc(), &EXAMPLES_1)
-}
-
-#[test]
-fn the_guide_wires_tasks(rt: HostRuntime) -> Result<(), Fail> {
-    hold(rt.alloc(), &EXAMPLES_2)
-}
-
-#[test]
-fn the_guide_makes_values(rt: HostRuntime) -> Result<(), Fail> {
-    hold(rt.alloc(), &EXAMPLES_3)
-}
-
-#[test]
-fn the_guide_acts_by_kinds(rt: HostRuntime) -> Result<(), Fail> {
-    hold(rt.alloc(), &EXAMPLES_4)
-}
-
-#[test]
-fn the_guide_tells_outcomes(rt: HostRuntime) -> Result<(), Fail> {
-    hold(rt.alloc(), &EXAMPLES_5)
 }
 
 /// Lines that are none.
@@ -139,7 +90,7 @@ const BAD_LINES: [&str; 14] = [
 fn is_bad(alloc: Global, line: &str) -> Result<(), Fail> {
     let input = format!(in alloc; "\nshow a\n{line}\nshow a\n")?;
     let want = "== none\nREFUSED 95 bad line 3\n";
-    hold(alloc, &[(line, input.as_str(), want, 2)])
+    holds(alloc, &(line, input.as_str(), want, 2))
 }
 
 #[test]
@@ -201,10 +152,7 @@ fn end_with_1<A: Actions, T: Transforms>(alloc: Global, tables: &Handed<A, T>) -
 
 #[test]
 fn a_failing_device_ends_the_replay(rt: HostRuntime) -> Result<(), Fail> {
-    let tables = Tables {
-        actions: ActionTable::new(rt.alloc()),
-        transforms: FunctionTable::new(rt.alloc()),
-    };
+    let tables = nothing_handed(rt.alloc());
     if end_with_1::<Builtin, Builtin>(rt.alloc(), &tables) {
         Ok(())
     } else {
