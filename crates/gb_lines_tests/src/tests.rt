@@ -63,7 +63,7 @@ fn holds(alloc: Global, row: &Row<'_>) -> Result<(), Fail> {
 
 #[test]
 fn a_bad_line_ends_the_replay(rt: HostRuntime) -> Result<(), Fail> {
-    for row in ENDED.iter() {
+    for row in &ENDED {
         holds(rt.alloc(), row)?;
     }
     Ok(())
