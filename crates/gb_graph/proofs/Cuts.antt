@@ -101,6 +101,10 @@ not_below i r h = elim (cases_order i r) [ inl e ↦ omega arith | inr (inl l) �
 below : (i r : ℕ) → (r ≤ i → ⊥) → i < r
 below i r h = elim (cases_order i r) [ inl e ↦ absurd (h (omega arith)) | inr (inl l) ↦ l | inr (inr g) ↦ absurd (h (omega arith)) ]
 
+-- below the next one is below it or at it
+pub below_or_at : (i n : ℕ) → i < n + 1 → (i < n) ⊎ (i ≡ n)
+below_or_at i n l = elim (cases_order i n) [ inl e ↦ inr e | inr (inl less) ↦ inl less | inr (inr more) ↦ absurd (omega (arith, l, more)) ]
+
 pub in_range : (u v : Bool) (i first end n : ℕ) → end ≤ n → (i < first → u ≡ true) → (first ≤ i → i < n → u ≡ false) → (first ≤ i → i < end → v ≡ true) → (end ≤ i → i < n → v ≡ false)
     → ((first ≤ i) × (i < end)) ↔ ((i < n) × ((not u && v) ≡ true))
 in_range true v i first end n le p q r s = (λ l. absurd (false≢true (sym (q l.0 (omega (arith, l.1, le))))), λ h. not_true h.1)

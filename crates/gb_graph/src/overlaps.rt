@@ -9,6 +9,13 @@ use gb_core::place::Place;
 use std::alloc::{AllocError, Global};
 use std::cmp::Ordering;
 
+/// Whether a place stands before a text.
+fn is_before(at: &TaskPlace, text: &[u8]) -> bool
+    ensures { result ≡ is_before at.now.place text.now }
+{
+    at.place.as_str().as_bytes().cmp(text) == Ordering::Less
+}
+
 /// How many places stand before a text.
 fn first_from(row: &[TaskPlace], text: &[u8]) -> usize
     requires { IsRising row.now }
@@ -21,7 +28,7 @@ fn first_from(row: &[TaskPlace], text: &[u8]) -> usize
     let mut high = row.len();
     while low < high {
         let middle = low + (high - low) / 2;
-        if row[middle].place.as_str().as_bytes().cmp(text) == Ordering::Less {
+        if is_before(&row[middle], text) {
             low = middle + 1;
         } else {
             high = middle;
@@ -41,7 +48,7 @@ fn end_from(row: &[TaskPlace], first: usize, text: &[u8]) -> usize
         → is_before (place_at row.now i) text.now ≡ false }
 {
     for end in first..row.len() {
-        if row[end].place.as_str().as_bytes().cmp(text) != Ordering::Less {
+        if !is_before(&row[end], text) {
             return end;
         }
     }

@@ -7,7 +7,7 @@ pub loop-index-preserved : goal.loop-index-preserved
 loop-index-preserved c =
     let found = c.loop-index.found.items in
     let old = c.loop-index.invariant in
-    let first = c.first_from.result in
+    let first = c.first_from-first.result in
     record {
       bounded = inr (omega (arith, c.loop-index-test.true));
       told = subst (λ (xs : List ℕ). (k : ℕ) → Contains xs k ↔ (Contains c.args.found.now.items k ⊎ ((first ≤ k) × (k < c.loop-index.index + 1)))) (sym c.in_ok-push.ensures.items)
@@ -17,8 +17,8 @@ loop-index-preserved c =
 pub returns : goal.returns
 returns c =
     let row = c.args.row.now in
-    let first = c.first_from in
-    let end = c.end_from in
+    let first = c.first_from-first in
+    let end = c.end_from-end in
     let i = c.loop-index.index in
     λ k.
     let x = place_at row k in

@@ -1,21 +1,19 @@
 use Rattle.std.proofs.Common.{◌≡◌, ◌<◌, ◌+◌, ◌-◌, ◌/◌, length, true, false, arith, ap, sym, ◌∙◌, inl, inr}
-use Rattle.std.specs.Ordering.{is_lt}
-use Rattle.std.proofs.lemmas.Cmp.{is_lt_index}
 use Rattle.std.proofs.lemmas.Bool.{cases_Bool}
 use Rattle.gb_graph.specs.Places.{is_before, place_at}
+use Rattle.gb_graph.specs.declared.places.TaskPlace.{TaskPlace}
 use Rattle.gb_graph.proofs.Rows.{place_found}
 use Rattle.gb_order.proofs.Keeping.{not_both}
 use Rattle.gb_graph.proofs.overlaps.first_from.Goals as goal
 
-pub loop-low-preserved-then-eq : goal.loop-low-preserved-then-eq
-loop-low-preserved-then-eq c =
+pub loop-low-preserved-then-is_before : goal.loop-low-preserved-then-is_before
+loop-low-preserved-then-is_before c =
     let row = c.args.row.now in
     let text = c.args.text.now in
     let mid = c.loop-low.low + (c.loop-low.high - c.loop-low.low) / 2 in
     let lt : mid < length row = omega arith in
     let told : is_before (place_at row mid) text ≡ true =
-    ap (λ x. is_before x text) (place_found row mid c.index-row-middle.result lt ∙ (sym c.as_str.ensures.text ∙ sym c.as_bytes.ensures.value))
-    ∙ ap is_lt (sym c.cmp.ensures) ∙ is_lt_index c.cmp.result ∙ sym c.if-eq.ensures in
+    ap (λ x. is_before x text) (place_found row mid c.index-row-middle.result lt ∙ ap (λ (d : TaskPlace). d.place) (sym c.index-row-middle.is)) ∙ sym c.is_before.ensures ∙ c.if-is_before.true in
     record {
       ordered = omega arith;
       within = c.loop-low.invariant.within;
@@ -30,8 +28,7 @@ loop-low-preserved c =
     let mid = c.loop-low.low + (c.loop-low.high - c.loop-low.low) / 2 in
     let lt : mid < length row = omega arith in
     let told : is_before (place_at row mid) text ≡ false =
-    ap (λ x. is_before x text) (place_found row mid c.index-row-middle.result lt ∙ (sym c.as_str.ensures.text ∙ sym c.as_bytes.ensures.value))
-    ∙ ap is_lt (sym c.cmp.ensures) ∙ is_lt_index c.cmp.result ∙ sym c.if-eq.ensures in
+    ap (λ x. is_before x text) (place_found row mid c.index-row-middle.result lt ∙ ap (λ (d : TaskPlace). d.place) (sym c.index-row-middle.is)) ∙ sym c.is_before.ensures ∙ c.if-is_before.false in
     record {
       ordered = omega arith;
       within = omega arith;
