@@ -26,8 +26,12 @@ impl<R: Files> Device<R> {
         ensures ordered { IfOk result (λ places. IsStrictlySortedBy byte_order places.items) }
         ensures err { IfErr result IsOfListing }
     {
+        trail.forget_listed();
         let places = match self.look(trail, root)? {
-            Standing::File(_) => alone(alloc, root)?,
+            Standing::File(len) => {
+                trail.remember_listed(root, len)?;
+                alone(alloc, root)?
+            }
             Standing::Folder => {
                 let found = self.walk(alloc, &mut trail.path, root)?;
                 trail.remember(root.as_str())?;
@@ -39,7 +43,8 @@ impl<R: Files> Device<R> {
         Ok(in_order(places))
     }
 
-    /// The bytes of a file, of which there are at most `limit`.
+    /// The bytes of a file, of which there are at most `limit`: as many as there were when it was looked at,
+    /// or fewer where it ends by then.
     pub fn read(
         &self,
         alloc: Global,
@@ -56,12 +61,7 @@ impl<R: Files> Device<R> {
         if len > limit {
             return Err(FolderFault::TooLarge);
         }
-        let most = limit.saturating_add(1);
-        let bytes = self.bytes_of(alloc, &mut trail.path, place, 0, len, most)?;
-        if bytes.len() as u64 > limit {
-            return Err(FolderFault::TooLarge);
-        }
-        Ok(bytes)
+        self.bytes_found(alloc, trail, place, 0, len)
     }
 
     /// The bytes of a file from `at` on: `len` of them, or fewer where the file ends.
@@ -83,8 +83,7 @@ impl<R: Files> Device<R> {
         if at >= whole {
             return Ok(Vec::new(alloc));
         }
-        let expected = (whole - at).min(len);
-        self.bytes_of(alloc, &mut trail.path, place, at, expected, len)
+        self.bytes_found(alloc, trail, place, at, (whole - at).min(len))
     }
 
     /// Puts a file in place of what stood there.
@@ -105,6 +104,7 @@ impl<R: Files> Device<R> {
         if bytes.len() as u64 > limit {
             return Err(FolderFault::TooLarge);
         }
+        trail.forget_listed();
         match self.go_to(&mut trail.path, place, true)? {
             Standing::Nothing => {}
             Standing::File(_) => self.unlink(&mut trail.path, place)?,
@@ -134,12 +134,37 @@ impl<R: Files> Device<R> {
         ensures err { IfErr result
             (λ fault. IsOfMachine fault ⊎ (fault ≡ FolderFault.Missing) ⊎ (fault ≡ FolderFault.Blocked)) }
     {
-        match self.look(trail, place)? {
+        match self.look_once(trail, place)? {
             Standing::File(len) => Ok(len),
             Standing::Folder if self.has_file(trail, place)? => Err(FolderFault::Blocked),
             Standing::Folder | Standing::Nothing => Err(FolderFault::Missing),
             Standing::Odd => Err(FolderFault::Device),
             Standing::UnderFile => Err(FolderFault::Blocked),
+        }
+    }
+
+    /// The bytes of a file that was found, from `at` on: `most` of them, or fewer where the file ends. Where
+    /// they cannot be read, what stands there by now tells why.
+    fn bytes_found(
+        &self,
+        alloc: Global,
+        trail: &mut Trail,
+        place: &Place,
+        at: u64,
+        most: u64,
+    ) -> Result<Vec<u8>, FolderFault>
+        ensures at { OnOk result
+            (string_bytes trail.new.path ≡ path_in (string_bytes self.now.base) place.now) }
+        ensures within { IfOk result (λ bytes. length bytes.items ≤ most) }
+        ensures err { IfErr result
+            (λ fault. IsOfMachine fault ⊎ (fault ≡ FolderFault.Missing) ⊎ (fault ≡ FolderFault.Blocked)) }
+    {
+        match self.bytes_of(alloc, &mut trail.path, place, at, most) {
+            Err(FolderFault::Device) => {
+                self.file_len(trail, place)?;
+                Err(FolderFault::Device)
+            }
+            outcome => outcome,
         }
     }
 

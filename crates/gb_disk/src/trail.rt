@@ -7,18 +7,31 @@ use std::alloc::{AllocError, Global};
 /// So many folders are known at most.
 const MOST: usize = 8;
 
-/// The folders that were met last, so that what stands in one of them is looked at by its whole path at once.
+/// The folders that were met last, so that what stands in one of them is looked at by its whole path at once,
+/// and the file that the call before listed by its own place, so that a read of it does not look again.
 ///
-/// If somebody else writes in the folder during a build, what stands at a place is still seen as it is. A look
-/// by a whole path that finds neither a file nor a folder, as beneath a folder that was taken away or gave way
-/// to a file, forgets all and goes down from the top, and so do each write and each removal. Not noticed, until
-/// so many other folders were met or a call fails, is a link put in place of a known folder, where it leads to a
-/// folder with a file or a folder at the rest of the place: `list`, `read` and `read_part` follow it.
+/// If somebody else writes in the folder during a build, what stands at a place is still seen as it is, but for
+/// two changes. A look by a whole path that finds neither a file nor a folder, as beneath a folder that was
+/// taken away or gave way to a file, forgets all and goes down from the top, as each write and each removal do.
+/// Not noticed, until so many other folders were met or a call fails, is a link put in place of a known folder,
+/// where it leads to a folder with a file or a folder at the rest of the place: `list`, `read` and `read_part`
+/// follow it. Nor is it noticed if a file gives way to a link, a pipe, a device or another file between a `list`
+/// of its place and a `read` or `read_part` of it that comes next: what stands there is opened, and as many
+/// bytes are read as were listed. If it cannot be read, as where the file went, what stands there is looked at.
 #[derive(Drop)]
 pub(crate) struct Trail {
     pub path: String,
     /// The places at which folders stood, and above which too, the last one at the end.
     known: Vec<String>,
+    /// The file that the last call listed, if that was all it did.
+    listed: Option<Listed>,
+}
+
+/// A file that was listed by its own place.
+#[derive(Drop)]
+struct Listed {
+    place: Place,
+    len: u64,
 }
 
 impl Trail {
@@ -26,6 +39,7 @@ impl Trail {
         Trail {
             path: String::new(alloc),
             known: Vec::new(alloc),
+            listed: None,
         }
     }
 
@@ -66,9 +80,36 @@ impl Trail {
         Ok(self.known.push(copy)?)
     }
 
+    /// Takes up that this call lists a file of so many bytes.
+    pub fn remember_listed(&mut self, place: &Place, len: u64) -> Result<(), AllocError>
+        ensures { self.new.path ≡ self.old.path }
+    {
+        let place = place.copy()?;
+        self.listed = Some(Listed { place, len });
+        Ok(())
+    }
+
+    /// The length of the file at the place, if the call before listed it. It is told once.
+    pub fn take_len(&mut self, place: &Place) -> Option<u64>
+        ensures { self.new.path ≡ self.old.path }
+    {
+        match self.listed.take() {
+            Some(file) if file.place == *place => Some(file.len),
+            _ => None,
+        }
+    }
+
+    pub fn forget_listed(&mut self)
+        ensures { self.new.path ≡ self.old.path }
+    {
+        self.listed = None;
+    }
+
+    /// Forgets all but the path.
     pub fn forget(&mut self)
         ensures { self.new.path ≡ self.old.path }
     {
         self.known.clear();
+        self.listed = None;
     }
 }

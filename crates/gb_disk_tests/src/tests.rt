@@ -233,6 +233,80 @@ fn sees_a_link_to_nothing_in_its_place(rt: HostRuntime) -> Result<(), Fail> {
     Ok(fs::remove_dir_all(&rt, "link_there")?)
 }
 
+/// A new folder of this name with the file `d/a` of five bytes, which was listed by its place at the end.
+fn with_listed<'r>(rt: &'r HostRuntime, name: &str) -> Result<DiskFolder<&'r HostRuntime>, Fail> {
+    renew(rt, name)?;
+    let mut folder = DiskFolder::new(rt, String::from_str(rt.alloc(), name)?);
+    answers(rt.alloc(), &mut folder, "write d/a;list d/a")?;
+    Ok(folder)
+}
+
+#[test]
+fn a_listed_file_is_looked_at_once(rt: HostRuntime) -> Result<(), Fail> {
+    let mut folder = with_listed(&rt, "once")?;
+    fs::write(&rt, "once/d/a", "hello world")?;
+    let grown = answers(
+        rt.alloc(),
+        &mut folder,
+        "read d/a;read d/a;part d/a;list d/a",
+    )?;
+    assert_eq!(rt; grown.as_str(), "hello;13;lo world;d/a ;");
+    fs::write(&rt, "once/d/a", "hello")?;
+    let shrunk = answers(rt.alloc(), &mut folder, "part d/a;part d/a")?;
+    assert_eq!(rt; shrunk.as_str(), "lo;lo;");
+    Ok(fs::remove_dir_all(&rt, "once")?)
+}
+
+#[test]
+fn each_call_forgets_what_was_listed(rt: HostRuntime) -> Result<(), Fail> {
+    for call in [
+        "read d/b",
+        "part d/b",
+        "write d/b",
+        "remove d/b",
+        "list d",
+        "list d/b",
+    ] {
+        let mut folder = with_listed(&rt, "forgets")?;
+        answers(rt.alloc(), &mut folder, call)?;
+        fs::write(&rt, "forgets/d/a", "hello world")?;
+        let all = answers(rt.alloc(), &mut folder, "read d/a")?;
+        assert_eq!(rt; all.as_str(), "13;");
+    }
+    Ok(fs::remove_dir_all(&rt, "forgets")?)
+}
+
+#[test]
+fn sees_that_a_listed_file_went(rt: HostRuntime) -> Result<(), Fail> {
+    let mut folder = with_listed(&rt, "file_went")?;
+    fs::remove_file(&rt, "file_went/d/a")?;
+    let went = answers(rt.alloc(), &mut folder, "read d/a;write d/a;list d/a")?;
+    assert_eq!(rt; went.as_str(), "11;ok;d/a ;");
+    fs::remove_file(&rt, "file_went/d/a")?;
+    fs::create_dir(&rt, "file_went/d/a")?;
+    let is_folder = answers(
+        rt.alloc(),
+        &mut folder,
+        "part d/a;write d/a/b;remove d/a/b;write d/a;list d/a",
+    )?;
+    assert_eq!(rt; is_folder.as_str(), "11;ok;ok;ok;d/a ;");
+    fs::remove_dir_all(&rt, "file_went/d")?;
+    fs::write(&rt, "file_went/d", "1")?;
+    let under_file = answers(rt.alloc(), &mut folder, "read d/a")?;
+    assert_eq!(rt; under_file.as_str(), "12;");
+    Ok(fs::remove_dir_all(&rt, "file_went")?)
+}
+
+#[test]
+fn sees_a_link_to_nothing_for_a_listed_file(rt: HostRuntime) -> Result<(), Fail> {
+    let mut folder = with_listed(&rt, "link_listed")?;
+    fs::remove_file(&rt, "link_listed/d/a")?;
+    symlink(&rt, "nowhere", "link_listed/d/a")?;
+    let all = answers(rt.alloc(), &mut folder, "read d/a")?;
+    assert_eq!(rt; all.as_str(), "10;");
+    Ok(fs::remove_dir_all(&rt, "link_listed")?)
+}
+
 #[test]
 fn opens_no_device(rt: HostRuntime) -> Result<(), Fail> {
     let calls = "list null;read null;part null;remove null/a";
