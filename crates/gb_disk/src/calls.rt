@@ -5,7 +5,7 @@ ghost use Rattle.gb_core.specs.Lists.{byte_order};
 ghost use Rattle.gb_disk.specs.Disk.{AllUnder, IsOfListing, IsOfMachine, path_in};
 
 use crate::device::Device;
-use crate::names::{alone, in_order};
+use crate::names::in_order;
 use crate::standing::Standing;
 use crate::trail::Trail;
 use crate::walk::Found;
@@ -28,19 +28,27 @@ impl<R: Files> Device<R> {
     {
         trail.forget_listed();
         let places = match self.look(trail, root)? {
-            Standing::File(len) => {
-                trail.remember_listed(root, len)?;
-                alone(alloc, root)?
-            }
-            Standing::Folder => {
-                let found = self.walk(alloc, &mut trail.path, root)?;
-                trail.remember(root.as_str())?;
-                found.files
-            }
+            Standing::File(len) => trail.list_file(alloc, root, len)?,
+            Standing::Folder => self.list_folder(alloc, trail, root)?,
             Standing::Nothing | Standing::UnderFile => Vec::new(alloc),
             Standing::Odd => return Err(FolderFault::BadFileName),
         };
         Ok(in_order(places))
+    }
+
+    /// The places of the files beneath a folder, in any order.
+    fn list_folder(
+        &self,
+        alloc: Global,
+        trail: &mut Trail,
+        root: &Place,
+    ) -> Result<Vec<Place>, FolderFault>
+        ensures under { IfOk result (λ places. AllUnder root.now places.items) }
+        ensures err { IfErr result IsOfListing }
+    {
+        let found = self.walk(alloc, &mut trail.path, root)?;
+        trail.remember(root.as_str())?;
+        Ok(found.files)
     }
 
     /// The bytes of a file, of which there are at most `limit`: as many as there were when it was looked at,

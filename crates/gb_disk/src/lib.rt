@@ -15,8 +15,8 @@
 //! the folder and no pipe is waited for; but for a write or a removal, a folder that was among the last
 //! ones met is not looked at again before something is missed or a call fails, nor is a file that the call
 //! before listed, as nobody else is to write there during a build. Of a file as many bytes are read as it
-//! had when it was looked at. A file that stood is unlinked first, so that another name of it keeps its bytes;
-//! a write that the device stops leaves some of the new bytes or no file.
+//! had when it was looked at. A file that stood is unlinked first, so that another name of it keeps its
+//! bytes; a write that the device stops leaves some of the new bytes or no file.
 #![tactic(auto)]
 
 mod calls;

@@ -1,6 +1,9 @@
-//! What the calls of a folder leave for those that follow: the path made last, and the folders met last.
-ghost use Rattle.std.specs.Prelude.{◌≡◌};
+//! What the calls of a folder leave for those that follow: the path made last, the folders met last, and the
+//! file listed last.
+ghost use Rattle.std.specs.Prelude.{◌≡◌, IfOk};
+ghost use Rattle.gb_disk.specs.Disk.{AllUnder};
 
+use crate::names::alone;
 use gb_core::place::Place;
 use std::alloc::{AllocError, Global};
 
@@ -10,24 +13,25 @@ const MOST: usize = 8;
 /// The folders that were met last, so that what stands in one of them is looked at by its whole path at once,
 /// and the file that the call before listed by its own place, so that a read of it does not look again.
 ///
-/// If somebody else writes in the folder during a build, what stands at a place is still seen as it is, but for
-/// two changes. A look by a whole path that finds neither a file nor a folder, as beneath a folder that was
-/// taken away or gave way to a file, forgets all and goes down from the top, as each write and each removal do.
-/// Not noticed, until so many other folders were met or a call fails, is a link put in place of a known folder,
-/// where it leads to a folder with a file or a folder at the rest of the place: `list`, `read` and `read_part`
-/// follow it. Nor is it noticed if a file gives way to a link, a pipe, a device or another file between a `list`
-/// of its place and a `read` or `read_part` of it that comes next: what stands there is opened, and as many
-/// bytes are read as were listed. If it cannot be read, as where the file went, what stands there is looked at.
+/// If somebody else writes in the folder during a build, what stands at a place is still seen as it is, but
+/// for two changes. A look by a whole path that finds neither a file nor a folder, as beneath a folder that
+/// was taken away or gave way to a file, forgets all and goes down from the top; each write and each removal
+/// goes down from there anyway. Not noticed, until so many other folders were met or a call fails, is a link
+/// put in place of a known folder, where it leads to a folder with a file or a folder at the rest of the
+/// place: `list`, `read` and `read_part` follow it. Nor is it noticed if a file changes its length, or gives
+/// way to another one, to a link, a pipe or a device, between a `list` of its place and a `read` or
+/// `read_part` of it that comes next: what stands there is opened, and as many bytes are read as were listed.
+/// If it cannot be read, as where the file went, it is looked at once more.
 #[derive(Drop)]
 pub(crate) struct Trail {
     pub path: String,
     /// The places at which folders stood, and above which too, the last one at the end.
     known: Vec<String>,
-    /// The file that the last call listed, if that was all it did.
+    /// The file that the call before listed by its own place.
     listed: Option<Listed>,
 }
 
-/// A file that was listed by its own place.
+/// A file where it stood, and its length.
 #[derive(Drop)]
 struct Listed {
     place: Place,
@@ -80,13 +84,22 @@ impl Trail {
         Ok(self.known.push(copy)?)
     }
 
-    /// Takes up that this call lists a file of so many bytes.
-    pub fn remember_listed(&mut self, place: &Place, len: u64) -> Result<(), AllocError>
-        ensures { self.new.path ≡ self.old.path }
+    /// Lists a file of so many bytes by its own place, and takes that up.
+    pub fn list_file(
+        &mut self,
+        alloc: Global,
+        place: &Place,
+        len: u64,
+    ) -> Result<Vec<Place>, AllocError>
+        ensures path { self.new.path ≡ self.old.path }
+        ensures under { IfOk result (λ places. AllUnder place.now places.items) }
     {
-        let place = place.copy()?;
-        self.listed = Some(Listed { place, len });
-        Ok(())
+        let listed = Listed {
+            place: place.copy()?,
+            len,
+        };
+        self.listed = Some(listed);
+        alone(alloc, place)
     }
 
     /// The length of the file at the place, if the call before listed it. It is told once.

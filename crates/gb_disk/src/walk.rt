@@ -1,7 +1,7 @@
 //! What stands beneath a folder.
-ghost use Rattle.std.specs.Prelude.{◌≡◌, ℕ, List, IsTrue, IfOk, IfErr};
+ghost use Rattle.std.specs.Prelude.{◌≡◌, ◌≤◌, ℕ, List, length, IsTrue, IfOk, IfSome, IfErr};
 ghost use Rattle.gb_core.specs.Place.{is_under};
-ghost use Rattle.gb_disk.specs.Disk.{AllUnder, IsOfListing};
+ghost use Rattle.gb_disk.specs.Disk.{AllUnder, IsOfListing, IsOfMachine};
 
 use crate::device::Device;
 use crate::names::{alone, places_in};
@@ -40,6 +40,17 @@ impl Found {
         })
     }
 
+    /// The folder that was met as the one of this number, if so many were met.
+    fn folder_at(&self, index: usize) -> Result<Option<Place>, AllocError>
+        ensures { (root : List ℕ) → AllUnder root self.now.folders.items
+            → IfOk result (λ found. IfSome found (λ folder. IsTrue (is_under folder root))) }
+    {
+        match self.folders.as_slice().get(index) {
+            Some(folder) => Ok(Some(folder.copy()?)),
+            None => Ok(None),
+        }
+    }
+
     /// Adds what stands at a place.
     fn add(&mut self, place: Place, standing: Standing) -> Result<(), FolderFault>
         ensures files { (root : List ℕ) → IsTrue (is_under place root)
@@ -62,6 +73,21 @@ impl Found {
     }
 }
 
+/// Reads the next names of a folder: how many bytes they have, none at its end.
+fn next_names<D: Read>(dir: &mut D, names: &mut [u8]) -> Result<usize, FolderFault>
+    ensures within { IfOk result (λ read. read ≤ length names.new) }
+    ensures err { IfErr result IsOfMachine }
+{
+    for _ in 0..u64::MAX {
+        match dir.read(names) {
+            Ok(read) => return Ok(read),
+            Err(error) if error.kind() == ErrorKind::Interrupted => {}
+            Err(error) => return Err(fault_of(&error)),
+        }
+    }
+    Err(FolderFault::Device)
+}
+
 impl<R: Files> Device<R> {
     /// Goes through the folder at a root.
     pub fn walk(&self, alloc: Global, path: &mut String, root: &Place) -> Result<Found, FolderFault>
@@ -70,12 +96,29 @@ impl<R: Files> Device<R> {
     {
         let mut names = vec![in alloc; 0u8; NAMES]?;
         let mut found = Found::new(alloc, root)?;
+        self.enter_all(alloc, path, root, names.as_mut_slice(), &mut found)?;
+        Ok(found)
+    }
+
+    /// Meets what stands in each folder that was met, or is met meanwhile.
+    fn enter_all(
+        &self,
+        alloc: Global,
+        path: &mut String,
+        root: &Place,
+        names: &mut [u8],
+        found: &mut Found,
+    ) -> Result<(), FolderFault>
+        requires files { AllUnder root.now found.old.files.items }
+        requires folders { AllUnder root.now found.old.folders.items }
+        ensures files { AllUnder root.now found.new.files.items }
+        ensures err { IfErr result IsOfListing }
+    {
         for index in 0..=MOST_ENTRIES as usize {
-            let folder = match found.folders.as_slice().get(index) {
-                Some(folder) => folder.copy()?,
-                None => return Ok(found),
+            let Some(folder) = found.folder_at(index)? else {
+                return Ok(());
             };
-            self.enter(alloc, path, root, &folder, names.as_mut_slice(), &mut found)?;
+            self.enter(alloc, path, root, &folder, names, found)?;
         }
         Err(FolderFault::Device)
     }
@@ -99,17 +142,12 @@ impl<R: Files> Device<R> {
     {
         let mut dir = self.open_folder(path, folder)?;
         for _ in 0..u64::MAX {
-            match dir.read(names) {
-                Ok(0) => return Ok(()),
-                Ok(read) => self.meet(
-                    path,
-                    root,
-                    places_in(alloc, folder, &names[..read])?,
-                    found,
-                )?,
-                Err(error) if error.kind() == ErrorKind::Interrupted => {}
-                Err(error) => return Err(fault_of(&error)),
+            let read = next_names(&mut dir, names)?;
+            if read == 0 {
+                return Ok(());
             }
+            let places = places_in(alloc, folder, &names[..read])?;
+            self.meet(path, root, places, found)?;
         }
         Err(FolderFault::Device)
     }
