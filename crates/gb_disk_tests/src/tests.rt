@@ -6,9 +6,9 @@ use gb_folder::faulty::{FaultMode, FaultyFolder};
 use gb_folder::folder::{Folder, FolderFault};
 use gb_folder::memory::MemoryFolder;
 use std::alloc::Global;
-use std::fs;
 use std::os::unix::fs::symlink;
 use std::test::Fail;
+use std::{fs, io};
 
 /// The places, with a space behind each.
 fn told(alloc: Global, places: &[Place]) -> Result<Vec<u8>, FolderFault> {
@@ -202,109 +202,101 @@ fn follows_no_link_beneath_the_root(rt: HostRuntime) -> Result<(), Fail> {
     Ok(())
 }
 
-/// A new folder of this name with the file `d/e/a`, which was listed and read.
-fn with_met<'r>(rt: &'r HostRuntime, name: &str) -> Result<DiskFolder<&'r HostRuntime>, Fail> {
-    renew(rt, name)?;
-    let mut folder = DiskFolder::new(rt, String::from_str(rt.alloc(), name)?);
-    answers(rt.alloc(), &mut folder, "write d/e/a;list d;read d/e/a")?;
+/// Makes a folder `changed` with the file `d/e/a` of five bytes.
+fn renew_changed(rt: &HostRuntime) -> Result<(), Fail> {
+    renew(rt, "changed")?;
+    fs::create_dir_all(rt, "changed/d/e")?;
+    Ok(fs::write(rt, "changed/d/e/a", "hello")?)
+}
+
+/// This folder, which has answered calls.
+fn called<'r>(rt: &'r HostRuntime, calls: &str) -> Result<DiskFolder<&'r HostRuntime>, Fail> {
+    renew_changed(rt)?;
+    let mut folder = DiskFolder::new(rt, String::from_str(rt.alloc(), "changed")?);
+    answers(rt.alloc(), &mut folder, calls)?;
     Ok(folder)
 }
 
-#[test]
-fn sees_that_a_folder_went(rt: HostRuntime) -> Result<(), Fail> {
-    let mut folder = with_met(&rt, "went")?;
-    fs::remove_dir_all(&rt, "went/d")?;
-    let all = answers(
-        rt.alloc(),
-        &mut folder,
-        "read d/e/a;list d/e;write d/e/a;read d/e/a",
-    )?;
-    assert_eq!(rt; all.as_str(), "11;;ok;hello;");
-    Ok(fs::remove_dir_all(&rt, "went")?)
-}
-
-#[test]
-fn sees_a_link_to_nothing_in_its_place(rt: HostRuntime) -> Result<(), Fail> {
-    let mut folder = with_met(&rt, "link_there")?;
-    fs::remove_dir_all(&rt, "link_there/d")?;
-    symlink(&rt, "nowhere", "link_there/d")?;
-    let all = answers(rt.alloc(), &mut folder, "list d/e;read d/e/a;remove d/e/a")?;
-    assert_eq!(rt; all.as_str(), "14;10;10;");
-    Ok(fs::remove_dir_all(&rt, "link_there")?)
-}
-
-/// A new folder of this name with the file `d/a` of five bytes, which was listed by its place at the end.
-fn with_listed<'r>(rt: &'r HostRuntime, name: &str) -> Result<DiskFolder<&'r HostRuntime>, Fail> {
-    renew(rt, name)?;
-    let mut folder = DiskFolder::new(rt, String::from_str(rt.alloc(), name)?);
-    answers(rt.alloc(), &mut folder, "write d/a;list d/a")?;
-    Ok(folder)
-}
-
-#[test]
-fn a_listed_file_is_looked_at_once(rt: HostRuntime) -> Result<(), Fail> {
-    let mut folder = with_listed(&rt, "once")?;
-    fs::write(&rt, "once/d/a", "hello world")?;
-    let grown = answers(
-        rt.alloc(),
-        &mut folder,
-        "read d/a;read d/a;part d/a;list d/a",
-    )?;
-    assert_eq!(rt; grown.as_str(), "hello;13;lo world;d/a ;");
-    fs::write(&rt, "once/d/a", "hello")?;
-    let shrunk = answers(rt.alloc(), &mut folder, "part d/a;part d/a")?;
-    assert_eq!(rt; shrunk.as_str(), "lo;lo;");
-    Ok(fs::remove_dir_all(&rt, "once")?)
-}
-
-#[test]
-fn each_call_forgets_what_was_listed(rt: HostRuntime) -> Result<(), Fail> {
-    for call in [
-        "read d/b",
-        "part d/b",
-        "write d/b",
-        "remove d/b",
-        "list d",
-        "list d/b",
-    ] {
-        let mut folder = with_listed(&rt, "forgets")?;
-        answers(rt.alloc(), &mut folder, call)?;
-        fs::write(&rt, "forgets/d/a", "hello world")?;
-        let all = answers(rt.alloc(), &mut folder, "read d/a")?;
-        assert_eq!(rt; all.as_str(), "13;");
+/// Writes its file anew, takes it away, or takes away all.
+fn change_file(rt: &HostRuntime, change: &str) -> io::Result<()> {
+    match change {
+        "grow" => fs::write(rt, "changed/d/e/a", "hello world"),
+        "shrink" => fs::write(rt, "changed/d/e/a", "he"),
+        "unlink" => fs::remove_file(rt, "changed/d/e/a"),
+        _ => fs::remove_dir_all(rt, "changed/d"),
     }
-    Ok(fs::remove_dir_all(&rt, "forgets")?)
 }
 
-#[test]
-fn sees_that_a_listed_file_went(rt: HostRuntime) -> Result<(), Fail> {
-    let mut folder = with_listed(&rt, "file_went")?;
-    fs::remove_file(&rt, "file_went/d/a")?;
-    let went = answers(rt.alloc(), &mut folder, "read d/a;write d/a;list d/a")?;
-    assert_eq!(rt; went.as_str(), "11;ok;d/a ;");
-    fs::remove_file(&rt, "file_went/d/a")?;
-    fs::create_dir(&rt, "file_went/d/a")?;
-    let is_folder = answers(
-        rt.alloc(),
-        &mut folder,
-        "part d/a;write d/a/b;remove d/a/b;write d/a;list d/a",
-    )?;
-    assert_eq!(rt; is_folder.as_str(), "11;ok;ok;ok;d/a ;");
-    fs::remove_dir_all(&rt, "file_went/d")?;
-    fs::write(&rt, "file_went/d", "1")?;
-    let under_file = answers(rt.alloc(), &mut folder, "read d/a")?;
-    assert_eq!(rt; under_file.as_str(), "12;");
-    Ok(fs::remove_dir_all(&rt, "file_went")?)
+/// Changes it from outside: the file, and what stands there or above.
+fn change_folder(rt: &HostRuntime, change: &str) -> io::Result<()> {
+    change_file(rt, change)?;
+    match change {
+        "folder" => fs::create_dir_all(rt, "changed/d/e/a"),
+        "file above" => fs::write(rt, "changed/d", "1"),
+        "link above" => symlink(rt, "nowhere", "changed/d"),
+        _ => Ok(()),
+    }
 }
 
+/// What it answers behind calls and a change.
+fn answers_behind(
+    rt: &HostRuntime,
+    before: &str,
+    change: &str,
+    calls: &str,
+) -> Result<String, Fail> {
+    let mut folder = called(rt, before)?;
+    change_folder(rt, change)?;
+    answers(rt.alloc(), &mut folder, calls)
+}
+
+/// What stands before an arrow, and what behind it.
+fn cut(text: &str) -> (&str, &str) {
+    text.split_once(" => ").unwrap_or((text, ""))
+}
+
+/// Fails where a row does not hold: calls, a change from outside, calls behind it, and their answers.
+fn hold_row(rt: &HostRuntime, row: &str) -> Result<(), Fail> {
+    let (before, rest) = cut(row);
+    let (change, rest) = cut(rest);
+    let (calls, wanted) = cut(rest);
+    let all = answers_behind(rt, before, change, calls)?;
+    if all.as_str() == wanted {
+        Ok(())
+    } else {
+        Err(Fail::new(row))
+    }
+}
+
+const CHANGES: &str = r#"
+# Folders above the file were met.
+list d;read d/e/a => remove all => read d/e/a;list d/e;write d/e/a;read d/e/a => 11;;ok;hello;
+list d;read d/e/a => link above => list d/e;read d/e/a;remove d/e/a => 14;10;10;
+# It was listed just before: it is read as long as it was, once.
+list d/e/a => grow => read d/e/a;read d/e/a;part d/e/a => hello;13;lo world;
+list d/e/a => shrink => read d/e/a;read d/e/a => he;he;
+list d/e/a => unlink => read d/e/a;write d/e/a => 11;ok;
+list d/e/a => folder => part d/e/a;write d/e/a => 11;ok;
+list d/e/a => remove all => part d/e/a => 11;
+list d/e/a => file above => read d/e/a => 12;
+list d/e/a => link above => read d/e/a => 10;
+# Any other call in between ends that.
+list d/e/a;read b => grow => read d/e/a => 13;
+list d/e/a;part b => grow => read d/e/a => 13;
+list d/e/a;write b => grow => read d/e/a => 13;
+list d/e/a;remove b => grow => read d/e/a => 13;
+list d/e/a;list d => grow => read d/e/a => 13;
+list d/e/a;list b => grow => read d/e/a => 13;
+"#;
+
 #[test]
-fn sees_a_link_to_nothing_for_a_listed_file(rt: HostRuntime) -> Result<(), Fail> {
-    let mut folder = with_listed(&rt, "link_listed")?;
-    fs::remove_file(&rt, "link_listed/d/a")?;
-    symlink(&rt, "nowhere", "link_listed/d/a")?;
-    let all = answers(rt.alloc(), &mut folder, "read d/a")?;
-    assert_eq!(rt; all.as_str(), "10;");
-    Ok(fs::remove_dir_all(&rt, "link_listed")?)
+fn sees_changes_from_outside(rt: HostRuntime) -> Result<(), Fail> {
+    for row in CHANGES.split('\n') {
+        if !row.is_empty() && !row.starts_with('#') {
+            hold_row(&rt, row)?;
+        }
+    }
+    Ok(fs::remove_dir_all(&rt, "changed")?)
 }
 
 #[test]
