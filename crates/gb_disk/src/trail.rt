@@ -84,7 +84,8 @@ impl Trail {
         Ok(self.known.push(copy)?)
     }
 
-    /// Lists a file of so many bytes by its own place, and takes that up.
+    /// Lists a file of so many bytes by its own place, and takes that up. An empty one is looked at when it is
+    /// read, as `read_part` opens none.
     pub fn list_file(
         &mut self,
         alloc: Global,
@@ -94,11 +95,10 @@ impl Trail {
         ensures path { self.new.path ≡ self.old.path }
         ensures under { IfOk result (λ places. AllUnder place.now places.items) }
     {
-        let listed = Listed {
-            place: place.copy()?,
-            len,
-        };
-        self.listed = Some(listed);
+        if len > 0 {
+            let place = place.copy()?;
+            self.listed = Some(Listed { place, len });
+        }
         alone(alloc, place)
     }
 

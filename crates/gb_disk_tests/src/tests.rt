@@ -202,10 +202,11 @@ fn follows_no_link_beneath_the_root(rt: HostRuntime) -> Result<(), Fail> {
     Ok(())
 }
 
-/// Makes a folder `changed` with the file `d/e/a` of five bytes.
+/// Makes a folder `changed` with the file `d/e/a` of five bytes and an empty one, `d/e/z`.
 fn renew_changed(rt: &HostRuntime) -> Result<(), Fail> {
     renew(rt, "changed")?;
     fs::create_dir_all(rt, "changed/d/e")?;
+    fs::write(rt, "changed/d/e/z", "")?;
     Ok(fs::write(rt, "changed/d/e/a", "hello")?)
 }
 
@@ -278,6 +279,8 @@ list d/e/a => shrink => read d/e/a;read d/e/a => he;he;
 list d/e/a => unlink => read d/e/a;write d/e/a => 11;ok;
 list d/e/a => folder => part d/e/a;write d/e/a => 11;ok;
 list d/e/a => remove all => part d/e/a => 11;
+list d/e/z => remove all => part d/e/z => 11;
+list d/e/z => link above => read d/e/z => 10;
 list d/e/a => file above => read d/e/a => 12;
 list d/e/a => link above => read d/e/a => 10;
 # Any other call in between ends that.
