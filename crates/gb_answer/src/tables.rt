@@ -7,22 +7,8 @@ macro_rules! builtin_actions {
     ($alloc:expr) => {{
         let alloc = $alloc;
         let mut table = gb_action::table::ActionTable::new(alloc);
-        gb_answer::in_memory!(gb_kinds::table::add_text_kinds(
-            alloc,
-            &mut table,
-            Box::new(alloc, gb_kinds::texts::print_line)?,
-            Box::new(alloc, gb_kinds::texts::write_text)?,
-            Box::new(alloc, gb_kinds::texts::fail)?,
-        ));
-        gb_answer::in_memory!(gb_kinds::table::add_file_kinds(
-            alloc,
-            &mut table,
-            Box::new(alloc, gb_kinds::files::copy_files)?,
-            Box::new(alloc, gb_kinds::files::replace_tokens)?,
-            Box::new(alloc, gb_kinds::files::keep_lines)?,
-            Box::new(alloc, gb_kinds::files::sums)?,
-            Box::new(alloc, gb_kinds::files::word_index)?,
-        ));
+        gb_answer::text_actions!(alloc, &mut table);
+        gb_answer::file_actions!(alloc, &mut table);
         gb_answer::in_memory!(gb_kinds::table::add_one_file_kinds(
             alloc,
             &mut table,
@@ -31,6 +17,36 @@ macro_rules! builtin_actions {
         ));
         table
     }};
+}
+
+/// Adds the kinds that read no files to an empty table, each with its closure.
+#[macro_export]
+macro_rules! text_actions {
+    ($alloc:expr, $table:expr) => {
+        gb_answer::in_memory!(gb_kinds::table::add_text_kinds(
+            $alloc,
+            $table,
+            Box::new($alloc, gb_kinds::texts::print_line)?,
+            Box::new($alloc, gb_kinds::texts::write_text)?,
+            Box::new($alloc, gb_kinds::texts::fail)?,
+        ))
+    };
+}
+
+/// Adds the kinds that follow the changes of files behind those that read no files, each with its closure.
+#[macro_export]
+macro_rules! file_actions {
+    ($alloc:expr, $table:expr) => {
+        gb_answer::in_memory!(gb_kinds::table::add_file_kinds(
+            $alloc,
+            $table,
+            Box::new($alloc, gb_kinds::files::copy_files)?,
+            Box::new($alloc, gb_kinds::files::replace_tokens)?,
+            Box::new($alloc, gb_kinds::files::keep_lines)?,
+            Box::new($alloc, gb_kinds::files::sums)?,
+            Box::new($alloc, gb_kinds::files::word_index)?,
+        ))
+    };
 }
 
 /// All functions of values by name, each with its closure; left early where memory runs out.

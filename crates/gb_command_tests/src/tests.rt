@@ -1,6 +1,7 @@
 //! Whole builds over folders on a disk, in memory and of those that fail.
 use gb_action::actions::Actions;
 use gb_action::table::ActionTable;
+use gb_answer::text_actions;
 use gb_command::run::{Handed, run};
 use gb_core::place::Place;
 use gb_disk::disk::DiskFolder;
@@ -9,8 +10,6 @@ use gb_folder::folder::Folder;
 use gb_folder::memory::MemoryFolder;
 use gb_kinds::builtin::{Builtin, StoredAction};
 use gb_kinds::function_table::FunctionTable;
-use gb_kinds::table::add_text_kinds;
-use gb_kinds::texts::{fail, print_line, write_text};
 use gb_provider::transforms::Transforms;
 use gb_registry::tables::Tables;
 use std::alloc::Global;
@@ -31,13 +30,7 @@ type Row<'a> = (&'a str, &'a str);
 /// The kinds that write texts.
 fn actions(alloc: Global) -> Result<ActionTable<StoredAction>, Fail> {
     let mut table = ActionTable::new(alloc);
-    add_text_kinds(
-        alloc,
-        &mut table,
-        Box::new(alloc, print_line)?,
-        Box::new(alloc, write_text)?,
-        Box::new(alloc, fail)?,
-    )?;
+    text_actions!(alloc, &mut table);
     Ok(table)
 }
 
