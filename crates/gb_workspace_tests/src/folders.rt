@@ -1,6 +1,6 @@
 //! Where the projects of settings stand.
 use crate::crowds::push_pieces;
-use crate::showing::push_fault;
+use crate::showing::{fail_unless, push_fault};
 use gb_core::path::ProjectPath;
 use gb_core::place::Place;
 use gb_registry::projects::projects;
@@ -37,24 +37,27 @@ fn found(alloc: Global, text: &str) -> Result<String, Fail> {
     Ok(out)
 }
 
+/// Settings, and their projects.
+const PROJECTS: [(&str, &str); 9] = [
+    ("", " :"),
+    ("include \"lib:a\"", " : :lib=lib :lib:a=lib/a"),
+    ("include \":b\", \"a\" include \"b\"", " : :b=b :a=a"),
+    ("include \"build\"", "57 bad project place :build"),
+    ("include \"a b\"", "1 bad name a b"),
+    (
+        "include \"lib:a\", \":lib\", \":\", \"\"",
+        " : :lib=lib :lib:a=lib/a",
+    ),
+    ("include \"a:build:b\"", "57 bad project place :a:build"),
+    ("include \"b:\", \"build\"", "1 bad name b:"),
+    ("include \"build\", \"b:\"", "57 bad project place :build"),
+];
+
 #[test]
 fn projects_stand_in_the_folders_of_their_names(rt: HostRuntime) -> Result<(), Fail> {
-    for (text, wanted) in [
-        ("", " :"),
-        ("include \"lib:a\"", " : :lib=lib :lib:a=lib/a"),
-        ("include \":b\", \"a\" include \"b\"", " : :b=b :a=a"),
-        ("include \"build\"", "57 bad project place :build"),
-        ("include \"a b\"", "1 bad name a b"),
-        (
-            "include \"lib:a\", \":lib\", \":\", \"\"",
-            " : :lib=lib :lib:a=lib/a",
-        ),
-        ("include \"a:build:b\"", "57 bad project place :a:build"),
-        ("include \"b:\", \"build\"", "1 bad name b:"),
-        ("include \"build\", \"b:\"", "57 bad project place :build"),
-    ] {
+    for (text, wanted) in &PROJECTS {
         let shown = found(rt.alloc(), text)?;
-        assert!(rt; shown.as_str() == wanted, "{text}");
+        fail_unless(shown.as_str() == *wanted, shown.as_str())?;
     }
     Ok(())
 }
@@ -80,13 +83,11 @@ fn push_letters(text: &mut String, count: usize) -> Result<(), Fail> {
 
 #[test]
 fn the_place_of_a_folder_has_at_most_896_bytes(rt: HostRuntime) -> Result<(), Fail> {
-    assert!(rt; deep(rt.alloc(), 51)?.as_str().starts_with(" : :"));
-    assert!(rt;
-        deep(rt.alloc(), 52)?
-            .as_str()
-            .starts_with("57 bad project place :")
-    );
-    Ok(())
+    let shown = deep(rt.alloc(), 51)?;
+    fail_unless(shown.as_str().starts_with(" : :"), shown.as_str())?;
+    let shown = deep(rt.alloc(), 52)?;
+    let is_wanted = shown.as_str().starts_with("57 bad project place :");
+    fail_unless(is_wanted, shown.as_str())
 }
 
 /// What settings come to that include so many projects, beside the root.
@@ -99,7 +100,8 @@ fn crowd(alloc: Global, count: usize) -> Result<String, Fail> {
 
 #[test]
 fn there_are_at_most_256_projects(rt: HostRuntime) -> Result<(), Fail> {
-    assert!(rt; crowd(rt.alloc(), 255)?.as_str().ends_with(" :p254=p254"));
-    assert!(rt; crowd(rt.alloc(), 256)?.as_str().starts_with("58 "));
-    Ok(())
+    let shown = crowd(rt.alloc(), 255)?;
+    fail_unless(shown.as_str().ends_with(" :p254=p254"), shown.as_str())?;
+    let shown = crowd(rt.alloc(), 256)?;
+    fail_unless(shown.as_str().starts_with("58 "), shown.as_str())
 }

@@ -1,4 +1,6 @@
-//! Tests of `gb_workspace`, apart from it, so that its proofs are not paid for once more with them.
+//! Tests of what scripts come to: what they register and the projects of settings (`gb_registry`), what their
+//! tasks are realised as (`gb_workspace` and what it stands on), and the plans of words (`gb_tasks`,
+//! `gb_order`, `gb_graph`). They stand apart, so that the proofs of these crates are not paid for once more.
 #![tactic(auto)]
 
 #[cfg(test)]
@@ -7,6 +9,8 @@ mod crowds;
 mod faults;
 #[cfg(test)]
 mod folders;
+#[cfg(test)]
+mod listed;
 #[cfg(test)]
 mod planning;
 #[cfg(test)]

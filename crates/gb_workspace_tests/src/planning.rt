@@ -42,18 +42,27 @@ fn planned<A: Actions, T: Transforms>(
     Ok(plan(alloc, &mut tasks, requested.as_slice(), excluded.as_slice()))
 }
 
-/// The tasks of a plan of these words, in their order, or why there is none.
-pub fn ordered<A: Actions, T: Transforms>(
+/// What a plan of these words tells of two tasks, or where none are named the paths of its tasks; or why there is
+/// no plan.
+pub fn of_plan<A: Actions, T: Transforms>(
     alloc: Global,
     tables: &Handed<A, T>,
     registry: &Registry,
     words: &str,
+    tasks: Option<&str>,
 ) -> Result<String, Fail>
     requires { configure_faults (tables_of T.meanings A.meanings tables.now) registry.now ≡ [] }
 {
     match planned::<A, T>(alloc, tables, registry, words)? {
-        Ok(plan) => in_order(alloc, &plan),
+        Ok(plan) => told(alloc, &plan, tasks),
         Err(fault) => refused(alloc, fault),
+    }
+}
+
+fn told(alloc: Global, plan: &Plan, tasks: Option<&str>) -> Result<String, Fail> {
+    match tasks {
+        Some(tasks) => told_of(alloc, plan, tasks),
+        None => in_order(alloc, plan),
     }
 }
 
@@ -67,22 +76,7 @@ fn in_order(alloc: Global, plan: &Plan) -> Result<String, Fail> {
     Ok(out)
 }
 
-/// What a plan of these words tells of a task and of another.
-pub fn told<A: Actions, T: Transforms>(
-    alloc: Global,
-    tables: &Handed<A, T>,
-    registry: &Registry,
-    asked: &str,
-) -> Result<String, Fail>
-    requires { configure_faults (tables_of T.meanings A.meanings tables.now) registry.now ≡ [] }
-{
-    let (tasks, words) = asked.split_once(" of ").unwrap_or((asked, ""));
-    match planned::<A, T>(alloc, tables, registry, words)? {
-        Ok(plan) => told_of(alloc, &plan, tasks),
-        Err(fault) => refused(alloc, fault),
-    }
-}
-
+/// What a plan tells of a task and of another.
 fn told_of(alloc: Global, plan: &Plan, tasks: &str) -> Result<String, Fail> {
     let (task, other) = tasks.split_once(' ').unwrap_or((tasks, tasks));
     let task = TaskPath::read(alloc, task)?;

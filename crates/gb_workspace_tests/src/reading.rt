@@ -1,18 +1,15 @@
-//! Scripts, read and realised with all kinds and functions that every build has.
+//! Scripts, read and realised with all kinds and functions that every build has (`listed.rt`).
 ghost use Rattle.std.specs.Prelude.{◌≡◌, [], IfOk};
 ghost use Rattle.gb_registry.specs.Configure.{configure_faults};
 ghost use Rattle.gb_registry.specs.Tables.{tables_of};
 
-use crate::planning::{ordered, told};
-use crate::showing::{push_fault, push_task};
+use crate::listed::{Listed, functions, kinds};
+use crate::planning::of_plan;
+use crate::showing::{fail_unless, push_fault, push_task};
 use gb_action::actions::Actions;
-use gb_action::table::ActionTable;
-use gb_answer::{builtin_actions, builtin_functions};
 use gb_core::name::Name;
 use gb_core::path::TaskPath;
 use gb_core::text::Text;
-use gb_kinds::builtin::{Builtin, StoredAction};
-use gb_kinds::function_table::FunctionTable;
 use gb_provider::transforms::Transforms;
 use gb_registry::projects::projects;
 use gb_registry::registry::Registry;
@@ -124,10 +121,11 @@ fn of_registry<A: Actions, T: Transforms>(
         return named(alloc, registry);
     }
     if let Some(words) = tasks.strip_prefix("plan") {
-        return ordered::<A, T>(alloc, tables, registry, words);
+        return of_plan::<A, T>(alloc, tables, registry, words, None);
     }
     if let Some(asked) = tasks.strip_prefix("tell ") {
-        return told::<A, T>(alloc, tables, registry, asked);
+        let (tasks, words) = cut(asked, " of ");
+        return of_plan::<A, T>(alloc, tables, registry, words, Some(tasks));
     }
     let mut workspace = Workspace::<'_, A, T>::declare(alloc, tables, registry)?;
     realised::<A, T>(alloc, &mut workspace, tasks)
@@ -173,11 +171,7 @@ fn holds<A: Actions, T: Transforms>(
     row: Row<'_>,
 ) -> Result<(), Fail> {
     let shown = of_row::<A, T>(alloc, tables, row)?;
-    if shown.as_str() == row.3 {
-        Ok(())
-    } else {
-        Err(Fail::new(shown.as_str()))
-    }
+    fail_unless(shown.as_str() == row.3, shown.as_str())
 }
 
 /// What stands before a mark, and what behind it; nothing where it is not there.
@@ -206,19 +200,11 @@ fn hold_all<A: Actions, T: Transforms>(
     Ok(())
 }
 
-fn actions(alloc: Global) -> Result<ActionTable<StoredAction>, Fail> {
-    Ok(builtin_actions!(alloc))
-}
-
-fn functions(alloc: Global) -> Result<FunctionTable, Fail> {
-    Ok(builtin_functions!(alloc))
-}
-
 /// All kinds and functions that every build has.
-fn tables(alloc: Global) -> Result<Handed<Builtin, Builtin>, Fail> {
+fn tables(alloc: Global) -> Result<Handed<Listed, Listed>, Fail> {
     let transforms = functions(alloc)?;
     Ok(Tables {
-        actions: actions(alloc)?,
+        actions: kinds(alloc)?,
         transforms,
     })
 }
@@ -227,11 +213,11 @@ fn tables(alloc: Global) -> Result<Handed<Builtin, Builtin>, Fail> {
 /// behind ` & `, tasks, and what they come to, with ` => ` between them; `#` begins a remark.
 pub fn hold(alloc: Global, rows: &str) -> Result<(), Fail> {
     let tables = tables(alloc)?;
-    hold_all::<Builtin, Builtin>(alloc, &tables, rows)
+    hold_all::<Listed, Listed>(alloc, &tables, rows)
 }
 
 /// Fails where a row comes to something else.
 pub fn hold_row(alloc: Global, row: Row<'_>) -> Result<(), Fail> {
     let tables = tables(alloc)?;
-    holds::<Builtin, Builtin>(alloc, &tables, row)
+    holds::<Listed, Listed>(alloc, &tables, row)
 }

@@ -1,4 +1,4 @@
-//! Declared tasks in one line of text.
+//! Declared tasks in one line of text, and faults.
 use gb_action::output::Form;
 use gb_core::tasks::TaskPaths;
 use gb_core::text::Text;
@@ -6,12 +6,22 @@ use gb_core::value::Value;
 use gb_plan::task::{Action, FileProperty, Output, Patterns, TaskDeclaration};
 use gb_report::fault::Fault;
 use std::alloc::{AllocError, Global};
+use std::test::Fail;
 
 /// The text of a fault.
 pub fn push_fault(alloc: Global, out: &mut String, fault: Fault) -> Result<(), AllocError> {
     let text = format!(in alloc; "{fault}");
     drop(fault);
     out.push_str(text?.as_str())
+}
+
+/// Fails with what is shown.
+pub fn fail_unless(is_wanted: bool, shown: &str) -> Result<(), Fail> {
+    if is_wanted {
+        Ok(())
+    } else {
+        Err(Fail::new(shown))
+    }
 }
 
 fn push_texts(out: &mut String, texts: &[Text]) -> Result<(), AllocError> {
@@ -52,12 +62,16 @@ fn push_patterns(out: &mut String, mark: &str, patterns: &Patterns) -> Result<()
     Ok(())
 }
 
-/// The name, `!` where it is incremental, `?` where it is to hold files, and its roots behind `<`.
-fn push_roots(out: &mut String, property: &FileProperty) -> Result<(), AllocError> {
+/// The name, `!` where it is incremental, and `?` where it is to hold files.
+fn push_name(out: &mut String, property: &FileProperty) -> Result<(), AllocError> {
     out.push_str(" ")?;
     out.push_str(property.name.as_str())?;
     out.push_str(if property.incremental { "!" } else { "" })?;
-    out.push_str(if property.skip_when_empty { "?" } else { "" })?;
+    out.push_str(if property.skip_when_empty { "?" } else { "" })
+}
+
+/// The roots behind `<`.
+fn push_roots(out: &mut String, property: &FileProperty) -> Result<(), AllocError> {
     for root in property.roots.as_slice() {
         out.push_str("<")?;
         out.push_str(root.as_str())?;
@@ -68,6 +82,7 @@ fn push_roots(out: &mut String, property: &FileProperty) -> Result<(), AllocErro
 /// Files, with what lets them in behind `+` and what keeps them out behind `-`.
 fn push_files(out: &mut String, task: &TaskDeclaration) -> Result<(), AllocError> {
     for property in task.files.as_slice() {
+        push_name(out, property)?;
         push_roots(out, property)?;
         push_patterns(out, "+", &property.include)?;
         push_patterns(out, "-", &property.exclude)?;
@@ -119,6 +134,13 @@ fn push_tasks(out: &mut String, word: &str, tasks: &TaskPaths) -> Result<(), All
     Ok(())
 }
 
+/// All that it needs and comes behind, and what finalizes it.
+fn push_orders(out: &mut String, task: &TaskDeclaration) -> Result<(), AllocError> {
+    push_tasks(out, " needs ", &task.needs)?;
+    push_tasks(out, " after ", &task.must_run_after)?;
+    push_tasks(out, " then ", &task.finalizers)
+}
+
 /// Whether it runs, whether it is stale, and all that it reads, makes, does, needs and comes behind.
 pub fn push_task(out: &mut String, task: &TaskDeclaration) -> Result<(), AllocError> {
     out.push_str(if task.runs { "runs" } else { "skips" })?;
@@ -127,7 +149,5 @@ pub fn push_task(out: &mut String, task: &TaskDeclaration) -> Result<(), AllocEr
     push_files(out, task)?;
     push_outputs(out, task)?;
     push_actions(out, task)?;
-    push_tasks(out, " needs ", &task.needs)?;
-    push_tasks(out, " after ", &task.must_run_after)?;
-    push_tasks(out, " then ", &task.finalizers)
+    push_orders(out, task)
 }
