@@ -62,14 +62,19 @@ fn projects_stand_in_the_folders_of_their_names(rt: HostRuntime) -> Result<(), F
     Ok(())
 }
 
-/// What settings come to that include 13 names of 64 letters and one of so many, one beneath the other.
-fn deep(alloc: Global, last: usize) -> Result<String, Fail> {
-    let mut text = String::from_str(alloc, "include \"")?;
+/// Thirteen names of 64 letters and one of so many, one beneath the other.
+fn push_deep(text: &mut String, last: usize) -> Result<(), Fail> {
     for _ in 0..13 {
-        push_letters(&mut text, 64)?;
+        push_letters(text, 64)?;
         text.push_str(":")?;
     }
-    push_letters(&mut text, last)?;
+    push_letters(text, last)
+}
+
+/// What settings come to that include such a name.
+fn deep(alloc: Global, last: usize) -> Result<String, Fail> {
+    let mut text = String::from_str(alloc, "include \"")?;
+    push_deep(&mut text, last)?;
     text.push_str("\"")?;
     found(alloc, text.as_str())
 }

@@ -4,6 +4,7 @@ ghost use Rattle.gb_registry.specs.Configure.{configure_faults};
 ghost use Rattle.gb_registry.specs.Tables.{tables_of};
 
 use crate::reading::{Handed, refused};
+use crate::showing::push_word;
 use gb_action::actions::Actions;
 use gb_core::path::TaskPath;
 use gb_core::text::Text;
@@ -70,8 +71,7 @@ fn told(alloc: Global, plan: &Plan, tasks: Option<&str>) -> Result<String, Fail>
 fn in_order(alloc: Global, plan: &Plan) -> Result<String, Fail> {
     let mut out = String::new(alloc);
     for planned in plan.order() {
-        out.push_str(if out.is_empty() { "" } else { " " })?;
-        out.push_str(planned.task.path.as_str())?;
+        push_word(&mut out, planned.task.path.as_str())?;
     }
     Ok(out)
 }
@@ -95,8 +95,8 @@ fn letters(alloc: Global, plan: &Plan, task: &TaskPath, other: &TaskPath) -> Res
         (plan.is_finalizer_of(task, other), "f"),
     ];
     let mut out = String::new(alloc);
-    for (is_so, letter) in tells {
-        out.push_str(if is_so { letter } else { "" })?;
+    for (is_so, letter) in &tells {
+        out.push_str(if *is_so { letter } else { "" })?;
     }
     Ok(out)
 }

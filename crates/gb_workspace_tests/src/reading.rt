@@ -5,7 +5,7 @@ ghost use Rattle.gb_registry.specs.Tables.{tables_of};
 
 use crate::listed::{Listed, functions, kinds};
 use crate::planning::of_plan;
-use crate::showing::{fail_unless, push_fault, push_task};
+use crate::showing::{fail_unless, push_between, push_fault, push_task, push_word};
 use gb_action::actions::Actions;
 use gb_core::name::Name;
 use gb_core::path::TaskPath;
@@ -36,10 +36,17 @@ pub type Handed<A, T> = Tables<
 pub type Row<'a> = (&'a str, &'a str, &'a str, &'a str);
 
 /// Values of a command line: `v` is `x`, `w` is `:a`, and `go` is `yes`.
+const GIVEN: [(&str, &str); 3] = [("v", "x"), ("w", ":a"), ("go", "yes")];
+
+fn pair(alloc: Global, name: &str, value: &str) -> Result<(Name, Text), Fail> {
+    let name = Name::read(alloc, name)?;
+    Ok((name, Text::from_str(alloc, value)?))
+}
+
 fn given(alloc: Global) -> Result<Vec<(Name, Text)>, Fail> {
     let mut given = Vec::new(alloc);
-    for (name, value) in [("v", "x"), ("w", ":a"), ("go", "yes")] {
-        given.push((Name::read(alloc, name)?, Text::from_str(alloc, value)?))?;
+    for (name, value) in &GIVEN {
+        given.push(pair(alloc, name, value)?)?;
     }
     Ok(given)
 }
@@ -91,7 +98,7 @@ fn realised<A: Actions, T: Transforms>(
 ) -> Result<String, Fail> {
     let mut out = String::new(alloc);
     for task in tasks.split(' ') {
-        out.push_str(if out.is_empty() { "" } else { " | " })?;
+        push_between(&mut out, " | ")?;
         let path = TaskPath::read(alloc, task)?;
         push_realised(alloc, workspace, &path, &mut out)?;
     }
@@ -102,8 +109,7 @@ fn realised<A: Actions, T: Transforms>(
 fn named(alloc: Global, registry: &Registry) -> Result<String, Fail> {
     let mut out = String::new(alloc);
     for name in &registry.names(alloc)? {
-        out.push_str(if out.is_empty() { "" } else { " " })?;
-        out.push_str(name.as_str())?;
+        push_word(&mut out, name.as_str())?;
     }
     Ok(out)
 }
@@ -138,8 +144,20 @@ pub fn refused(alloc: Global, fault: Fault) -> Result<String, Fail> {
     Ok(out)
 }
 
+/// What tasks of a registry come to, which is let go.
+fn of_configured<A: Actions, T: Transforms>(
+    alloc: Global,
+    tables: &Handed<A, T>,
+    registry: Registry,
+    tasks: &str,
+) -> Result<String, Fail>
+    requires { configure_faults (tables_of T.meanings A.meanings tables.now) registry ≡ [] }
+{
+    of_registry::<A, T>(alloc, tables, &registry, tasks)
+}
+
 /// What tasks come to, or the fault of a statement.
-pub fn come_to<A: Actions, T: Transforms>(
+fn come_to<A: Actions, T: Transforms>(
     alloc: Global,
     tables: &Handed<A, T>,
     settings: &Settings,
@@ -148,7 +166,7 @@ pub fn come_to<A: Actions, T: Transforms>(
 ) -> Result<String, Fail> {
     let given = given(alloc)?;
     match configured::<A, T>(alloc, tables, settings, scripts, given) {
-        Ok(registry) => of_registry::<A, T>(alloc, tables, &registry, tasks),
+        Ok(registry) => of_configured::<A, T>(alloc, tables, registry, tasks),
         Err(fault) => refused(alloc, fault),
     }
 }

@@ -8,6 +8,17 @@ use gb_report::fault::Fault;
 use std::alloc::{AllocError, Global};
 use std::test::Fail;
 
+/// A separator, if anything stands before it.
+pub fn push_between(out: &mut String, separator: &str) -> Result<(), AllocError> {
+    out.push_str(if out.is_empty() { "" } else { separator })
+}
+
+/// A word, behind a blank where others stand before it.
+pub fn push_word(out: &mut String, word: &str) -> Result<(), AllocError> {
+    push_between(out, " ")?;
+    out.push_str(word)
+}
+
 /// The text of a fault.
 pub fn push_fault(alloc: Global, out: &mut String, fault: Fault) -> Result<(), AllocError> {
     let text = format!(in alloc; "{fault}");
