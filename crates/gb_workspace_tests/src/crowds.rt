@@ -18,26 +18,27 @@ pub fn push_pieces(
     Ok(())
 }
 
+/// So many pieces, with what stands before them and what behind.
+fn between(
+    alloc: Global,
+    before: &str,
+    count: usize,
+    piece: (&str, &str),
+    behind: &str,
+) -> Result<String, Fail> {
+    let mut script = String::from_str(alloc, before)?;
+    push_pieces(alloc, &mut script, count, piece.0, piece.1)?;
+    script.push_str(behind)?;
+    Ok(script)
+}
+
 #[test]
 fn the_last_of_4096_tasks_comes_to_what_it_says(rt: HostRuntime) -> Result<(), Fail> {
-    let mut script = String::new(rt.alloc());
-    push_pieces(
-        rt.alloc(),
-        &mut script,
-        4096,
-        "register t",
-        " { input a = \"x\" } ",
-    )?;
-    script.push_str("named t4095 { dependsOn \"t0\" }")?;
-    hold_row(
-        rt.alloc(),
-        (
-            script.as_str(),
-            "",
-            ":t4095 :t0",
-            "runs a=x needs :t0 | runs a=x",
-        ),
-    )
+    let task = ("register t", " { input a = \"x\" } ");
+    let named = "named t4095 { dependsOn \"t0\" }";
+    let script = between(rt.alloc(), "", 4096, task, named)?;
+    let told = "runs a=x needs :t0 | runs a=x";
+    hold_row(rt.alloc(), (script.as_str(), "", ":t4095 :t0", told))
 }
 
 /// Properties each of which follows the one before it.
@@ -50,48 +51,42 @@ fn push_chain(alloc: Global, out: &mut String, count: usize) -> Result<(), Fail>
     Ok(())
 }
 
+/// As many properties as there may be, each of which follows the one before it, and what stands behind them.
+fn chained(alloc: Global, rest: &str) -> Result<String, Fail> {
+    let mut script = String::from_str(alloc, "property p0 ")?;
+    push_chain(alloc, &mut script, 1024)?;
+    script.push_str(rest)?;
+    Ok(script)
+}
+
 #[test]
 fn a_value_goes_along_1024_properties(rt: HostRuntime) -> Result<(), Fail> {
-    let mut script = String::new(rt.alloc());
-    script.push_str("property p0 ")?;
-    push_chain(rt.alloc(), &mut script, 1024)?;
-    script.push_str("set p0 = \"x\" register t { input a = p1023 }")?;
+    let script = chained(rt.alloc(), "set p0 = \"x\" register t { input a = p1023 }")?;
     hold_row(rt.alloc(), (script.as_str(), "", ":t", "runs a=x"))
 }
 
-/// The properties in the order in which each reads the next, from the first on.
-fn push_circle(alloc: Global, out: &mut String, count: usize) -> Result<(), Fail> {
+/// The fault of a circle of so many properties, in the order in which each reads the next, from the first on.
+fn circular(alloc: Global, count: usize) -> Result<String, Fail> {
+    let mut fault = String::from_str(alloc, "30 circular :#p0")?;
     for number in 1..count {
         let read = count.saturating_sub(number);
         let piece = format!(in alloc; ", :#p{read}")?;
-        out.push_str(piece.as_str())?;
+        fault.push_str(piece.as_str())?;
     }
-    Ok(())
+    Ok(fault)
 }
 
 #[test]
 fn a_circle_of_1024_properties_is_told(rt: HostRuntime) -> Result<(), Fail> {
-    let mut script = String::new(rt.alloc());
-    script.push_str("property p0 ")?;
-    push_chain(rt.alloc(), &mut script, 1024)?;
-    script.push_str("set p0 = p1023 register t { enabled p1 }")?;
-    let mut wanted = String::new(rt.alloc());
-    wanted.push_str("30 circular :#p0")?;
-    push_circle(rt.alloc(), &mut wanted, 1024)?;
-    hold_row(rt.alloc(), (script.as_str(), "", ":t", wanted.as_str()))
+    let script = chained(rt.alloc(), "set p0 = p1023 register t { enabled p1 }")?;
+    let fault = circular(rt.alloc(), 1024)?;
+    hold_row(rt.alloc(), (script.as_str(), "", ":t", fault.as_str()))
 }
 
 #[test]
 fn the_last_of_many_blocks_counts(rt: HostRuntime) -> Result<(), Fail> {
-    let mut script = String::new(rt.alloc());
-    script.push_str("register t { } ")?;
-    push_pieces(
-        rt.alloc(),
-        &mut script,
-        2000,
-        "named t { input a = \"",
-        "\" } ",
-    )?;
+    let block = ("named t { input a = \"", "\" } ");
+    let script = between(rt.alloc(), "register t { } ", 2000, block, "")?;
     hold_row(rt.alloc(), (script.as_str(), "", ":t", "runs a=1999"))
 }
 
@@ -103,8 +98,7 @@ fn is_too_many(
     end: &str,
     fault: &str,
 ) -> Result<(), Fail> {
-    let mut script = String::new(alloc);
-    push_pieces(alloc, &mut script, count, front, end)?;
+    let script = between(alloc, "", count, (front, end), "")?;
     hold_row(alloc, (script.as_str(), "", "names", fault))
 }
 

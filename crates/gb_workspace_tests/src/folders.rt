@@ -37,6 +37,12 @@ fn found(alloc: Global, text: &str) -> Result<String, Fail> {
     Ok(out)
 }
 
+/// Fails where settings come to something else.
+fn is_found(alloc: Global, text: &str, wanted: &str) -> Result<(), Fail> {
+    let shown = found(alloc, text)?;
+    fail_unless(shown.as_str() == wanted, shown.as_str())
+}
+
 /// Settings, and their projects.
 const PROJECTS: [(&str, &str); 9] = [
     ("", " :"),
@@ -56,8 +62,7 @@ const PROJECTS: [(&str, &str); 9] = [
 #[test]
 fn projects_stand_in_the_folders_of_their_names(rt: HostRuntime) -> Result<(), Fail> {
     for (text, wanted) in &PROJECTS {
-        let shown = found(rt.alloc(), text)?;
-        fail_unless(shown.as_str() == *wanted, shown.as_str())?;
+        is_found(rt.alloc(), text, wanted)?;
     }
     Ok(())
 }
@@ -71,12 +76,13 @@ fn push_deep(text: &mut String, last: usize) -> Result<(), Fail> {
     push_letters(text, last)
 }
 
-/// What settings come to that include such a name.
-fn deep(alloc: Global, last: usize) -> Result<String, Fail> {
+/// Fails where settings that include such a name do not come to what begins like this.
+fn is_deep(alloc: Global, last: usize, wanted: &str) -> Result<(), Fail> {
     let mut text = String::from_str(alloc, "include \"")?;
     push_deep(&mut text, last)?;
     text.push_str("\"")?;
-    found(alloc, text.as_str())
+    let shown = found(alloc, text.as_str())?;
+    fail_unless(shown.as_str().starts_with(wanted), shown.as_str())
 }
 
 fn push_letters(text: &mut String, count: usize) -> Result<(), Fail> {
@@ -88,11 +94,8 @@ fn push_letters(text: &mut String, count: usize) -> Result<(), Fail> {
 
 #[test]
 fn the_place_of_a_folder_has_at_most_896_bytes(rt: HostRuntime) -> Result<(), Fail> {
-    let shown = deep(rt.alloc(), 51)?;
-    fail_unless(shown.as_str().starts_with(" : :"), shown.as_str())?;
-    let shown = deep(rt.alloc(), 52)?;
-    let is_wanted = shown.as_str().starts_with("57 bad project place :");
-    fail_unless(is_wanted, shown.as_str())
+    is_deep(rt.alloc(), 51, " : :")?;
+    is_deep(rt.alloc(), 52, "57 bad project place :")
 }
 
 /// What settings come to that include so many projects, beside the root.

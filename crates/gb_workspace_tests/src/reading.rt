@@ -205,13 +205,17 @@ fn row_of(line: &str) -> Row<'_> {
     (root, lib, tasks, told)
 }
 
+fn is_row(line: &str) -> bool {
+    !line.is_empty() && !line.starts_with('#')
+}
+
 fn hold_all<A: Actions, T: Transforms>(
     alloc: Global,
     tables: &Handed<A, T>,
     rows: &str,
 ) -> Result<(), Fail> {
     for line in rows.split('\n') {
-        if !line.is_empty() && !line.starts_with('#') {
+        if is_row(line) {
             holds::<A, T>(alloc, tables, row_of(line))?;
         }
     }
