@@ -33,18 +33,17 @@ fn planned<A: Actions, T: Transforms>(
     alloc: Global,
     tables: &Handed<A, T>,
     registry: &Registry,
-    words: &str,
+    requested: &[Text],
+    excluded: &[Text],
 ) -> Result<Result<Plan, Fault>, Fail>
     requires { configure_faults (tables_of T.meanings A.meanings tables.now) registry.now ≡ [] }
 {
-    let requested = texts(alloc, words, false)?;
-    let excluded = texts(alloc, words, true)?;
     let mut tasks = ScriptTasks::<'_, A, T>::declare(alloc, tables, registry)?;
-    Ok(plan(alloc, &mut tasks, requested.as_slice(), excluded.as_slice()))
+    Ok(plan(alloc, &mut tasks, requested, excluded))
 }
 
-/// What a plan of these words tells of two tasks, or where none are named the paths of its tasks; or why there is
-/// no plan.
+/// What a plan of these words tells of two tasks, or where none are named the paths of its tasks; or why
+/// there is no plan.
 pub fn of_plan<A: Actions, T: Transforms>(
     alloc: Global,
     tables: &Handed<A, T>,
@@ -54,16 +53,18 @@ pub fn of_plan<A: Actions, T: Transforms>(
 ) -> Result<String, Fail>
     requires { configure_faults (tables_of T.meanings A.meanings tables.now) registry.now ≡ [] }
 {
-    match planned::<A, T>(alloc, tables, registry, words)? {
-        Ok(plan) => told(alloc, &plan, tasks),
-        Err(fault) => refused(alloc, fault),
-    }
+    let requested = texts(alloc, words, false)?;
+    let excluded = texts(alloc, words, true)?;
+    let (requested, excluded) = (requested.as_slice(), excluded.as_slice());
+    let planned = planned::<A, T>(alloc, tables, registry, requested, excluded)?;
+    told(alloc, planned, tasks)
 }
 
-fn told(alloc: Global, plan: &Plan, tasks: Option<&str>) -> Result<String, Fail> {
-    match tasks {
-        Some(tasks) => told_of(alloc, plan, tasks),
-        None => in_order(alloc, plan),
+fn told(alloc: Global, planned: Result<Plan, Fault>, tasks: Option<&str>) -> Result<String, Fail> {
+    match (planned, tasks) {
+        (Ok(plan), Some(tasks)) => told_of(alloc, &plan, tasks),
+        (Ok(plan), None) => in_order(alloc, &plan),
+        (Err(fault), _) => refused(alloc, fault),
     }
 }
 

@@ -10,6 +10,7 @@ use gb_action::actions::Actions;
 use gb_core::name::Name;
 use gb_core::path::TaskPath;
 use gb_core::text::Text;
+use gb_plan::task::TaskDeclaration;
 use gb_provider::transforms::Transforms;
 use gb_registry::projects::projects;
 use gb_registry::registry::Registry;
@@ -76,32 +77,57 @@ fn configured<A: Actions, T: Transforms>(
     Registry::configure::<A, T>(alloc, settings, scripts, given, tables)
 }
 
-/// What the task at a path comes to, behind what others came to.
-fn push_realised<A: Actions, T: Transforms>(
+/// A task, or why it is none.
+fn push_outcome(
     alloc: Global,
-    workspace: &mut Workspace<'_, A, T>,
-    path: &TaskPath,
+    outcome: Result<TaskDeclaration, Fault>,
     out: &mut String,
 ) -> Result<(), Fail> {
-    match workspace.realise(alloc, path) {
+    match outcome {
         Ok(task) => push_task(out, &task)?,
         Err(fault) => push_fault(alloc, out, fault)?,
     }
     Ok(())
 }
 
+/// What the task at a path comes to, behind what others came to.
+fn push_realised<A: Actions, T: Transforms>(
+    alloc: Global,
+    workspace: &mut Workspace<'_, A, T>,
+    task: &str,
+    out: &mut String,
+) -> Result<(), Fail> {
+    push_between(out, " | ")?;
+    let path = TaskPath::read(alloc, task)?;
+    let outcome = workspace.realise(alloc, &path);
+    push_outcome(alloc, outcome, out)
+}
+
 /// What tasks come to, asked for in turn.
-fn realised<A: Actions, T: Transforms>(
+fn push_all<A: Actions, T: Transforms>(
     alloc: Global,
     workspace: &mut Workspace<'_, A, T>,
     tasks: &str,
-) -> Result<String, Fail> {
-    let mut out = String::new(alloc);
+    out: &mut String,
+) -> Result<(), Fail> {
     for task in tasks.split(' ') {
-        push_between(&mut out, " | ")?;
-        let path = TaskPath::read(alloc, task)?;
-        push_realised(alloc, workspace, &path, &mut out)?;
+        push_realised(alloc, workspace, task, out)?;
     }
+    Ok(())
+}
+
+/// What tasks of a registry come to, asked for in turn.
+fn realised<A: Actions, T: Transforms>(
+    alloc: Global,
+    tables: &Handed<A, T>,
+    registry: &Registry,
+    tasks: &str,
+) -> Result<String, Fail>
+    requires { configure_faults (tables_of T.meanings A.meanings tables.now) registry.now ≡ [] }
+{
+    let mut out = String::new(alloc);
+    let mut workspace = Workspace::<'_, A, T>::declare(alloc, tables, registry)?;
+    push_all(alloc, &mut workspace, tasks, &mut out)?;
     Ok(out)
 }
 
@@ -133,8 +159,7 @@ fn of_registry<A: Actions, T: Transforms>(
         let (tasks, words) = cut(asked, " of ");
         return of_plan::<A, T>(alloc, tables, registry, words, Some(tasks));
     }
-    let mut workspace = Workspace::<'_, A, T>::declare(alloc, tables, registry)?;
-    realised::<A, T>(alloc, &mut workspace, tasks)
+    realised::<A, T>(alloc, tables, registry, tasks)
 }
 
 /// The text of a fault.
