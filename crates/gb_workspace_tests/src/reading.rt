@@ -117,6 +117,19 @@ fn push_all<A: Actions, T: Transforms>(
 }
 
 /// What tasks of a registry come to, asked for in turn.
+fn push_declared<A: Actions, T: Transforms>(
+    alloc: Global,
+    tables: &Handed<A, T>,
+    registry: &Registry,
+    tasks: &str,
+    out: &mut String,
+) -> Result<(), Fail>
+    requires { configure_faults (tables_of T.meanings A.meanings tables.now) registry.now ≡ [] }
+{
+    let mut workspace = Workspace::<'_, A, T>::declare(alloc, tables, registry)?;
+    push_all(alloc, &mut workspace, tasks, out)
+}
+
 fn realised<A: Actions, T: Transforms>(
     alloc: Global,
     tables: &Handed<A, T>,
@@ -126,8 +139,7 @@ fn realised<A: Actions, T: Transforms>(
     requires { configure_faults (tables_of T.meanings A.meanings tables.now) registry.now ≡ [] }
 {
     let mut out = String::new(alloc);
-    let mut workspace = Workspace::<'_, A, T>::declare(alloc, tables, registry)?;
-    push_all(alloc, &mut workspace, tasks, &mut out)?;
+    push_declared::<A, T>(alloc, tables, registry, tasks, &mut out)?;
     Ok(out)
 }
 
