@@ -1,9 +1,12 @@
-//! The kinds that write texts or work on files.
+//! Two kinds: one that writes a text, and one that works on files.
 use gb_action::actions::Actions;
 use gb_action::table::ActionTable;
-use gb_answer::{file_actions, text_actions};
+use gb_core::name::Name;
 use gb_kinds::builtin::{Builtin, StoredAction};
+use gb_kinds::files::copy_files;
 use gb_kinds::function_table::FunctionTable;
+use gb_kinds::shapes::{COPY_FILES, WRITE_TEXT, copy_files_shape, write_text_shape};
+use gb_kinds::texts::write_text;
 use gb_provider::transforms::Transforms;
 use gb_registry::tables::Tables;
 use std::alloc::Global;
@@ -17,10 +20,33 @@ pub type Handed<A, T> = Tables<
     <T as Transforms>::Test,
 >;
 
+fn writing(alloc: Global) -> Result<StoredAction, Fail> {
+    let shape = write_text_shape(alloc)?;
+    let run = Box::new(alloc, write_text)?;
+    Ok(StoredAction::new(WRITE_TEXT, 1, shape, run))
+}
+
+fn copying(alloc: Global) -> Result<StoredAction, Fail> {
+    let shape = copy_files_shape(alloc)?;
+    let run = Box::new(alloc, copy_files)?;
+    Ok(StoredAction::new(COPY_FILES, 1, shape, run))
+}
+
+fn add(
+    alloc: Global,
+    table: &mut ActionTable<StoredAction>,
+    name: &str,
+    stored: StoredAction,
+) -> Result<(), Fail> {
+    let name = Name::read(alloc, name)?;
+    Ok(table.add(&name, stored)?)
+}
+
+/// The kinds, each made apart: with a closure at hand each way out is dear to check.
 fn actions(alloc: Global) -> Result<ActionTable<StoredAction>, Fail> {
     let mut table = ActionTable::new(alloc);
-    text_actions!(alloc, &mut table);
-    file_actions!(alloc, &mut table);
+    add(alloc, &mut table, "writeText", writing(alloc)?)?;
+    add(alloc, &mut table, "copyFiles", copying(alloc)?)?;
     Ok(table)
 }
 
