@@ -1,13 +1,15 @@
 #!/usr/bin/env bash
 # gate.sh: runs the gate at the top of the repository (`rt ci`), and tells where its time went: processor seconds by
-# crate for its proofs, its tests and its wrong edits, and the functions with the largest generated descriptions.
+# crate for its proofs, its tests and its wrong edits; by crate the squares of the sizes of generated descriptions,
+# which the prover's time grows with (half a second for each MB squared); and the largest of these.
 #
 # Processor time is read off /proc once a second, of the processes of this run alone: what one used in its last
-# second is not counted.
-# Descriptions stand only in crates/*/out of an earlier `rt check`; the gate leaves them as they were.
+# second is not counted. Descriptions are those that the gate keeps while it tries the wrong edits of a crate, so
+# that crates without wrong edits, or with one, have none; all but a few seconds before a crate's end are seen.
 set -u
 cd "$(dirname "$0")/.."
 seen=$(mktemp)
+sizes=$(mktemp)
 ticks=$(getconf CLK_TCK)
 
 sample() { # a line for each process of the prover: its number and start, crate, part, ticks
@@ -23,12 +25,20 @@ sample() { # a line for each process of the prover: its number and start, crate,
     print $1 ":" s[20], name, part, s[12] + s[13] }'
 }
 
+descriptions() { # the name and the bytes of each that is kept now
+  find "${TMPDIR:-/tmp}"/rt-edits-"$gate"-*/seed -name '*.Lts.oantt' -printf '%f %s\n' 2>/dev/null
+}
+
 begin=$(date +%s)
 setsid rt ci & # a session of its own
 gate=$!
-trap 'kill -- "-$gate" 2>/dev/null; rm -f "$seen"' EXIT
+trap 'kill -- "-$gate" 2>/dev/null; rm -f "$seen" "$sizes" "$sizes.new"' EXIT
+turns=0
 while kill -0 "$gate" 2>/dev/null; do
   sample >>"$seen"
+  if [ $((turns++ % 10)) = 0 ]; then
+    descriptions | sort -u - "$sizes" >"$sizes.new" && mv "$sizes.new" "$sizes"
+  fi
   sleep 1
 done
 wait "$gate"
@@ -49,6 +59,12 @@ awk -v ticks="$ticks" '
     printf "processor minutes: %.0f\n", sum / 60 }' "$seen"
 
 echo
-echo "the ten largest descriptions, in MB"
-find crates/*/out -name '*.Lts.oantt' -printf '%s %f\n' 2>/dev/null | sort -rn | awk '!met[$2]++ { sub(/^Rattle-/, "", $2); sub(/\.Lts\.oantt$/, "", $2); printf "%6.1f %s\n", $1 / 1000000, $2 }' | head -10
+echo "descriptions by crate: how many, and the sum of the squares of their MB; the ten largest, in MB"
+awk '{ sub(/^Rattle-/, "", $1); sub(/\.Lts\.oantt$/, "", $1); if ($2 > most[$1]) most[$1] = $2 }
+  END {
+    for (name in most) { split(name, part, "-proofs."); mb = most[name] / 1000000; count[part[1]]++; sum[part[1]] += mb * mb }
+    for (crate in sum) printf "%-18s %5d %6.0f\n", crate, count[crate], sum[crate] | "sort -k3,3nr"
+    close("sort -k3,3nr")
+    for (name in most) printf "%6.1f %s\n", most[name] / 1000000, name | "sort -rn | head -10"
+  }' "$sizes"
 exit "$status"
