@@ -9,7 +9,7 @@ what is printed in NAME.out, and behind them the examples of docs/GUIDE.md.
 In the run a file at rows/NAME tells where a replay begins, and behind it its records and files are removed,
 so that the next one begins in an empty folder. Which files it leaves is all that PROGRAM says of the run. At
 the end each place is shown where one left something, and nothing stands there; no line feed ends the last
-line. An example with a status that is not 0 would end the run: it is a row of gb_lines_tests.
+line. An example with a status that is not 0 would end the run: it is a row of gb_builds_tests.
 """
 import os
 import re
@@ -21,7 +21,7 @@ ROWS = os.path.join(guide.ROOT, "bench", "replays")
 CRATES = os.path.join(guide.ROOT, "crates")
 INPUT = os.path.join(CRATES, "gb_replay", "stdin")
 OUTPUT = os.path.join(CRATES, "gb_replay", "stdout")
-TESTS = os.path.join(CRATES, "gb_lines_tests", "src", "tests.rt")
+TESTS = os.path.join(CRATES, "gb_builds_tests", "src", "ending.rt")
 
 
 class Row:
@@ -116,12 +116,12 @@ def literal(text):
 
 
 def check_tests():
-    """Fails where an example with a status that is not 0 is no row of gb_lines_tests."""
+    """Fails where an example with a status that is not 0 is no row of gb_builds_tests."""
     tests = " ".join(read(TESTS).split())
     for number, example in enumerate(guide.examples(), 1):
         row = f"{literal(example.input)}, {literal(example.output)}, {example.status}"
         if example.status != 0 and row not in tests:
-            guide.fail(f"example {number} is no row of gb_lines_tests: {row}")
+            guide.fail(f"example {number} is no row of gb_builds_tests: {row}")
 
 
 def make(program):

@@ -1,17 +1,14 @@
 //! Whole builds over folders on a disk, in memory and of those that fail.
+use crate::offering::{Handed, offered};
 use gb_action::actions::Actions;
-use gb_action::table::ActionTable;
-use gb_answer::text_actions;
-use gb_command::run::{Handed, run};
+use gb_command::run::run;
 use gb_core::place::Place;
 use gb_disk::disk::DiskFolder;
 use gb_folder::faulty::{FaultMode, FaultyFolder};
 use gb_folder::folder::Folder;
 use gb_folder::memory::MemoryFolder;
-use gb_kinds::builtin::{Builtin, StoredAction};
-use gb_kinds::function_table::FunctionTable;
+use gb_kinds::builtin::Builtin;
 use gb_provider::transforms::Transforms;
-use gb_registry::tables::Tables;
 use std::alloc::Global;
 use std::fs;
 use std::io::{self, ErrorKind, Write};
@@ -27,23 +24,9 @@ const DONE: &str = "> Task :gen\nBUILD SUCCESSFUL\n1 actionable task: 1 executed
 /// Lines, and what is answered to them behind that one.
 type Row<'a> = (&'a str, &'a str);
 
-/// The kinds that write texts.
-fn actions(alloc: Global) -> Result<ActionTable<StoredAction>, Fail> {
-    let mut table = ActionTable::new(alloc);
-    text_actions!(alloc, &mut table);
-    Ok(table)
-}
-
-fn tables(alloc: Global) -> Result<Handed<Builtin, Builtin>, Fail> {
-    Ok(Tables {
-        actions: actions(alloc)?,
-        transforms: FunctionTable::new(alloc),
-    })
-}
-
 /// What is printed of lines: `put PLACE BYTES`, `read PLACE`, `run WORDS`, and `status WORDS` for its status.
 fn answers<F: Folder>(alloc: Global, folder: &mut F, lines: &str) -> Result<String, Fail> {
-    let tables = tables(alloc)?;
+    let tables = offered(alloc)?;
     let out = answered::<Builtin, Builtin, F>(alloc, folder, &tables, lines)?;
     Ok(String::from_utf8(out)?)
 }
@@ -302,7 +285,7 @@ fn unprinted<A: Actions, T: Transforms>(alloc: Global, tables: &Handed<A, T>) ->
 
 #[test]
 fn a_failing_writer_is_status_1(rt: HostRuntime) -> Result<(), Fail> {
-    let tables = tables(rt.alloc())?;
+    let tables = offered(rt.alloc())?;
     if unprinted::<Builtin, Builtin>(rt.alloc(), &tables) == 1 {
         Ok(())
     } else {
