@@ -3,4 +3,5 @@
 #![tactic(auto)]
 
 pub mod answer;
+pub mod boxes;
 mod tables;

@@ -1,52 +1,41 @@
 //! The kinds and the functions of values that the programs offer. These are macros, since what is known of a
-//! closure in a box hangs on the function where the box is made.
+//! closure in a box hangs on the function where it is boxed as a `dyn Fn`.
 
 /// All kinds by name, each with its closure; left early where memory runs out.
 #[macro_export]
 macro_rules! builtin_actions {
     ($alloc:expr) => {{
         let alloc = $alloc;
-        let mut table = gb_action::table::ActionTable::new(alloc);
-        gb_answer::text_actions!(alloc, &mut table);
-        gb_answer::file_actions!(alloc, &mut table);
-        gb_answer::in_memory!(gb_kinds::table::add_one_file_kinds(
+        let (print_line, write_text, fail, concat, add_file) = gb_answer::boxes::five(
             alloc,
-            &mut table,
-            Box::new(alloc, gb_kinds::files::concat)?,
-            Box::new(alloc, gb_kinds::files::add_file)?,
-        ));
-        table
+            gb_kinds::texts::print_line,
+            gb_kinds::texts::write_text,
+            gb_kinds::texts::fail,
+            gb_kinds::files::concat,
+            gb_kinds::files::add_file,
+        )?;
+        let (copy_files, replace_tokens, keep_lines, sums, word_index) = gb_answer::boxes::five(
+            alloc,
+            gb_kinds::files::copy_files,
+            gb_kinds::files::replace_tokens,
+            gb_kinds::files::keep_lines,
+            gb_kinds::files::sums,
+            gb_kinds::files::word_index,
+        )?;
+        gb_answer::in_memory!(gb_kinds::table::action_table(
+            alloc,
+            print_line,
+            write_text,
+            fail,
+            copy_files,
+            replace_tokens,
+            keep_lines,
+            sums,
+            word_index,
+            concat,
+            add_file,
+        ))
     }};
-}
-
-/// Adds the kinds that read no files to an empty table, each with its closure.
-#[macro_export]
-macro_rules! text_actions {
-    ($alloc:expr, $table:expr) => {
-        gb_answer::in_memory!(gb_kinds::table::add_text_kinds(
-            $alloc,
-            $table,
-            Box::new($alloc, gb_kinds::texts::print_line)?,
-            Box::new($alloc, gb_kinds::texts::write_text)?,
-            Box::new($alloc, gb_kinds::texts::fail)?,
-        ))
-    };
-}
-
-/// Adds the kinds that follow the changes of files behind those that read no files, each with its closure.
-#[macro_export]
-macro_rules! file_actions {
-    ($alloc:expr, $table:expr) => {
-        gb_answer::in_memory!(gb_kinds::table::add_file_kinds(
-            $alloc,
-            $table,
-            Box::new($alloc, gb_kinds::files::copy_files)?,
-            Box::new($alloc, gb_kinds::files::replace_tokens)?,
-            Box::new($alloc, gb_kinds::files::keep_lines)?,
-            Box::new($alloc, gb_kinds::files::sums)?,
-            Box::new($alloc, gb_kinds::files::word_index)?,
-        ))
-    };
 }
 
 /// All functions of values by name, each with its closure; left early where memory runs out.
@@ -54,44 +43,44 @@ macro_rules! file_actions {
 macro_rules! builtin_functions {
     ($alloc:expr) => {{
         let alloc = $alloc;
-        let mut table = gb_kinds::function_table::FunctionTable::new(alloc);
-        gb_answer::in_memory!(gb_kinds::function_table::add_text_functions(
+        let (upper, append, non_empty, split, join) = gb_answer::boxes::five(
             alloc,
-            &mut table,
-            Box::new(alloc, gb_kinds::functions::upper)?,
-            Box::new(alloc, gb_kinds::functions::append)?,
-            Box::new(alloc, gb_kinds::functions::non_empty)?,
-        ));
-        gb_answer::in_memory!(gb_kinds::function_table::add_part_functions(
+            gb_kinds::functions::upper,
+            gb_kinds::functions::append,
+            gb_kinds::functions::non_empty,
+            gb_kinds::functions::split,
+            gb_kinds::functions::join,
+        )?;
+        let (child, output, concat, is_true, equals) = gb_answer::boxes::five(
             alloc,
-            &mut table,
-            Box::new(alloc, gb_kinds::functions::split)?,
-            Box::new(alloc, gb_kinds::functions::join)?,
-            Box::new(alloc, gb_kinds::functions::child)?,
-        ));
-        gb_answer::in_memory!(gb_kinds::function_table::add_other_functions(
+            gb_kinds::functions::child,
+            gb_kinds::functions::output,
+            gb_kinds::functions::concat,
+            gb_kinds::functions::is_true,
+            gb_kinds::functions::equals,
+        )?;
+        gb_answer::in_memory!(gb_kinds::function_table::function_table(
             alloc,
-            &mut table,
-            Box::new(alloc, gb_kinds::functions::output)?,
-            Box::new(alloc, gb_kinds::functions::concat)?,
-        ));
-        gb_answer::in_memory!(gb_kinds::function_table::add_tests(
-            alloc,
-            &mut table,
-            Box::new(alloc, gb_kinds::functions::is_true)?,
-            Box::new(alloc, gb_kinds::functions::equals)?,
-        ));
-        table
+            upper,
+            append,
+            non_empty,
+            split,
+            join,
+            child,
+            output,
+            concat,
+            is_true,
+            equals,
+        ))
     }};
 }
 
-/// Goes on where what is added was added: a name that is given here is given once, so that only want of memory
-/// refuses it.
+/// The table; its names are given here, each once, so that only want of memory refuses it.
 #[macro_export]
 macro_rules! in_memory {
-    ($added:expr) => {
-        match $added {
-            Ok(()) => {}
+    ($made:expr) => {
+        match $made {
+            Ok(table) => table,
             Err(_) => return Err(std::alloc::AllocError.into()),
         }
     };

@@ -1,8 +1,8 @@
 //! All functions of values by name.
 //!
-//! A program fills its table in four steps, so that few boxes are held at a time: each way out of a
-//! function lets go all boxes that it holds.
-ghost use Rattle.std.specs.Prelude.{◌≡◌, ◌++◌, ◌∷◌, [], false, bytes_eq, IfErr, OnOk};
+//! The table is filled in steps, so that each holds few boxes: each way out of a function lets go all boxes
+//! that it holds.
+ghost use Rattle.std.specs.Prelude.{◌≡◌, ◌++◌, ◌∷◌, [], false, bytes_eq, IfErr, IfOk, OnOk};
 ghost use Rattle.std.specs.List.{list_any};
 ghost use Rattle.gb_provider.specs.declared.table.Transform.TheVariants as uses;
 ghost use Rattle.gb_provider.specs.declared.fault.TableFault.TheVariants.{OutOfMemory};
@@ -23,8 +23,66 @@ use std::alloc::Global;
 /// The functions of values by name.
 pub type FunctionTable = TransformTable<StoredMap, StoredFlat, StoredZip, StoredTest>;
 
+/// The table of all functions of values, each with its closure.
+pub fn function_table(
+    alloc: Global,
+    upper: MapRun,
+    append: MapRun,
+    non_empty: MapRun,
+    split: MapRun,
+    join: MapRun,
+    child: MapRun,
+    output: FlatRun,
+    concat: ZipRun,
+    is_true: TestRun,
+    equals: TestRun,
+) -> Result<FunctionTable, TableFault>
+    requires upper { Keeps (map_means UPPER) (MapRun.pre upper) (MapRun.post upper) }
+    requires append { Keeps (map_means APPEND) (MapRun.pre append) (MapRun.post append) }
+    requires non_empty { Keeps (map_means NON_EMPTY) (MapRun.pre non_empty) (MapRun.post non_empty) }
+    requires split { Keeps (map_means SPLIT) (MapRun.pre split) (MapRun.post split) }
+    requires join { Keeps (map_means JOIN) (MapRun.pre join) (MapRun.post join) }
+    requires child { Keeps (map_means CHILD) (MapRun.pre child) (MapRun.post child) }
+    requires output { Keeps (flat_map_means OUTPUT) (FlatRun.pre output) (FlatRun.post output) }
+    requires concat { KeepsOfTwo (zip_means CONCAT) (ZipRun.pre concat) (ZipRun.post concat) }
+    requires is_true { Keeps (test_means IS_TRUE) (TestRun.pre is_true) (TestRun.post is_true) }
+    requires equals { Keeps (test_means EQUALS) (TestRun.pre equals) (TestRun.post equals) }
+    ensures ok { IfOk result (λ table. numbers table (λ f. f.kind) (λ f. f.kind) (λ f. f.kind) (λ f. f.kind) ≡ value_functions) }
+    ensures err { IfErr result (λ fault. fault ≡ OutOfMemory) }
+{
+    let mut table = map_table(alloc, upper, append, non_empty, split, join, child)?;
+    add_other_functions(alloc, &mut table, output, concat)?;
+    add_tests(alloc, &mut table, is_true, equals)?;
+    Ok(table)
+}
+
+/// The table of the functions of `map`.
+fn map_table(
+    alloc: Global,
+    upper: MapRun,
+    append: MapRun,
+    non_empty: MapRun,
+    split: MapRun,
+    join: MapRun,
+    child: MapRun,
+) -> Result<FunctionTable, TableFault>
+    requires upper { Keeps (map_means UPPER) (MapRun.pre upper) (MapRun.post upper) }
+    requires append { Keeps (map_means APPEND) (MapRun.pre append) (MapRun.post append) }
+    requires non_empty { Keeps (map_means NON_EMPTY) (MapRun.pre non_empty) (MapRun.post non_empty) }
+    requires split { Keeps (map_means SPLIT) (MapRun.pre split) (MapRun.post split) }
+    requires join { Keeps (map_means JOIN) (MapRun.pre join) (MapRun.post join) }
+    requires child { Keeps (map_means CHILD) (MapRun.pre child) (MapRun.post child) }
+    ensures ok { IfOk result (λ table. numbers table (λ f. f.kind) (λ f. f.kind) (λ f. f.kind) (λ f. f.kind) ≡ text_functions ++ part_functions) }
+    ensures err { IfErr result (λ fault. fault ≡ OutOfMemory) }
+{
+    let mut table = FunctionTable::new(alloc);
+    add_text_functions(alloc, &mut table, upper, append, non_empty)?;
+    add_part_functions(alloc, &mut table, split, join, child)?;
+    Ok(table)
+}
+
 /// Adds those that map a text to an empty table.
-pub fn add_text_functions(
+fn add_text_functions(
     alloc: Global,
     table: &mut FunctionTable,
     upper: MapRun,
@@ -45,7 +103,7 @@ pub fn add_text_functions(
 }
 
 /// Adds those that take or give a list or a place, behind those that map a text.
-pub fn add_part_functions(
+fn add_part_functions(
     alloc: Global,
     table: &mut FunctionTable,
     split: MapRun,
@@ -66,7 +124,7 @@ pub fn add_part_functions(
 }
 
 /// Adds those of `flatMap` and `zip`, behind all others but the tests.
-pub fn add_other_functions(
+fn add_other_functions(
     alloc: Global,
     table: &mut FunctionTable,
     output: FlatRun,
@@ -84,7 +142,7 @@ pub fn add_other_functions(
 }
 
 /// Adds the tests, behind all others.
-pub fn add_tests(
+fn add_tests(
     alloc: Global,
     table: &mut FunctionTable,
     is_true: TestRun,

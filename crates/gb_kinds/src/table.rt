@@ -1,8 +1,8 @@
 //! All built-in actions by name.
 //!
-//! A program fills its table in three steps, or in the first of them alone, so that few boxes are held
-//! at a time: each way out of a function lets go all boxes that it holds.
-ghost use Rattle.std.specs.Prelude.{◌≡◌, ◌++◌, ◌∷◌, [], ℕ, List, false, bytes_eq, IfErr, OnOk, map};
+//! The table is filled in three steps, so that each holds few boxes: each way out of a function lets go all
+//! boxes that it holds.
+ghost use Rattle.std.specs.Prelude.{◌≡◌, ◌++◌, ◌∷◌, [], ℕ, List, false, bytes_eq, IfErr, IfOk, OnOk, map};
 ghost use Rattle.std.specs.List.{list_any};
 ghost use Rattle.gb_action.specs.declared.table.TableFault.TheVariants.{OutOfMemory};
 ghost use Rattle.gb_kinds.specs.Builtin.{StandsFor, builtin_shape, builtin_names, text_names, file_names};
@@ -16,10 +16,52 @@ use crate::shapes::{
 use gb_action::shape::Shape;
 use gb_action::table::{ActionTable, TableFault};
 use gb_core::name::Name;
-use std::alloc::Global;
+use std::alloc::{AllocError, Global};
 
-/// Adds the kinds that read no files to an empty table. All kinds have version 1.
-pub fn add_text_kinds(
+/// The table of all built-in kinds, each with its closure. All kinds have version 1.
+pub fn action_table(
+    alloc: Global,
+    print_line: Run,
+    write_text: Run,
+    fail: Run,
+    copy_files: Run,
+    replace_tokens: Run,
+    keep_lines: Run,
+    sums: Run,
+    word_index: Run,
+    concat: Run,
+    add_file: Run,
+) -> Result<ActionTable<StoredAction>, TableFault>
+    requires print_line { StandsFor PRINT_LINE (Run.pre print_line) (Run.post print_line) }
+    requires write_text { StandsFor WRITE_TEXT (Run.pre write_text) (Run.post write_text) }
+    requires fail { StandsFor FAIL (Run.pre fail) (Run.post fail) }
+    requires copy_files { StandsFor COPY_FILES (Run.pre copy_files) (Run.post copy_files) }
+    requires replace_tokens { StandsFor REPLACE_TOKENS (Run.pre replace_tokens) (Run.post replace_tokens) }
+    requires keep_lines { StandsFor KEEP_LINES (Run.pre keep_lines) (Run.post keep_lines) }
+    requires sums { StandsFor SUMS (Run.pre sums) (Run.post sums) }
+    requires word_index { StandsFor WORD_INDEX (Run.pre word_index) (Run.post word_index) }
+    requires concat { StandsFor CONCAT (Run.pre concat) (Run.post concat) }
+    requires add_file { StandsFor ADD_FILE (Run.pre add_file) (Run.post add_file) }
+    ensures ok { IfOk result (λ table. map {B = List ℕ × ℕ × ℕ} (λ e. (e.0, e.1.kind, e.1.version)) table ≡ builtin_names) }
+    ensures err { IfErr result (λ fault. fault ≡ OutOfMemory) }
+{
+    let mut table = ActionTable::new(alloc);
+    add_text_kinds(alloc, &mut table, print_line, write_text, fail)?;
+    add_file_kinds(
+        alloc,
+        &mut table,
+        copy_files,
+        replace_tokens,
+        keep_lines,
+        sums,
+        word_index,
+    )?;
+    add_one_file_kinds(alloc, &mut table, concat, add_file)?;
+    Ok(table)
+}
+
+/// Adds the kinds that read no files to an empty table.
+fn add_text_kinds(
     alloc: Global,
     table: &mut ActionTable<StoredAction>,
     print_line: Run,
@@ -33,17 +75,28 @@ pub fn add_text_kinds(
     ensures ok { OnOk result (map {B = List ℕ × ℕ × ℕ} (λ e. (e.0, e.1.kind, e.1.version)) table.new ≡ text_names) }
     ensures err { IfErr result (λ fault. fault ≡ OutOfMemory) }
 {
-    let shape = print_line_shape(alloc)?;
-    add(alloc, table, "printLine", PRINT_LINE, shape, print_line)?;
-    let shape = write_text_shape(alloc)?;
-    add(alloc, table, "writeText", WRITE_TEXT, shape, write_text)?;
-    let shape = fail_shape(alloc)?;
-    add(alloc, table, "fail", FAIL, shape, fail)?;
+    add(
+        alloc,
+        table,
+        "printLine",
+        PRINT_LINE,
+        print_line_shape(alloc),
+        print_line,
+    )?;
+    add(
+        alloc,
+        table,
+        "writeText",
+        WRITE_TEXT,
+        write_text_shape(alloc),
+        write_text,
+    )?;
+    add(alloc, table, "fail", FAIL, fail_shape(alloc), fail)?;
     Ok(())
 }
 
 /// Adds the kinds that follow the changes of files, behind those that read no files.
-pub fn add_file_kinds(
+fn add_file_kinds(
     alloc: Global,
     table: &mut ActionTable<StoredAction>,
     copy_files: Run,
@@ -61,28 +114,44 @@ pub fn add_file_kinds(
     ensures ok { OnOk result (map {B = List ℕ × ℕ × ℕ} (λ e. (e.0, e.1.kind, e.1.version)) table.new ≡ text_names ++ file_names) }
     ensures err { IfErr result (λ fault. fault ≡ OutOfMemory) }
 {
-    let shape = copy_files_shape(alloc)?;
-    add(alloc, table, "copyFiles", COPY_FILES, shape, copy_files)?;
-    let shape = replace_tokens_shape(alloc)?;
+    add(
+        alloc,
+        table,
+        "copyFiles",
+        COPY_FILES,
+        copy_files_shape(alloc),
+        copy_files,
+    )?;
     add(
         alloc,
         table,
         "replaceTokens",
         REPLACE_TOKENS,
-        shape,
+        replace_tokens_shape(alloc),
         replace_tokens,
     )?;
-    let shape = keep_lines_shape(alloc)?;
-    add(alloc, table, "keepLines", KEEP_LINES, shape, keep_lines)?;
-    let shape = sums_shape(alloc)?;
-    add(alloc, table, "sums", SUMS, shape, sums)?;
-    let shape = word_index_shape(alloc)?;
-    add(alloc, table, "wordIndex", WORD_INDEX, shape, word_index)?;
+    add(
+        alloc,
+        table,
+        "keepLines",
+        KEEP_LINES,
+        keep_lines_shape(alloc),
+        keep_lines,
+    )?;
+    add(alloc, table, "sums", SUMS, sums_shape(alloc), sums)?;
+    add(
+        alloc,
+        table,
+        "wordIndex",
+        WORD_INDEX,
+        word_index_shape(alloc),
+        word_index,
+    )?;
     Ok(())
 }
 
 /// Adds the other kinds that write one file, behind all others.
-pub fn add_one_file_kinds(
+fn add_one_file_kinds(
     alloc: Global,
     table: &mut ActionTable<StoredAction>,
     concat: Run,
@@ -94,29 +163,34 @@ pub fn add_one_file_kinds(
     ensures ok { OnOk result (map {B = List ℕ × ℕ × ℕ} (λ e. (e.0, e.1.kind, e.1.version)) table.new ≡ builtin_names) }
     ensures err { IfErr result (λ fault. fault ≡ OutOfMemory) }
 {
-    let shape = concat_shape(alloc)?;
-    add(alloc, table, "concat", CONCAT, shape, concat)?;
-    let shape = add_file_shape(alloc)?;
-    add(alloc, table, "addFile", ADD_FILE, shape, add_file)?;
+    add(alloc, table, "concat", CONCAT, concat_shape(alloc), concat)?;
+    add(
+        alloc,
+        table,
+        "addFile",
+        ADD_FILE,
+        add_file_shape(alloc),
+        add_file,
+    )?;
     Ok(())
 }
 
-/// Adds a kind under a name that no other has.
+/// Adds a kind of this shape under a name that no other has.
 fn add(
     alloc: Global,
     table: &mut ActionTable<StoredAction>,
     name: &str,
     kind: u16,
-    shape: Shape,
+    shape: Result<Shape, AllocError>,
     run: Run,
 ) -> Result<(), TableFault>
-    requires shaped { shape ≡ builtin_shape kind }
+    requires shaped { IfOk shape (λ shape. shape ≡ builtin_shape kind) }
     requires stands { StandsFor kind (Run.pre run) (Run.post run) }
     requires other { list_any (λ e. bytes_eq e.0 name.now) (map {B = List ℕ × ℕ × ℕ} (λ e. (e.0, e.1.kind, e.1.version)) table.old) ≡ false }
     ensures ok { OnOk result (map {B = List ℕ × ℕ × ℕ} (λ e. (e.0, e.1.kind, e.1.version)) table.new ≡ map {B = List ℕ × ℕ × ℕ} (λ e. (e.0, e.1.kind, e.1.version)) table.old ++ (name.now, kind, 1) ∷ []) }
     ensures err { IfErr result (λ fault. fault ≡ OutOfMemory) }
 {
-    let stored = StoredAction::new(kind, 1, shape, run);
+    let stored = StoredAction::new(kind, 1, shape?, run);
     let name = Name::read(alloc, name).map_err(|_| TableFault::OutOfMemory)?;
     table.add(&name, stored)
 }
