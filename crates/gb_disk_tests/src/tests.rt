@@ -5,38 +5,28 @@ use gb_disk::names::places_in;
 use gb_folder::faulty::{FaultMode, FaultyFolder};
 use gb_folder::folder::{Folder, FolderFault};
 use gb_folder::memory::MemoryFolder;
-use std::alloc::Global;
+use std::alloc::{AllocError, Global};
 use std::os::unix::fs::symlink;
 use std::test::Fail;
 use std::{fs, io};
 
+/// Steps, with a `;` between them, and what is answered. A step is a call, by a word of [`answer`] and a
+/// place, or a change of a folder on a disk from outside, by a word of [`change`], a place and a text.
+type Row<'a> = (&'a str, &'a str);
+
+/// A word, and what stands behind it.
+fn cut(text: &str) -> (&str, &str) {
+    text.split_once(' ').unwrap_or((text, ""))
+}
+
 /// The places, with a space behind each.
 fn told(alloc: Global, places: &[Place]) -> Result<Vec<u8>, FolderFault> {
     let mut text = Vec::new(alloc);
-    for place in places.iter() {
+    for place in places {
         text.extend_from_slice(place.as_str().as_bytes())?;
         text.push(b' ')?;
     }
     Ok(text)
-}
-
-/// What a folder answers to one call. Bytes are written from `hello`.
-fn answer<F: Folder>(
-    alloc: Global,
-    folder: &mut F,
-    call: &str,
-    place: &Place,
-) -> Result<Vec<u8>, FolderFault> {
-    match call {
-        "list" => told(alloc, folder.list(alloc, place)?.as_slice()),
-        "read" => folder.read(alloc, place, 5),
-        "read4" => folder.read(alloc, place, 4),
-        "part" => folder.read_part(alloc, place, 3, 9),
-        "far" => folder.read_part(alloc, place, u64::MAX, u64::MAX),
-        "write" => wrote(alloc, folder.write(place, b"hello", 5)),
-        "write4" => wrote(alloc, folder.write(place, b"hello", 4)),
-        _ => wrote(alloc, folder.remove(place)),
-    }
 }
 
 fn wrote(alloc: Global, outcome: Result<(), FolderFault>) -> Result<Vec<u8>, FolderFault> {
@@ -46,386 +36,470 @@ fn wrote(alloc: Global, outcome: Result<(), FolderFault>) -> Result<Vec<u8>, Fol
     }
 }
 
-/// What a folder answers to calls, each a word and a place: bytes, or the number of a fault.
-fn answers<F: Folder>(alloc: Global, folder: &mut F, calls: &str) -> Result<String, Fail> {
-    let mut all = Vec::new(alloc);
-    for call in calls.split(';') {
-        let (call, place) = call.split_once(' ').unwrap_or((call, "a"));
-        let place = Place::read(alloc, place)?;
-        match answer(alloc, folder, call, &place) {
-            Ok(bytes) => all.extend_from_slice(bytes.as_slice())?,
-            Err(fault) => all.extend_from_slice(format!(in alloc;
-                "{}",
-                fault.number()
-            )?.as_bytes())?,
-        }
-        all.push(b';')?;
+/// Writes `hello` at a place, or takes away what stands there.
+fn write<F: Folder>(folder: &mut F, word: &str, place: &Place) -> Result<(), FolderFault> {
+    match word {
+        "write" => folder.write(place, b"hello", 5),
+        "write4" => folder.write(place, b"hello", 4),
+        _ => folder.remove(place),
     }
-    Ok(String::from_utf8(all)?)
 }
 
-/// What the folder at a path answers.
-fn at_path(rt: &HostRuntime, path: &str, calls: &str) -> Result<String, Fail> {
-    let mut folder = DiskFolder::new(rt, String::from_str(rt.alloc(), path)?);
-    answers(rt.alloc(), &mut folder, calls)
-}
-
-/// What the folder of this name answers, which is then taken away.
-fn on_disk(rt: &HostRuntime, name: &str, calls: &str) -> Result<String, Fail> {
-    let all = at_path(rt, name, calls)?;
-    fs::remove_dir_all(rt, name)?;
-    Ok(all)
-}
-
-/// What an empty folder in memory answers.
-fn in_memory(alloc: Global, calls: &str) -> Result<String, Fail> {
-    answers(alloc, &mut MemoryFolder::new(alloc), calls)
-}
-
-/// What a new folder of this name answers.
-fn on_new(rt: &HostRuntime, name: &str, calls: &str) -> Result<String, Fail> {
-    renew(rt, name)?;
-    on_disk(rt, name, calls)
-}
-
-/// What a folder in memory answers whose device fails at a call, and then what it left.
-fn on_failing(
+/// What a folder answers to one call.
+fn answer<F: Folder>(
     alloc: Global,
-    at: u64,
-    mode: FaultMode,
-    calls: &str,
-    calls_after: &str,
-) -> Result<String, Fail> {
-    let mut folder = FaultyFolder::new(MemoryFolder::new(alloc), at, mode);
-    let mut all = answers(alloc, &mut folder, calls)?;
-    all.push_str(answers(alloc, &mut folder.into_inner(), calls_after)?.as_str())?;
-    Ok(all)
-}
-
-/// Makes an empty folder of this name.
-fn renew(rt: &HostRuntime, name: &str) -> Result<(), Fail> {
-    if fs::exists(rt, name)? {
-        fs::remove_dir_all(rt, name)?;
-    }
-    Ok(fs::create_dir(rt, name)?)
-}
-
-#[test]
-fn reads(rt: HostRuntime) -> Result<(), Fail> {
-    let calls = "read a;write a;read a;read4 a;read a/b;read b;part a;far a;part b;part a/b";
-    let want = "11;ok;hello;13;12;11;lo;;11;12;";
-    assert_eq!(rt; in_memory(rt.alloc(), calls)?.as_str(), want);
-    assert_eq!(rt; on_new(&rt, "reads", calls)?.as_str(), want);
-    Ok(())
-}
-
-#[test]
-fn writes(rt: HostRuntime) -> Result<(), Fail> {
-    let calls =
-        "write a;write src/b;write a/b;write a/b/c;write src;write4 c;write srcx;write a;read c";
-    let want = "ok;ok;12;12;12;13;ok;ok;11;";
-    assert_eq!(rt; in_memory(rt.alloc(), calls)?.as_str(), want);
-    assert_eq!(rt; on_new(&rt, "writes", calls)?.as_str(), want);
-    Ok(())
-}
-
-#[test]
-fn removes(rt: HostRuntime) -> Result<(), Fail> {
-    let calls =
-        "write src/b;remove b;remove src;remove src/b/c;remove src/b;remove src/b;remove src;write src;list src";
-    let want = "ok;11;12;12;ok;11;11;ok;src ;";
-    assert_eq!(rt; in_memory(rt.alloc(), calls)?.as_str(), want);
-    assert_eq!(rt; on_new(&rt, "removes", calls)?.as_str(), want);
-    Ok(())
-}
-
-#[test]
-fn lists_in_byte_order(rt: HostRuntime) -> Result<(), Fail> {
-    let calls =
-        "write o/a/b;write ox;write o/a.c;write o/a-b;list o;list o/a;list ox;list q;list ox/q";
-    let want = "ok;ok;ok;ok;o/a-b o/a.c o/a/b ;o/a/b ;ox ;;;";
-    assert_eq!(rt; in_memory(rt.alloc(), calls)?.as_str(), want);
-    assert_eq!(rt; on_new(&rt, "lists_in_byte_order", calls)?.as_str(), want);
-    Ok(())
-}
-
-#[test]
-fn folders_without_files_give_way(rt: HostRuntime) -> Result<(), Fail> {
-    renew(&rt, "give_way")?;
-    fs::create_dir_all(&rt, "give_way/e/f/g")?;
-    fs::create_dir(&rt, "give_way/e/h")?;
-    let calls = "list e;read e;remove e;write e;list e;read e";
-    assert_eq!(rt;
-        on_disk(&rt, "give_way", calls)?.as_str(),
-        ";11;11;ok;e ;hello;"
-    );
-    Ok(())
-}
-
-#[test]
-fn follows_no_link_at_the_place(rt: HostRuntime) -> Result<(), Fail> {
-    renew(&rt, "link_at")?;
-    fs::write(&rt, "link_at/a", "1")?;
-    symlink(&rt, "a", "link_at/l")?;
-    let calls = "list l;read l;part l;write l;remove l;read a";
-    assert_eq!(rt;
-        on_disk(&rt, "link_at", calls)?.as_str(),
-        "14;10;10;10;10;1;"
-    );
-    Ok(())
-}
-
-#[test]
-fn follows_no_link_above_the_place(rt: HostRuntime) -> Result<(), Fail> {
-    renew(&rt, "link_above")?;
-    fs::create_dir_all(&rt, "link_above/real/d")?;
-    fs::write(&rt, "link_above/real/d/a", "1")?;
-    symlink(&rt, "real", "link_above/l")?;
-    let calls = "list l/d;read l/d/a;part l/d/a;write l/b;remove l/d/a;list real";
-    assert_eq!(rt;
-        on_disk(&rt, "link_above", calls)?.as_str(),
-        "14;10;10;10;10;real/d/a ;"
-    );
-    Ok(())
-}
-
-#[test]
-fn follows_no_link_beneath_the_root(rt: HostRuntime) -> Result<(), Fail> {
-    renew(&rt, "link_beneath")?;
-    fs::create_dir(&rt, "link_beneath/d")?;
-    symlink(&rt, "..", "link_beneath/d/l")?;
-    let calls = "list d;read d;write d;remove d;write d/a;read d/a;read d/l;read d/l/a";
-    assert_eq!(rt;
-        on_disk(&rt, "link_beneath", calls)?.as_str(),
-        "14;10;10;10;ok;hello;10;10;"
-    );
-    Ok(())
-}
-
-/// Makes a folder `changed` with the file `d/e/a` of five bytes and an empty one, `d/e/z`.
-fn renew_changed(rt: &HostRuntime) -> Result<(), Fail> {
-    renew(rt, "changed")?;
-    fs::create_dir_all(rt, "changed/d/e")?;
-    fs::write(rt, "changed/d/e/z", "")?;
-    Ok(fs::write(rt, "changed/d/e/a", "hello")?)
-}
-
-/// This folder, which has answered calls.
-fn called<'r>(rt: &'r HostRuntime, calls: &str) -> Result<DiskFolder<&'r HostRuntime>, Fail> {
-    renew_changed(rt)?;
-    let mut folder = DiskFolder::new(rt, String::from_str(rt.alloc(), "changed")?);
-    answers(rt.alloc(), &mut folder, calls)?;
-    Ok(folder)
-}
-
-/// Writes its file anew, takes it away, or takes away all.
-fn change_file(rt: &HostRuntime, change: &str) -> io::Result<()> {
-    match change {
-        "grow" => fs::write(rt, "changed/d/e/a", "hello world"),
-        "shrink" => fs::write(rt, "changed/d/e/a", "he"),
-        "unlink" => fs::remove_file(rt, "changed/d/e/a"),
-        _ => fs::remove_dir_all(rt, "changed/d"),
+    folder: &mut F,
+    word: &str,
+    place: &Place,
+) -> Result<Vec<u8>, FolderFault> {
+    match word {
+        "list" => told(alloc, folder.list(alloc, place)?.as_slice()),
+        "read" => folder.read(alloc, place, 5),
+        "read4" => folder.read(alloc, place, 4),
+        "part" => folder.read_part(alloc, place, 3, 9),
+        "far" => folder.read_part(alloc, place, u64::MAX, u64::MAX),
+        _ => wrote(alloc, write(folder, word, place)),
     }
 }
 
-/// Changes it from outside: the file, and what stands there or above.
-fn change_folder(rt: &HostRuntime, change: &str) -> io::Result<()> {
-    change_file(rt, change)?;
-    match change {
-        "folder" => fs::create_dir_all(rt, "changed/d/e/a"),
-        "file above" => fs::write(rt, "changed/d", "1"),
-        "link above" => symlink(rt, "nowhere", "changed/d"),
-        _ => Ok(()),
+/// The bytes of an answer, or the number of its fault.
+fn shown(alloc: Global, outcome: Result<Vec<u8>, FolderFault>) -> Result<Vec<u8>, AllocError> {
+    match outcome {
+        Ok(bytes) => Ok(bytes),
+        Err(fault) => Ok(format!(in alloc; "{}", fault.number())?.into_bytes()),
     }
 }
 
-/// What it answers behind calls and a change.
-fn answers_behind(
-    rt: &HostRuntime,
-    before: &str,
-    change: &str,
-    calls: &str,
-) -> Result<String, Fail> {
-    let mut folder = called(rt, before)?;
-    change_folder(rt, change)?;
-    answers(rt.alloc(), &mut folder, calls)
+/// What is shown of the answer to a call.
+fn answered<F: Folder>(alloc: Global, folder: &mut F, step: &str) -> Result<Vec<u8>, Fail> {
+    let (word, place) = cut(step);
+    let place = Place::read(alloc, place)?;
+    Ok(shown(alloc, answer(alloc, folder, word, &place))?)
 }
 
-/// What stands before an arrow, and what behind it.
-fn cut(text: &str) -> (&str, &str) {
-    text.split_once(" => ").unwrap_or((text, ""))
+/// Adds what a folder answers to a call.
+fn call<F: Folder>(
+    alloc: Global,
+    folder: &mut F,
+    step: &str,
+    all: &mut Vec<u8>,
+) -> Result<(), Fail> {
+    let bytes = answered(alloc, folder, step)?;
+    all.extend_from_slice(bytes.as_slice())?;
+    Ok(all.push(b';')?)
 }
 
-/// Fails where a row does not hold: calls, a change from outside, calls behind it, and their answers.
-fn hold_row(rt: &HostRuntime, row: &str) -> Result<(), Fail> {
-    let (before, rest) = cut(row);
-    let (change, rest) = cut(rest);
-    let (calls, wanted) = cut(rest);
-    let all = answers_behind(rt, before, change, calls)?;
+/// Adds what a folder answers to calls.
+fn call_all<F: Folder>(
+    alloc: Global,
+    folder: &mut F,
+    steps: &str,
+    all: &mut Vec<u8>,
+) -> Result<(), Fail> {
+    for step in steps.split(';') {
+        call(alloc, folder, step, all)?;
+    }
+    Ok(())
+}
+
+/// Fails where something else was answered than is wanted.
+fn is_answered(wanted: &str, all: Vec<u8>) -> Result<(), Fail> {
+    let all = String::from_utf8(all)?;
     if all.as_str() == wanted {
         Ok(())
     } else {
-        Err(Fail::new(row))
+        Err(Fail::new(all.as_str()))
     }
 }
 
-const CHANGES: &str = r#"
-# Folders above the file were met.
-list d;read d/e/a => remove all => read d/e/a;list d/e;write d/e/a;read d/e/a => 11;;ok;hello;
-list d;read d/e/a => link above => list d/e;read d/e/a;remove d/e/a => 14;10;10;
-# It was listed just before: it is read as long as it was, once.
-list d/e/a => grow => read d/e/a;read d/e/a;part d/e/a => hello;13;lo world;
-list d/e/a => shrink => read d/e/a;read d/e/a => he;he;
-list d/e/a => unlink => read d/e/a;write d/e/a => 11;ok;
-list d/e/a => folder => part d/e/a;write d/e/a => 11;ok;
-list d/e/a => remove all => part d/e/a => 11;
-list d/e/z => remove all => part d/e/z => 11;
-list d/e/z => link above => read d/e/z => 10;
-list d/e/a => file above => read d/e/a => 12;
-list d/e/a => link above => read d/e/a => 10;
-# Any other call in between ends that.
-list d/e/a;read b => grow => read d/e/a => 13;
-list d/e/a;part b => grow => read d/e/a => 13;
-list d/e/a;write b => grow => read d/e/a => 13;
-list d/e/a;remove b => grow => read d/e/a => 13;
-list d/e/a;list d => grow => read d/e/a => 13;
-list d/e/a;list b => grow => read d/e/a => 13;
-"#;
+/// What an empty folder in memory answers.
+fn in_memory(alloc: Global, steps: &str) -> Result<Vec<u8>, Fail> {
+    let mut all = Vec::new(alloc);
+    call_all(alloc, &mut MemoryFolder::new(alloc), steps, &mut all)?;
+    Ok(all)
+}
 
-#[test]
-fn sees_changes_from_outside(rt: HostRuntime) -> Result<(), Fail> {
-    for row in CHANGES.split('\n') {
-        if !row.is_empty() && !row.starts_with('#') {
-            hold_row(&rt, row)?;
-        }
+/// Fails at the first row that an empty folder in memory answers otherwise.
+fn hold_in_memory(alloc: Global, rows: &[Row<'_>]) -> Result<(), Fail> {
+    for (steps, wanted) in rows {
+        is_answered(wanted, in_memory(alloc, steps)?)?;
     }
-    Ok(fs::remove_dir_all(&rt, "changed")?)
-}
-
-#[test]
-fn opens_no_device(rt: HostRuntime) -> Result<(), Fail> {
-    let calls = "list null;read null;part null;remove null/a";
-    assert_eq!(rt; at_path(&rt, "/dev", calls)?.as_str(), "14;10;10;10;");
     Ok(())
 }
 
-#[test]
-fn another_name_keeps_its_bytes(rt: HostRuntime) -> Result<(), Fail> {
-    renew(&rt, "other_name")?;
-    fs::write(&rt, "other_name/source", "1")?;
-    fs::hard_link(&rt, "other_name/source", "other_name/out")?;
-    let calls = "write out;read out;read source";
-    assert_eq!(rt; on_disk(&rt, "other_name", calls)?.as_str(), "ok;hello;1;");
+/// Changes from outside what stands at a path. A `name` is a further one of the file at the path in the text.
+fn change(rt: &HostRuntime, word: &str, path: &str, text: &str) -> io::Result<()> {
+    match word {
+        "!make" => fs::create_dir_all(rt, path),
+        "!put" => fs::write(rt, path, text),
+        "!link" => symlink(rt, text, path),
+        "!name" => fs::hard_link(rt, text, path),
+        "!unlink" => fs::remove_file(rt, path),
+        _ => fs::remove_dir_all(rt, path),
+    }
+}
+
+/// Changes the folder at a path by a step.
+fn change_in(rt: &HostRuntime, folder: &str, step: &str) -> Result<(), Fail> {
+    let (word, rest) = cut(step);
+    let (place, text) = cut(rest);
+    let path = format!(in rt.alloc(); "{folder}/{place}")?;
+    Ok(change(rt, word, path.as_str(), text)?)
+}
+
+/// Changes the folder at a path from outside, or adds what it answers to a call.
+fn take_step(
+    rt: &HostRuntime,
+    path: &str,
+    folder: &mut DiskFolder<&HostRuntime>,
+    step: &str,
+    all: &mut Vec<u8>,
+) -> Result<(), Fail> {
+    if step.starts_with('!') {
+        change_in(rt, path, step)
+    } else {
+        call(rt.alloc(), folder, step, all)
+    }
+}
+
+/// Adds what the folder at a path answers to steps.
+fn take_steps(
+    rt: &HostRuntime,
+    path: &str,
+    folder: &mut DiskFolder<&HostRuntime>,
+    steps: &str,
+    all: &mut Vec<u8>,
+) -> Result<(), Fail> {
+    for step in steps.split(';') {
+        take_step(rt, path, folder, step, all)?;
+    }
     Ok(())
 }
 
-#[test]
-fn names_that_are_no_segments(rt: HostRuntime) -> Result<(), Fail> {
-    renew(&rt, "odd_names")?;
-    fs::create_dir(&rt, "odd_names/d")?;
-    fs::write(&rt, "odd_names/d/x\x7f", "1")?;
-    let calls = "list d;read d;write d;remove d;write d/y;read d/y";
-    assert_eq!(rt;
-        on_disk(&rt, "odd_names", calls)?.as_str(),
-        "14;10;10;10;ok;hello;"
-    );
+/// What the folder at a path answers.
+fn on_disk(rt: &HostRuntime, path: &str, steps: &str) -> Result<Vec<u8>, Fail> {
+    let mut folder = DiskFolder::new(rt, String::from_str(rt.alloc(), path)?);
+    let mut all = Vec::new(rt.alloc());
+    take_steps(rt, path, &mut folder, steps, &mut all)?;
+    Ok(all)
+}
+
+/// Makes a folder of this name anew, and changes it.
+fn renew(rt: &HostRuntime, name: &str, changes: &[&str]) -> Result<(), Fail> {
+    if fs::exists(rt, name)? {
+        fs::remove_dir_all(rt, name)?;
+    }
+    fs::create_dir(rt, name)?;
+    for step in changes {
+        change_in(rt, name, step)?;
+    }
     Ok(())
 }
 
-/// The number of the fault of these names, or none.
-fn name_fault(alloc: Global, names: &[u8]) -> Result<Option<u16>, Fail> {
-    let folder = Place::read(alloc, "d")?;
-    Ok(
-        places_in(alloc, &folder, names)
-            .err()
-            .map(|fault| fault.number()),
-    )
+/// Fails at the first row that a folder of this name answers otherwise, made anew and changed before each.
+fn hold_on_disk(
+    rt: &HostRuntime,
+    name: &str,
+    changes: &[&str],
+    rows: &[Row<'_>],
+) -> Result<(), Fail> {
+    for (steps, wanted) in rows {
+        renew(rt, name, changes)?;
+        is_answered(wanted, on_disk(rt, name, steps)?)?;
+    }
+    Ok(fs::remove_dir_all(rt, name)?)
 }
+
+const ALIKE: [Row<'static>; 4] = [
+    // Files are read, whole and in part.
+    (
+        "read a;write a;read a;read4 a;read a/b;read b;part a;far a;part b;part a/b",
+        "11;ok;hello;13;12;11;lo;;11;12;",
+    ),
+    // A file is in the way of others, as a folder with files is.
+    (
+        "write a;write src/b;write a/b;write a/b/c;write src;write4 c;write srcx;write a;read c",
+        "ok;ok;12;12;12;13;ok;ok;11;",
+    ),
+    // A folder goes with its last file.
+    (
+        "write src/b;remove b;remove src;remove src/b/c;remove src/b;remove src/b;remove src;\
+         write src;list src",
+        "ok;11;12;12;ok;11;11;ok;src ;",
+    ),
+    // Places are listed in byte order.
+    (
+        "write o/a/b;write ox;write o/a.c;write o/a-b;list o;list o/a;list ox;list q;list ox/q",
+        "ok;ok;ok;ok;o/a-b o/a.c o/a/b ;o/a/b ;ox ;;;",
+    ),
+];
 
 #[test]
-fn names_that_are_no_texts(rt: HostRuntime) -> Result<(), Fail> {
-    assert_eq!(rt; name_fault(rt.alloc(), b".\0..\0b\0")?, None);
-    assert_eq!(rt; name_fault(rt.alloc(), b"a\0b\xff\0")?, Some(14));
-    Ok(())
+fn folders_answer_alike(rt: HostRuntime) -> Result<(), Fail> {
+    hold_in_memory(rt.alloc(), &ALIKE)?;
+    hold_on_disk(&rt, "alike", &[], &ALIKE)
 }
 
-/// Five segments and four slashes: 968 bytes above the last segment, and this segment.
-fn long_place(alloc: Global, last: &str) -> Result<String, Fail> {
-    let long = "a".repeat(alloc, 255)?;
-    let middle = "b".repeat(alloc, 200)?;
-    Ok(format!(in alloc; "{long}/{long}/{long}/{middle}/{last}")?)
+const ODD: [Row<'static>; 6] = [
+    // Folders without files give way.
+    (
+        "!make e/f/g;!make e/h;list e;read e;remove e;write e;list e;read e",
+        ";11;11;ok;e ;hello;",
+    ),
+    // No link is followed at the place, above it or beneath the root.
+    (
+        "!put a 1;!link l a;list l;read l;part l;write l;remove l;read a",
+        "14;10;10;10;10;1;",
+    ),
+    (
+        "!make real/d;!put real/d/a 1;!link l real;\
+         list l/d;read l/d/a;part l/d/a;write l/b;remove l/d/a;list real",
+        "14;10;10;10;10;real/d/a ;",
+    ),
+    (
+        "!make d;!link d/l ..;list d;read d;write d;remove d;write d/a;read d/a;read d/l;read d/l/a",
+        "14;10;10;10;ok;hello;10;10;",
+    ),
+    // Another name of a file keeps its bytes.
+    (
+        "!put source 1;!name out odd/source;write out;read out;read source",
+        "ok;hello;1;",
+    ),
+    // A name is no segment.
+    (
+        "!make d;!put d/x\x7f 1;list d;read d;write d;remove d;write d/y;read d/y",
+        "14;10;10;10;ok;hello;",
+    ),
+];
+
+#[test]
+fn odd_folders_are_answered(rt: HostRuntime) -> Result<(), Fail> {
+    hold_on_disk(&rt, "odd", &[], &ODD)
+}
+
+/// What makes a folder that is changed: a file of five bytes and an empty one.
+const BEFORE: [&str; 3] = ["!make d/e", "!put d/e/a hello", "!put d/e/z"];
+
+const CHANGES: [Row<'static>; 17] = [
+    // Folders above the file were met.
+    (
+        "list d;read d/e/a;!clear d;read d/e/a;list d/e;write d/e/a;read d/e/a",
+        "d/e/a d/e/z ;hello;11;;ok;hello;",
+    ),
+    (
+        "list d;read d/e/a;!clear d;!link d nowhere;list d/e;read d/e/a;remove d/e/a",
+        "d/e/a d/e/z ;hello;14;10;10;",
+    ),
+    // It was listed just before: it is read as long as it was, once.
+    (
+        "list d/e/a;!put d/e/a hello world;read d/e/a;read d/e/a;part d/e/a",
+        "d/e/a ;hello;13;lo world;",
+    ),
+    (
+        "list d/e/a;!put d/e/a he;read d/e/a;read d/e/a",
+        "d/e/a ;he;he;",
+    ),
+    (
+        "list d/e/a;!unlink d/e/a;read d/e/a;write d/e/a",
+        "d/e/a ;11;ok;",
+    ),
+    (
+        "list d/e/a;!clear d;!make d/e/a;part d/e/a;write d/e/a",
+        "d/e/a ;11;ok;",
+    ),
+    ("list d/e/a;!clear d;part d/e/a", "d/e/a ;11;"),
+    ("list d/e/z;!clear d;part d/e/z", "d/e/z ;11;"),
+    (
+        "list d/e/z;!clear d;!link d nowhere;read d/e/z",
+        "d/e/z ;10;",
+    ),
+    ("list d/e/a;!clear d;!put d 1;read d/e/a", "d/e/a ;12;"),
+    (
+        "list d/e/a;!clear d;!link d nowhere;read d/e/a",
+        "d/e/a ;10;",
+    ),
+    // Any other call in between ends that.
+    (
+        "list d/e/a;read b;!put d/e/a hello world;read d/e/a",
+        "d/e/a ;11;13;",
+    ),
+    (
+        "list d/e/a;part b;!put d/e/a hello world;read d/e/a",
+        "d/e/a ;11;13;",
+    ),
+    (
+        "list d/e/a;write b;!put d/e/a hello world;read d/e/a",
+        "d/e/a ;ok;13;",
+    ),
+    (
+        "list d/e/a;remove b;!put d/e/a hello world;read d/e/a",
+        "d/e/a ;11;13;",
+    ),
+    (
+        "list d/e/a;list d;!put d/e/a hello world;read d/e/a",
+        "d/e/a ;d/e/a d/e/z ;13;",
+    ),
+    (
+        "list d/e/a;list b;!put d/e/a hello world;read d/e/a",
+        "d/e/a ;;13;",
+    ),
+];
+
+#[test]
+fn changes_from_outside_are_seen(rt: HostRuntime) -> Result<(), Fail> {
+    hold_on_disk(&rt, "changed", &BEFORE, &CHANGES)
+}
+
+/// How long a place is, steps at it, as `LONG`, and at its first segment, as `FIRST`, and what is answered.
+type LongRow = (usize, &'static str, &'static str);
+
+const LONG: [LongRow; 2] = [
+    (1024, "write LONG;read LONG", "ok;hello;"),
+    (1025, "!make LONG;list FIRST", "14;"),
+];
+
+/// A place of so many bytes, the first of those with segments of 255, 255, 255, 200 and more bytes.
+fn long_place(alloc: Global, len: usize) -> Result<String, AllocError> {
+    let mut place = String::new(alloc);
+    for at in 0..len {
+        let ends_a_segment = [255, 511, 767, 968].contains(&at);
+        place.push(if ends_a_segment { '/' } else { 'a' })?;
+    }
+    Ok(place)
+}
+
+/// The steps with a place of so many bytes for a word.
+fn steps_at(alloc: Global, steps: &str, word: &str, len: usize) -> Result<String, Fail> {
+    let place = long_place(alloc, len)?;
+    if place.len() == len {
+        Ok(steps.replace(alloc, word, place.as_str())?)
+    } else {
+        Err(Fail::new(len))
+    }
+}
+
+/// Fails where a new folder answers a row otherwise.
+fn hold_long(rt: &HostRuntime, row: &LongRow) -> Result<(), Fail> {
+    let (len, steps, wanted) = row;
+    let steps = steps_at(rt.alloc(), steps, "LONG", *len)?;
+    let steps = steps_at(rt.alloc(), steps.as_str(), "FIRST", 255)?;
+    hold_on_disk(rt, "long", &[], &[(steps.as_str(), wanted)])
 }
 
 #[test]
 fn places_have_at_most_1_024_bytes(rt: HostRuntime) -> Result<(), Fail> {
-    let last = "c".repeat(rt.alloc(), 55)?;
-    let longest = long_place(rt.alloc(), last.as_str())?;
-    let calls = format!(in rt.alloc(); "write {longest};read {longest}")?;
-    assert_eq!(rt; longest.len(), 1024);
-    assert_eq!(rt;
-        on_new(&rt, "longest_place", calls.as_str())?.as_str(),
-        "ok;hello;"
-    );
+    for row in &LONG {
+        hold_long(&rt, row)?;
+    }
     Ok(())
 }
 
+/// Paths of folders that are not made, steps, and what is answered to them.
+const PATHS: [(&str, &str, &str); 2] = [
+    // No device is opened.
+    (
+        "/dev",
+        "list null;read null;part null;remove null/a",
+        "14;10;10;10;",
+    ),
+    ("no_such_folder", "list a;read a;write a", ";11;10;"),
+];
+
 #[test]
-fn a_path_of_1_025_bytes_is_no_place(rt: HostRuntime) -> Result<(), Fail> {
-    renew(&rt, "long_path")?;
-    let last = "c".repeat(rt.alloc(), 56)?;
-    let long = format!(in rt.alloc(); "long_path/{}", long_place(rt.alloc(), last.as_str())?)?;
-    fs::create_dir_all(&rt, long.as_str())?;
-    let calls = format!(in rt.alloc(); "list {}", "a".repeat(rt.alloc(), 255)?)?;
-    assert_eq!(rt; on_disk(&rt, "long_path", calls.as_str())?.as_str(), "14;");
+fn folders_that_are_not_made_are_answered(rt: HostRuntime) -> Result<(), Fail> {
+    for (path, steps, wanted) in &PATHS {
+        is_answered(wanted, on_disk(&rt, path, steps)?)?;
+    }
     Ok(())
 }
 
-#[test]
-fn a_missing_folder_fails(rt: HostRuntime) -> Result<(), Fail> {
-    assert_eq!(rt;
-        at_path(&rt, "no_such_folder", "list a;read a;write a")?.as_str(),
-        ";11;10;"
-    );
-    Ok(())
+/// Names of entries of a folder `d`, and the places or the fault that they tell.
+const NAMES: [(&[u8], &str); 2] = [(b".\0..\0b\0", "d/b "), (b"a\0b\xff\0", "14")];
+
+fn places_told(alloc: Global, folder: &Place, names: &[u8]) -> Result<Vec<u8>, FolderFault> {
+    told(alloc, places_in(alloc, folder, names)?.as_slice())
+}
+
+fn names_told(alloc: Global, names: &[u8]) -> Result<Vec<u8>, Fail> {
+    let folder = Place::read(alloc, "d")?;
+    Ok(shown(alloc, places_told(alloc, &folder, names))?)
 }
 
 #[test]
-fn a_device_fails_once(rt: HostRuntime) -> Result<(), Fail> {
-    let calls = "write a;list a;read a;part a;write a;remove a;remove a";
-    let all = on_failing(rt.alloc(), 6, FaultMode::FailOnce, calls, "read a")?;
-    assert_eq!(rt; all.as_str(), "ok;a ;hello;lo;ok;10;ok;11;");
+fn names_tell_places(rt: HostRuntime) -> Result<(), Fail> {
+    for (names, wanted) in &NAMES {
+        is_answered(wanted, names_told(rt.alloc(), names)?)?;
+    }
     Ok(())
 }
 
-#[test]
-fn a_device_stops(rt: HostRuntime) -> Result<(), Fail> {
-    let calls = "write a;list a;read a;part a;write b;remove a";
-    let all = on_failing(rt.alloc(), 2, FaultMode::Stop, calls, "read a;read b")?;
-    assert_eq!(rt; all.as_str(), "ok;10;10;10;10;10;hello;11;");
-    Ok(())
+/// How a device fails: `once`, it stops, or it stops within a write, which is `torn`.
+fn mode(alloc: Global, word: &str) -> Result<FaultMode, AllocError> {
+    Ok(match word {
+        "once" => FaultMode::FailOnce,
+        "stop" => FaultMode::Stop,
+        _ => FaultMode::StopTorn(b"he".to_vec(alloc)?),
+    })
+}
+
+/// How a device fails and at which call, steps, steps for what it leaves, and what is answered to both.
+type FailingRow = (&'static str, u64, &'static str, &'static str, &'static str);
+
+const FAILING: [FailingRow; 5] = [
+    (
+        "once",
+        6,
+        "write a;list a;read a;part a;write a;remove a;remove a",
+        "read a",
+        "ok;a ;hello;lo;ok;10;ok;11;",
+    ),
+    (
+        "stop",
+        2,
+        "write a;list a;read a;part a;write b;remove a",
+        "read a;read b",
+        "ok;10;10;10;10;10;hello;11;",
+    ),
+    (
+        "torn",
+        2,
+        "write a;write b;write c;read b",
+        "read a;read b;read c",
+        "ok;10;10;10;hello;he;11;",
+    ),
+    // A torn write that is refused leaves nothing.
+    (
+        "torn",
+        2,
+        "write a;write a/b",
+        "read a;read a/b",
+        "ok;10;hello;12;",
+    ),
+    // Only the first call that fails is torn.
+    (
+        "torn",
+        2,
+        "write a;read a;write a",
+        "read a",
+        "ok;10;10;hello;",
+    ),
+];
+
+/// What a folder in memory answers whose device fails, and then what it left.
+fn on_failing(alloc: Global, row: &FailingRow) -> Result<Vec<u8>, Fail> {
+    let (word, at, steps, steps_after, _) = row;
+    let mode = mode(alloc, word)?;
+    let mut folder = FaultyFolder::new(MemoryFolder::new(alloc), *at, mode);
+    let mut all = Vec::new(alloc);
+    call_all(alloc, &mut folder, steps, &mut all)?;
+    call_all(alloc, &mut folder.into_inner(), steps_after, &mut all)?;
+    Ok(all)
 }
 
 #[test]
-fn a_device_stops_within_a_write(rt: HostRuntime) -> Result<(), Fail> {
-    let torn = FaultMode::StopTorn(b"he".to_vec(rt.alloc())?);
-    let calls = "write a;write b;write c;read b";
-    let all = on_failing(rt.alloc(), 2, torn, calls, "read a;read b;read c")?;
-    assert_eq!(rt; all.as_str(), "ok;10;10;10;hello;he;11;");
-    Ok(())
-}
-
-#[test]
-fn a_torn_write_that_is_refused_leaves_nothing(rt: HostRuntime) -> Result<(), Fail> {
-    let torn = FaultMode::StopTorn(b"he".to_vec(rt.alloc())?);
-    let all = on_failing(rt.alloc(), 2, torn, "write a;write a/b", "read a;read a/b")?;
-    assert_eq!(rt; all.as_str(), "ok;10;hello;12;");
-    Ok(())
-}
-
-#[test]
-fn only_the_first_call_that_fails_is_torn(rt: HostRuntime) -> Result<(), Fail> {
-    let torn = FaultMode::StopTorn(b"he".to_vec(rt.alloc())?);
-    let all = on_failing(rt.alloc(), 2, torn, "write a;read a;write a", "read a")?;
-    assert_eq!(rt; all.as_str(), "ok;10;10;hello;");
+fn devices_that_fail_are_told(rt: HostRuntime) -> Result<(), Fail> {
+    for row in &FAILING {
+        is_answered(row.4, on_failing(rt.alloc(), row)?)?;
+    }
     Ok(())
 }

@@ -4,8 +4,8 @@
 #[cfg(test)]
 mod deciding;
 #[cfg(test)]
-mod histories;
-#[cfg(test)]
 mod sample;
 #[cfg(test)]
 mod tests;
+#[cfg(test)]
+mod texts;

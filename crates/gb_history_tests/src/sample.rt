@@ -1,10 +1,7 @@
-//! Values and records that several tests speak of.
-ghost use Rattle.std.specs.Prelude.{◌<◌, length};
-
+//! Records that are made, and what is wanted of answers.
 use gb_action::output::Form;
 use gb_action::values::{Arguments, NamedValues};
 use gb_core::name::Name;
-use gb_core::path::TaskPath;
 use gb_core::place::{Place, RelPath};
 use gb_core::text::Text;
 use gb_core::value::Value;
@@ -15,89 +12,59 @@ use sha2::{Digest, Sha256};
 use std::alloc::{AllocError, Global};
 use std::test::Fail;
 
-pub fn name(alloc: Global, text: &str) -> Result<Name, Fail> {
-    Name::read(alloc, text).map_err(|_| Fail::from("a name"))
+/// Fails where something else was answered than is wanted.
+pub fn is_answered(wanted: &str, answer: &[u8]) -> Result<(), Fail> {
+    if answer == wanted.as_bytes() {
+        Ok(())
+    } else {
+        Err(Fail::new(std::str::from_utf8(answer)?))
+    }
 }
 
-/// The path of a task.
-pub fn task(alloc: Global, text: &str) -> Result<TaskPath, Fail> {
-    TaskPath::read(alloc, text).map_err(|_| Fail::from("a path"))
+fn arguments(alloc: Global) -> Result<Arguments, AllocError> {
+    let mut arguments = Arguments::new(alloc);
+    arguments.push(Value::Text(Text::from_str(alloc, "abc")?))?;
+    Ok(arguments)
 }
 
-fn path(alloc: Global, text: &str) -> Result<RelPath, Fail> {
-    RelPath::read(alloc, text).map_err(|_| Fail::from("a path"))
-}
-
-fn place(alloc: Global, text: &str) -> Result<Place, Fail> {
-    Place::read(alloc, text).map_err(|_| Fail::from("a place"))
-}
-
-pub fn text_value(alloc: Global, text: &str) -> Result<Value, AllocError> {
-    Ok(Value::Text(Text::from_str(alloc, text)?))
-}
-
-fn argument(alloc: Global, text: &str) -> Result<Arguments, AllocError> {
-    let mut args = Arguments::new(alloc);
-    args.push(text_value(alloc, text)?)?;
-    Ok(args)
-}
-
-/// An action with one argument.
-pub fn action(alloc: Global, kind: &str, version: u32, text: &str) -> Result<Action, Fail> {
-    let kind = name(alloc, kind)?;
-    let args = argument(alloc, text)?;
+/// The action that writes `abc`.
+fn action(alloc: Global) -> Result<Action, Fail> {
+    let kind = Name::read(alloc, "writeText")?;
     Ok(Action {
         kind,
-        version,
-        args,
+        version: 1,
+        args: arguments(alloc)?,
     })
 }
 
-/// The digest of one file.
-pub fn prints(alloc: Global, property: &str, file: &str, content: &str) -> Result<Prints, Fail> {
-    let name = name(alloc, property)?;
-    let digests = vec![in alloc; (path(alloc, file)?, Sha256::digest(content))]?;
-    Ok(Prints::new(name, digests))
+/// The one file of the output `out`.
+fn prints(alloc: Global) -> Result<Prints, Fail> {
+    let name = Name::read(alloc, "out")?;
+    let path = RelPath::read(alloc, "")?;
+    Ok(Prints::new(name, vec![in alloc; (path, Sha256::digest("abc"))]?))
 }
 
-/// An output at a place.
-pub fn output(alloc: Global, form: Form, at: &str, prints: Prints) -> Result<OutputRecord, Fail> {
-    let place = place(alloc, at)?;
+fn output(alloc: Global) -> Result<OutputRecord, Fail> {
+    let place = Place::read(alloc, "build/a.txt")?;
     Ok(OutputRecord {
-        form,
+        form: Form::File,
         place,
-        prints,
+        prints: prints(alloc)?,
     })
 }
 
-fn text_output(alloc: Global) -> Result<OutputRecord, Fail> {
-    let prints = prints(alloc, "out", "", "abc")?;
-    output(alloc, Form::File, "build/a.txt", prints)
-}
-
-/// The record of a task that wrote `abc` to `build/a.txt`.
-pub fn worked(alloc: Global) -> Result<Record, Fail> {
-    let actions = vec![in alloc; action(alloc, "writeText", 1, "abc")?]?;
-    let outputs = vec![in alloc; text_output(alloc)?]?;
+/// Of a task that wrote `abc` to `build/a.txt`.
+fn worked(alloc: Global) -> Result<Record, Fail> {
+    let actions = vec![in alloc; action(alloc)?]?;
+    let outputs = vec![in alloc; output(alloc)?]?;
     Ok(Record::new(actions, NamedValues::new(alloc), Vec::new(alloc), outputs))
 }
 
-/// The record of a task that has nothing.
-pub fn empty(alloc: Global) -> Record {
-    Record::new(
-        Vec::new(alloc),
-        NamedValues::new(alloc),
-        Vec::new(alloc),
-        Vec::new(alloc),
-    )
-}
-
-/// The text with the byte at this place raised by one.
-pub fn raised(alloc: Global, text: &[u8], at: usize) -> Result<Vec<u8>, AllocError>
-    requires { at < length text.now }
-{
-    let mut raised = Vec::new(alloc);
-    raised.extend_from_slice(text)?;
-    raised[at] = text[at].wrapping_add(1);
-    Ok(raised)
+/// The record of a task that wrote `abc`, or of one that has nothing.
+pub fn record(alloc: Global, word: &str) -> Result<Record, Fail> {
+    if word == "wrote" {
+        return worked(alloc);
+    }
+    let (values, inputs) = (NamedValues::new(alloc), Vec::new(alloc));
+    Ok(Record::new(Vec::new(alloc), values, inputs, Vec::new(alloc)))
 }

@@ -1,180 +1,196 @@
-//! The text of a worked record, and texts of no record.
-use crate::sample::{raised, task, worked};
+//! What histories answer, and what is read from texts.
+ghost use Rattle.std.specs.Prelude.{◌<◌, length};
+
+use crate::sample::{is_answered, record};
+use crate::texts::{
+    BOTH, BOTH_FIRST, NO_HISTORIES, NO_RECORDS, NONE, NONE_FIRST, STORED, STORED_FIRST, THREE,
+};
 use gb_core::path::TaskPath;
 use gb_history::fault::RecordFault;
-use gb_history::record::Record;
+use gb_history::history::History;
 use gb_history::text::{read_record, record_text};
 use std::alloc::{AllocError, Global};
 use std::test::Fail;
 
-/// What stands after the first run of a task that writes `abc` to `build/a.txt`.
-const STORED: &str =
-    r#"{"form":2,"tasks":[{"actions":[{"args":[{"text":"abc"}],"kind":"writeText","version":1}],"files":[],"outputs":[{"name":"out","place":"build/a.txt","prints":[["","ba7816bf8f01cfea414140de5dae2223b00361a396177a9cb410ff61f20015ad"]],"shape":"file"}],"task":":gen","values":[]}]}
-2955006ca03804ff3c46a3e49b43bc5b2d2b745a1e2409659e8f6898a6c9c2bb
-"#;
-
-/// The same record in the first edition, which knows no versions.
-const STORED_FIRST: &str =
-    r#"{"form":1,"tasks":[{"actions":[{"args":[{"text":"abc"}],"kind":"writeText"}],"files":[],"outputs":[{"name":"out","place":"build/a.txt","prints":[["","ba7816bf8f01cfea414140de5dae2223b00361a396177a9cb410ff61f20015ad"]],"shape":"file"}],"task":":gen","values":[]}]}
-d075510cbf1b60d97c23d1462bc14617e7d32f2285ef1b385b1956761cf96c72
-"#;
-
-fn has_text(alloc: Global, path: &TaskPath, run: &Record) -> Result<bool, AllocError> {
-    let text = record_text(alloc, path, run)?;
-    Ok(text.as_slice() == STORED.as_bytes())
+/// Remembers a task that wrote, or one that has nothing.
+fn put(alloc: Global, history: &mut History, word: &str, path: &str) -> Result<(), Fail> {
+    let path = TaskPath::read(alloc, path)?;
+    Ok(history.put(path, record(alloc, word)?)?)
 }
 
-fn is_written(alloc: Global) -> Result<bool, Fail> {
-    let path = task(alloc, ":gen")?;
-    let run = worked(alloc)?;
-    Ok(has_text(alloc, &path, &run)?)
-}
-
-/// The record that is read from a text, written again.
-fn rewritten(alloc: Global, path: &TaskPath, text: &str) -> Result<Vec<u8>, AllocError> {
-    match read_record(alloc, path, text.as_bytes()) {
-        Ok(run) => record_text(alloc, path, &run),
-        Err(_) => Ok(Vec::new(alloc)),
-    }
-}
-
-/// Fails unless a text is read, and written in the second edition.
-fn is_read(alloc: Global, path: &TaskPath, text: &str) -> Result<(), Fail> {
-    if rewritten(alloc, path, text)?.as_slice() != STORED.as_bytes() {
-        return Err(Fail::new(text));
+/// Forgets a task, or sends a history through its text.
+fn turn(
+    alloc: Global,
+    history: &mut History,
+    task: &TaskPath,
+    word: &str,
+) -> Result<(), RecordFault> {
+    match word {
+        "forget" => history.forget(task),
+        _ => *history = history.through_text(alloc)?,
     }
     Ok(())
 }
 
-fn editions_are_read(alloc: Global, path: &TaskPath) -> Result<(), Fail> {
-    is_read(alloc, path, STORED)?;
-    is_read(alloc, path, STORED_FIRST)
-}
-
-fn is_refused(alloc: Global, path: &TaskPath, bytes: &[u8]) -> bool {
-    matches!(
-        read_record(alloc, path, bytes),
-        Err(RecordFault::NotARecord)
-    )
-}
-
-/// A good record of another task is no record.
-fn is_of_its_task(alloc: Global) -> Result<bool, Fail> {
-    let other = task(alloc, ":other")?;
-    Ok(is_refused(alloc, &other, STORED.as_bytes()))
-}
-
-/// No front of the text but itself is a record.
-fn fronts_are_refused(alloc: Global, path: &TaskPath, text: &[u8]) -> Result<(), Fail> {
-    for end in 0..text.len() {
-        if !is_refused(alloc, path, &text[..end]) {
-            return Err(Fail::new("a front is a record"));
-        }
+/// Takes a step: a word of [`turn`], or one of [`record`] and the path of a task.
+fn take_step(
+    alloc: Global,
+    history: &mut History,
+    task: &TaskPath,
+    step: &str,
+) -> Result<(), Fail> {
+    match step.split_once(' ') {
+        Some((word, path)) => put(alloc, history, word, path),
+        None => Ok(turn(alloc, history, task, step)?),
     }
-    Ok(())
 }
 
-/// No text with one byte raised by one is a record.
-fn raised_are_refused(alloc: Global, path: &TaskPath, text: &[u8]) -> Result<(), Fail> {
-    for at in 0..text.len() {
-        let other = raised(alloc, text, at)?;
-        if !is_refused(alloc, path, other.as_slice()) {
-            return Err(Fail::new("a raised text is a record"));
-        }
+/// A new history after these steps.
+fn history(alloc: Global, task: &TaskPath, steps: &[&str]) -> Result<History, Fail> {
+    let mut history = History::new(alloc);
+    for step in steps {
+        take_step(alloc, &mut history, task, step)?;
     }
-    Ok(())
+    Ok(history)
 }
 
-/// Texts with a good seal: other forms, numbers, keys, space, digests, places, names, and orders.
-fn others_are_refused(alloc: Global, path: &TaskPath) -> Result<(), Fail> {
-    for text in OTHERS.split('|') {
-        if !is_refused(alloc, path, text.as_bytes()) {
-            return Err(Fail::new(text));
-        }
+/// The text of a history, or of the last record of a task, or `none`.
+fn answer(
+    alloc: Global,
+    history: &History,
+    task: &TaskPath,
+    question: &str,
+) -> Result<Vec<u8>, AllocError> {
+    if question == "text" {
+        return history.text(alloc);
     }
-    Ok(())
+    match history.last(task) {
+        Some(run) => record_text(alloc, task, run),
+        None => b"none".to_vec(alloc),
+    }
 }
 
-fn all_are_refused(alloc: Global, path: &TaskPath) -> Result<(), Fail> {
-    fronts_are_refused(alloc, path, STORED.as_bytes())?;
-    raised_are_refused(alloc, path, STORED.as_bytes())?;
-    others_are_refused(alloc, path)
+/// What is done with a new history, what it is asked then, and what it answers.
+type Row = (&'static [&'static str], &'static str, &'static str);
+
+const HISTORIES: [Row; 11] = [
+    (&[], "text", NONE),
+    (&["wrote :gen"], "text", STORED),
+    (&["wrote :gen", "rests :lib:gen"], "text", BOTH),
+    (&["wrote :lib:gen", "rests :b", "rests :a"], "text", THREE),
+    // It goes through its text, and has the same.
+    (&["through"], "text", NONE),
+    (&["wrote :gen", "through"], "text", STORED),
+    (&["wrote :gen", "rests :lib:gen", "through"], "text", BOTH),
+    (
+        &["wrote :lib:gen", "rests :b", "rests :a", "through"],
+        "text",
+        THREE,
+    ),
+    // A record is kept until it is forgotten.
+    (&[], "last", "none"),
+    (&["wrote :gen"], "last", STORED),
+    (&["wrote :gen", "forget"], "last", "none"),
+];
+
+fn hold(alloc: Global, task: &TaskPath, row: &Row) -> Result<(), Fail> {
+    let (steps, question, wanted) = row;
+    let history = history(alloc, task, steps)?;
+    is_answered(wanted, answer(alloc, &history, task, question)?.as_slice())
 }
 
 #[test]
-fn a_record_has_its_text(rt: HostRuntime) -> Result<(), Fail> {
-    assert!(rt; is_written(rt.alloc())?);
+fn histories_answer(rt: HostRuntime) -> Result<(), Fail> {
+    let task = TaskPath::read(rt.alloc(), ":gen")?;
+    for row in &HISTORIES {
+        hold(rt.alloc(), &task, row)?;
+    }
     Ok(())
 }
+
+/// The history that is read from a text, written again.
+fn history_again(alloc: Global, bytes: &[u8]) -> Result<Vec<u8>, RecordFault> {
+    Ok(History::read(alloc, bytes)?.text(alloc)?)
+}
+
+/// The record of a task that is read from a text, written again. No path of a task is no memory.
+fn record_again(alloc: Global, task: &str, bytes: &[u8]) -> Result<Vec<u8>, RecordFault> {
+    let Ok(task) = TaskPath::read(alloc, task) else {
+        return Err(RecordFault::OutOfMemory);
+    };
+    let run = read_record(alloc, &task, bytes)?;
+    Ok(record_text(alloc, &task, &run)?)
+}
+
+/// Fails where something else is read from the text of a task, or from that of a history, which is `*`.
+fn is_read_as(alloc: Global, whose: &str, bytes: &[u8], wanted: &str) -> Result<(), Fail> {
+    let again = if whose == "*" {
+        history_again(alloc, bytes)
+    } else {
+        record_again(alloc, whose, bytes)
+    };
+    match again {
+        Ok(text) => is_answered(wanted, text.as_slice()),
+        Err(RecordFault::NotARecord) => is_answered(wanted, b"refused"),
+        Err(fault) => Err(Fail::new(fault)),
+    }
+}
+
+/// Whose text it is, the text, and what it is when it is read and written again.
+const READ: [(&str, &str, &str); 9] = [
+    (":gen", STORED, STORED),
+    (":gen", STORED_FIRST, STORED),
+    ("*", NONE, NONE),
+    ("*", NONE_FIRST, NONE),
+    ("*", STORED, STORED),
+    ("*", BOTH, BOTH),
+    ("*", BOTH_FIRST, BOTH),
+    ("*", THREE, THREE),
+    // A good record of another task is no record.
+    (":other", STORED, "refused"),
+];
 
 #[test]
 fn either_edition_is_read(rt: HostRuntime) -> Result<(), Fail> {
-    let path = task(rt.alloc(), ":gen")?;
-    editions_are_read(rt.alloc(), &path)
+    for (whose, text, wanted) in &READ {
+        is_read_as(rt.alloc(), whose, text.as_bytes(), wanted)?;
+    }
+    Ok(())
 }
 
-#[test]
-fn a_record_is_of_its_task(rt: HostRuntime) -> Result<(), Fail> {
-    assert!(rt; is_of_its_task(rt.alloc())?);
+fn are_refused(alloc: Global, whose: &str, texts: &[&str]) -> Result<(), Fail> {
+    for text in texts {
+        is_read_as(alloc, whose, text.as_bytes(), "refused")?;
+    }
     Ok(())
 }
 
 #[test]
-fn other_texts_are_no_records(rt: HostRuntime) -> Result<(), Fail> {
-    let path = task(rt.alloc(), ":gen")?;
-    all_are_refused(rt.alloc(), &path)
+fn other_texts_are_refused(rt: HostRuntime) -> Result<(), Fail> {
+    are_refused(rt.alloc(), ":gen", &NO_RECORDS)?;
+    are_refused(rt.alloc(), "*", &NO_HISTORIES)
 }
 
-/// Texts of no record of the task, parted by bars.
-const OTHERS: &str =
-    r#"{"form":3,"tasks":[{"actions":[{"args":[{"text":"abc"}],"kind":"writeText","version":1}],"files":[],"outputs":[{"name":"out","place":"build/a.txt","prints":[["","ba7816bf8f01cfea414140de5dae2223b00361a396177a9cb410ff61f20015ad"]],"shape":"file"}],"task":":gen","values":[]}]}
-6ebf2dd369ceb6a32d967ff2d2708804bfcbf510b74de4bf6f9f2a3397a8176a
-|{"form":1,"tasks":[{"actions":[{"args":[{"text":"abc"}],"kind":"writeText","version":1}],"files":[],"outputs":[{"name":"out","place":"build/a.txt","prints":[["","ba7816bf8f01cfea414140de5dae2223b00361a396177a9cb410ff61f20015ad"]],"shape":"file"}],"task":":gen","values":[]}]}
-d977b9b9d7923bb2314bb99d09332ee667ccf53d3857f21252b481a1fae5fc0b
-|{"form":2.0,"tasks":[{"actions":[{"args":[{"text":"abc"}],"kind":"writeText","version":1}],"files":[],"outputs":[{"name":"out","place":"build/a.txt","prints":[["","ba7816bf8f01cfea414140de5dae2223b00361a396177a9cb410ff61f20015ad"]],"shape":"file"}],"task":":gen","values":[]}]}
-4d48ec78b09bba53c8ff371d798e286ac566ca0fcf135848f88bb1ecc3eaf459
-|{"form":2,"tasks":[{"actions":[{"args":[{"text":"abc"}],"kind":"writeText","version":1.0}],"files":[],"outputs":[{"name":"out","place":"build/a.txt","prints":[["","ba7816bf8f01cfea414140de5dae2223b00361a396177a9cb410ff61f20015ad"]],"shape":"file"}],"task":":gen","values":[]}]}
-2b3de985c12438c3794d3330e81ea5438daed7664966169bcf0f9dbde1557f06
-|{"form":2,"tasks":[{"actions":[{"args":[{"text":"abc"}],"kind":"writeText","version":4294967296}],"files":[],"outputs":[{"name":"out","place":"build/a.txt","prints":[["","ba7816bf8f01cfea414140de5dae2223b00361a396177a9cb410ff61f20015ad"]],"shape":"file"}],"task":":gen","values":[]}]}
-12540a7b9f7a0a3fecc69648064cd421f051588e746845d288b9e234b830139a
-|{"form":2,"tasks":[{"actions":[{"args":[{"text":"abc"}],"kind":"writeText","version":-1}],"files":[],"outputs":[{"name":"out","place":"build/a.txt","prints":[["","ba7816bf8f01cfea414140de5dae2223b00361a396177a9cb410ff61f20015ad"]],"shape":"file"}],"task":":gen","values":[]}]}
-6a735d57aa627866e24b2326f62bf839b253341b381715e9652e6c9d99ec91bc
-|{"form":2,"tasks":[{"actions":[{"kind":"writeText","args":[{"text":"abc"}],"version":1}],"files":[],"outputs":[{"name":"out","place":"build/a.txt","prints":[["","ba7816bf8f01cfea414140de5dae2223b00361a396177a9cb410ff61f20015ad"]],"shape":"file"}],"task":":gen","values":[]}]}
-27b0e91b77344f2855aed8a996cdf03ce5aeb24efcf59b4004233699b920c3be
-|{"form":2,"tasks":[{"actions":[{"args":[{"text":"abc"}],"kind":"writeText","version":1,"version":1}],"files":[],"outputs":[{"name":"out","place":"build/a.txt","prints":[["","ba7816bf8f01cfea414140de5dae2223b00361a396177a9cb410ff61f20015ad"]],"shape":"file"}],"task":":gen","values":[]}]}
-af4ed22abe7f78f185c9f78aa03a71b122872be0f07f67ce2582671d05ea4920
-|{"form":2, "tasks":[{"actions":[{"args":[{"text":"abc"}],"kind":"writeText","version":1}],"files":[],"outputs":[{"name":"out","place":"build/a.txt","prints":[["","ba7816bf8f01cfea414140de5dae2223b00361a396177a9cb410ff61f20015ad"]],"shape":"file"}],"task":":gen","values":[]}]}
-a158b1972b3cb42b309c20c85c22ddfb2194abfe9099e000a73a2cf2d7f51680
-|{"form":2,"tasks":[{"actions":[{"args":[{"text":"abc"}],"kind":"writeText","version":1}],"files":[],"outputs":[{"name":"out","place":"build/a.txt","prints":[["","BA7816BF8F01CFEA414140DE5DAE2223B00361A396177A9CB410FF61F20015AD"]],"shape":"file"}],"task":":gen","values":[]}]}
-e8e98d542052e1cae07f06aecfda947388c8dfc2e70f6ed75ec794a18beecfa9
-|{"form":2,"tasks":[{"actions":[{"args":[{"text":"abc"}],"kind":"writeText","version":1}],"files":[],"outputs":[{"name":"out","place":"build//a.txt","prints":[["","ba7816bf8f01cfea414140de5dae2223b00361a396177a9cb410ff61f20015ad"]],"shape":"file"}],"task":":gen","values":[]}]}
-894eae95af7894ec65bf11097ec4b669e8fe501fa912c3637e31faebce2d7ce4
-|{"form":2,"tasks":[{"actions":[{"args":[{"text":"abc"}],"kind":"writeText","version":1}],"files":[],"outputs":[{"name":"out","place":"../a.txt","prints":[["","ba7816bf8f01cfea414140de5dae2223b00361a396177a9cb410ff61f20015ad"]],"shape":"file"}],"task":":gen","values":[]}]}
-b7b58062bb886abd1253d2a0ee9c727e23bed2a90ff8bc369479a9f7798d4b7e
-|{"form":2,"tasks":[{"actions":[{"args":[{"text":"abc"}],"kind":"1t","version":1}],"files":[],"outputs":[{"name":"out","place":"build/a.txt","prints":[["","ba7816bf8f01cfea414140de5dae2223b00361a396177a9cb410ff61f20015ad"]],"shape":"file"}],"task":":gen","values":[]}]}
-58284cf4bd205456af13ac1c55cc6e224c42000e145d9eac3bc5a9628edacad5
-|{"form":2,"tasks":[{"actions":[{"args":[{"text":"abc"}],"kind":"writeText","version":1}],"files":[],"outputs":[{"name":"","place":"build/a.txt","prints":[["","ba7816bf8f01cfea414140de5dae2223b00361a396177a9cb410ff61f20015ad"]],"shape":"file"}],"task":":gen","values":[]}]}
-0d8bd0eda2511eca2279bbb49bc115de6efd94c24a28fcc3e8aa9c6590beceee
-|{"form":2,"tasks":[{"actions":[{"args":[{"text":"abc"}],"kind":"writeText","version":1}],"files":[],"outputs":[{"name":"out","place":"build/a.txt","prints":[["b","ba7816bf8f01cfea414140de5dae2223b00361a396177a9cb410ff61f20015ad"],["a","ba7816bf8f01cfea414140de5dae2223b00361a396177a9cb410ff61f20015ad"]],"shape":"file"}],"task":":gen","values":[]}]}
-f9e66b02b82303f3ddb21011ebe243b6863a35afc713dfdd20cbeb90b2b5742a
-|{"form":2,"tasks":[{"actions":[{"args":[{"text":"abc"}],"kind":"writeText","version":1}],"files":[],"outputs":[{"name":"out","place":"build/a.txt","prints":[["a","ba7816bf8f01cfea414140de5dae2223b00361a396177a9cb410ff61f20015ad"],["a","ba7816bf8f01cfea414140de5dae2223b00361a396177a9cb410ff61f20015ad"]],"shape":"file"}],"task":":gen","values":[]}]}
-8442233209f6ae3346d0b5c180aebac8e2136c33ae962d658cf76ba5f9fe42f3
-|{"form":2,"tasks":[{"actions":[{"args":[{"text":"abc"}],"kind":"writeText","version":1}],"files":[],"outputs":[{"name":"out","place":"build/a.txt","prints":[["","ba7816bf8f01cfea414140de5dae2223b00361a396177a9cb410ff61f20015ad"]],"shape":"fil"}],"task":":gen","values":[]}]}
-96da42d93749a75d842b9246911c7b518cc5d8d83657ff2a400ca90a8fbdcc7e
-|{"form":2,"tasks":[{"actions":[{"args":[{"text":"abc"}],"kind":"writeText","version":1}],"files":[],"outputs":[{"name":"out","place":"build/a.txt","prints":[["","ba7816bf8f01cfea414140de5dae2223b00361a396177a9cb410ff61f20015ad"]],"shape":"file"}],"task":":other","values":[]}]}
-a7486c4dc3e0880c4b20461448f3d804232b46ab29b545b4132a342a3e34a2e6
-|{"form":2,"tasks":[{"actions":[{"args":[{"text":"abc"}],"kind":"writeText","version":1}],"files":[],"outputs":[{"name":"out","place":"build/a.txt","prints":[["","ba7816bf8f01cfea414140de5dae2223b00361a396177a9cb410ff61f20015ad"]],"shape":"file"}],"task":":gen","values":[],"x":[]}]}
-383110d9fd0c045de3f6be053c4105d52b876ca7e663222f4aa3c4b57185d792
-|{"form":2,"tasks":[{"actions":[{"args":[{"text":"abc"}],"kind":"writeText","version":1}],"files":[],"outputs":[{"name":"out","place":"build/a.txt","prints":[["","ba7816bf8f01cfea414140de5dae2223b00361a396177a9cb410ff61f20015ad"]],"shape":"file"}],"task":":gen","values":{}}]}
-15c43f310c4e635e366f2662b73a71b7f22648b0db9e1c5aa7e94c3222015e6b
-|{"form":2,"tasks":[{"actions":[{"args":[{"text":"abc","flag":true}],"kind":"writeText","version":1}],"files":[],"outputs":[{"name":"out","place":"build/a.txt","prints":[["","ba7816bf8f01cfea414140de5dae2223b00361a396177a9cb410ff61f20015ad"]],"shape":"file"}],"task":":gen","values":[]}]}
-ec57ba474150e736bf7e71570fe006886f1d52d2dc18f46be04a088aa183801e
-|{"form":2,"tasks":[{"actions":[{"args":[{"text":"abc"}],"kind":"writeText","version":1}],"files":[],"outputs":[{"name":"out","place":"build/a.txt","prints":[["","ba7816bf8f01cfea414140de5dae2223b00361a396177a9cb410ff61f20015ad"]],"shape":"file"}],"task":":gen","values":[["b",{"text":"x"}],["a",{"text":"y"}]]}]}
-ddd135c6fb3d7157d1b9bfe59ed7dee44ac90321e3bb702641ced9a58712f215
-|{"form":2,"tasks":[{"actions":[{"args":[{"text":"abc"}],"kind":"writeText","version":1}],"files":[],"outputs":[{"name":"out","place":"build/a.txt","prints":[["","ba7816bf8f01cfea414140de5dae2223b00361a396177a9cb410ff61f20015ad"]],"shape":"file"}],"task":":gen","values":[["a",{"text":"x"}],["a",{"text":"x"}]]}]}
-07838895c24cd513e8ed714d599f830c7670838d8b17f33d4face2f6b9cd207d
-|{"form":2,"tasks":[{"actions":[{"args":[{"text":"abc"}],"kind":"writeText","version":1}],"files":[{"name":"b","prints":[]},{"name":"a","prints":[]}],"outputs":[{"name":"out","place":"build/a.txt","prints":[["","ba7816bf8f01cfea414140de5dae2223b00361a396177a9cb410ff61f20015ad"]],"shape":"file"}],"task":":gen","values":[]}]}
-d48b63b807bb9ae8f2b60d4949557d18ecb5d3d92605db580c8aaa429a8c5c4a
-|{"form":2,"tasks":[{"actions":[{"args":[{"text":"abc"}],"kind":"writeText","version":1}],"files":[],"outputs":[{"name":"out","place":"build/a.txt","prints":[["","ba7816bf8f01cfea414140de5dae2223b00361a396177a9cb410ff61f20015ad"]],"shape":"file"},{"name":"a","place":"build/a.txt","prints":[["","ba7816bf8f01cfea414140de5dae2223b00361a396177a9cb410ff61f20015ad"]],"shape":"file"}],"task":":gen","values":[]}]}
-97fafa097e0b569911d8bf96b8d05bfd4f3351f798fd0bb4da170065c7d66a0b
-"#;
+/// Fails where a text is read with the byte at this place raised by one.
+fn raised_is_refused(alloc: Global, whose: &str, text: &[u8], at: usize) -> Result<(), Fail>
+    requires { at < length text.now }
+{
+    let mut raised = text.to_vec(alloc)?;
+    raised[at] = text[at].wrapping_add(1);
+    is_read_as(alloc, whose, raised.as_slice(), "refused")
+}
+
+/// Fails where a front of a text but itself is read, or the text with one byte raised by one.
+fn damaged_are_refused(alloc: Global, whose: &str, text: &[u8]) -> Result<(), Fail> {
+    for at in 0..text.len() {
+        is_read_as(alloc, whose, &text[..at], "refused")?;
+        raised_is_refused(alloc, whose, text, at)?;
+    }
+    Ok(())
+}
+
+#[test]
+fn damaged_texts_are_refused(rt: HostRuntime) -> Result<(), Fail> {
+    damaged_are_refused(rt.alloc(), ":gen", STORED.as_bytes())?;
+    damaged_are_refused(rt.alloc(), "*", BOTH.as_bytes())
+}

@@ -1,24 +1,23 @@
 //! The built-in actions, asked as a program asks them. An answer is shown as what it removes (`-`),
-//! writes (`+`) and prints (`>`), each ended by `;`.
+//! writes (`+`) and prints (`>`), each ended by `;`, or as the text that the action fails with.
 //!
 //! What is asked and shown stands in tables, so that no assertion stands where values live.
 ghost use Rattle.std.specs.Prelude.{◌≡◌, ℕ, List, ◌∷◌, [], map, true, IfOk};
 ghost use Rattle.gb_action.specs.Shapes.{source, target};
 ghost use Rattle.gb_action.specs.declared.output.Form.{Form};
-ghost use Rattle.gb_kinds.specs.Builtin.{builtin_shape};
+ghost use Rattle.gb_kinds.specs.Builtin.{builtin_shape, StandsFor};
 
 use gb_action::change::{Change, ChangeList, ChangeLists, InputChanges};
 use gb_action::files::Files;
 use gb_action::output::{Form, OutputFiles, OutputSnapshots};
-use gb_action::reply::{ActionFault, Reply, Written};
+use gb_action::reply::{ActionFault, Lines, Removals, Reply, Writes};
 use gb_action::request::Request;
 use gb_action::run::{accepts, incremental, run_action};
-use gb_action::shape::Fit;
+use gb_action::shape::{Fit, Shape};
 use gb_action::snapshot::{Snapshot, Snapshots};
 use gb_action::values::{Arguments, NamedValues};
 use gb_core::bytes::Bytes;
-use gb_core::name::Name;
-use gb_core::place::RelPath;
+use gb_core::place::{PlaceFault, RelPath};
 use gb_core::text::Text;
 use gb_core::value::Value;
 use gb_kinds::builtin::{Builtin, Run, StoredAction};
@@ -34,216 +33,194 @@ use std::alloc::{AllocError, Global};
 use std::str;
 use std::test::Fail;
 
-/// Arguments, files of `src`, files that stand in `out`, and changes, each ended by `;`, and what is shown
-/// of the answer. A file is `path=text`, and a change `A`, `M` or `R` with a path. With no changes it is a
-/// full request.
-type Row = (
-    &'static str,
-    &'static str,
-    &'static str,
-    &'static str,
-    &'static str,
-);
+/// The number of a kind, steps of [`take_step`] that tell the call, those that tell what changed, and what
+/// is shown of the answer. Steps have a `;` between them. Where nothing changed it is a full request.
+type Row = (u16, &'static str, &'static str, &'static str);
 
-/// The path and the text of `path=text`.
-fn parted(file: &str) -> (&str, &str) {
-    file.split_once('=').unwrap_or((file, ""))
+/// What an action is asked: its arguments, the files of `src`, those that stand in `out`, and the changes.
+#[derive(Drop)]
+struct Asked {
+    args: Arguments,
+    files: Files,
+    stood: Files,
+    changes: ChangeList,
 }
 
-/// Puts a file among the files.
-fn put(alloc: Global, files: &mut Files, path: &str, text: &str) -> Result<(), Fail> {
+/// What stands before a sign, and what stands behind it.
+fn cut(text: &str, sign: char) -> (&str, &str) {
+    text.split_once(sign).unwrap_or((text, ""))
+}
+
+/// Puts a file, as `path=text`, among the files.
+fn put(alloc: Global, files: &mut Files, file: &str) -> Result<(), PlaceFault> {
+    let (path, text) = cut(file, '=');
     let path = RelPath::read(alloc, path)?;
-    files.insert(path, Bytes::from_slice(alloc, text.as_bytes())?)?;
-    Ok(())
+    Ok(files.insert(path, Bytes::from_slice(alloc, text.as_bytes())?)?)
 }
 
-fn files_of(alloc: Global, texts: &str) -> Result<Files, Fail> {
-    let mut files = Files::new(alloc);
-    for file in texts.split_terminator(';') {
-        let (path, text) = parted(file);
-        put(alloc, &mut files, path, text)?;
-    }
-    Ok(files)
-}
-
-fn change_of(alloc: Global, change: &str) -> Result<Change, Fail> {
-    let (kind, path) = change.split_once(' ').unwrap_or((change, ""));
+/// Adds a change, whose kind is `A`, `M` or `R`.
+fn push_change(
+    alloc: Global,
+    changes: &mut ChangeList,
+    kind: &str,
+    path: &str,
+) -> Result<(), PlaceFault> {
     let path = RelPath::read(alloc, path)?;
-    Ok(match kind {
+    Ok(changes.push(match kind {
         "A" => Change::Added(path),
         "M" => Change::Modified(path),
         _ => Change::Removed(path),
-    })
+    })?)
 }
 
-fn push_change(alloc: Global, list: &mut ChangeList, change: &str) -> Result<(), Fail> {
-    let change = change_of(alloc, change)?;
-    list.push(change)?;
+/// Adds an argument, as `arg text`, a file of `src` or `out`, as `src path=text`, or a change, as `A path`.
+fn take_step(alloc: Global, asked: &mut Asked, step: &str) -> Result<(), PlaceFault> {
+    let (word, told) = cut(step, ' ');
+    match word {
+        "arg" => Ok(asked.args.push(Value::Text(Text::from_str(alloc, told)?))?),
+        "src" => put(alloc, &mut asked.files, told),
+        "out" => put(alloc, &mut asked.stood, told),
+        _ => push_change(alloc, &mut asked.changes, word, told),
+    }
+}
+
+fn take_steps(alloc: Global, asked: &mut Asked, steps: &str) -> Result<(), PlaceFault> {
+    for step in steps.split_terminator(';') {
+        take_step(alloc, asked, step)?;
+    }
     Ok(())
 }
 
-fn list_of(alloc: Global, changes: &str) -> Result<ChangeList, Fail> {
-    let mut list = ChangeList::new(alloc);
-    for change in changes.split_terminator(';') {
-        push_change(alloc, &mut list, change)?;
-    }
-    Ok(list)
-}
-
-fn push_arg(alloc: Global, args: &mut Arguments, text: &str) -> Result<(), AllocError> {
-    let text = Text::from_str(alloc, text)?;
-    args.push(Value::Text(text))
-}
-
-fn args_of(alloc: Global, texts: &str) -> Result<Arguments, AllocError> {
-    let mut args = Arguments::new(alloc);
-    for text in texts.split_terminator(';') {
-        push_arg(alloc, &mut args, text)?;
-    }
-    Ok(args)
-}
-
-fn snapshots_of(alloc: Global, files: &str) -> Result<Snapshots, Fail>
+fn snapshots_of(alloc: Global, files: Files) -> Result<Snapshots, AllocError>
     ensures { IfOk result (λ files. map (λ tree. tree.0) files ≡ source ∷ []) }
 {
-    let files = files_of(alloc, files)?;
     let name = source_name(alloc)?;
     let mut snapshots = Snapshots::new(alloc);
     snapshots.push(Snapshot::new(name, files))?;
     Ok(snapshots)
 }
 
-fn outputs_of(alloc: Global, form: Form, files: &str) -> Result<OutputSnapshots, Fail>
+fn outputs_of(alloc: Global, form: Form, files: Files) -> Result<OutputSnapshots, AllocError>
     ensures { IfOk result (λ outputs.
         map {B = List ℕ × Form} (λ output. (output.name, output.form)) outputs ≡ (target, form) ∷ []) }
 {
-    let files = files_of(alloc, files)?;
     let name = output_name(alloc)?;
     let mut outputs = OutputSnapshots::new(alloc);
     outputs.push(OutputFiles { name, form, files })?;
     Ok(outputs)
 }
 
-fn lists_of(alloc: Global, changes: &str) -> Result<ChangeLists, Fail> {
-    let list = list_of(alloc, changes)?;
+fn lists_of(alloc: Global, changes: ChangeList) -> Result<ChangeLists, AllocError> {
     let name = source_name(alloc)?;
     let mut lists = ChangeLists::new(alloc);
-    lists.push(name, list)?;
+    lists.push(name, changes)?;
     Ok(lists)
 }
 
-/// The changes, which an action that cannot answer them alone is not asked for.
-fn changes_of(alloc: Global, stored: &StoredAction, changes: &str) -> Result<InputChanges, Fail>
-    ensures { IfOk result (λ made.
-        made.incremental ≡ true → (builtin_shape stored.now.kind).incremental ≡ true) }
-{
-    let incremental = incremental::<Builtin>(stored) && !changes.is_empty();
-    let lists = lists_of(alloc, changes)?;
-    Ok(InputChanges { incremental, lists })
-}
-
-/// The request of a row, with these changes.
-fn request_of(alloc: Global, form: Form, row: &Row, changes: InputChanges) -> Result<Request, Fail>
+/// The request of a row, to a task whose output has this form.
+fn request_of(alloc: Global, form: Form, row: &Row) -> Result<Request, PlaceFault>
     ensures files { IfOk result (λ request. map (λ tree. tree.0) request.files ≡ source ∷ []) }
-    ensures outputs { IfOk result (λ request.
-        map {B = List ℕ × Form} (λ output. (output.name, output.form)) request.outputs ≡ (target, form) ∷ []) }
-    ensures changes { IfOk result (λ request. request.changes ≡ changes) }
+    ensures outputs { IfOk result (λ request. map {B = List ℕ × Form} (λ output. (output.name, output.form))
+        request.outputs ≡ (target, form) ∷ []) }
 {
-    let args = args_of(alloc, row.0)?;
-    let files = snapshots_of(alloc, row.1)?;
-    let outputs = outputs_of(alloc, form, row.2)?;
+    let mut asked = Asked {
+        args: Arguments::new(alloc),
+        files: Files::new(alloc),
+        stood: Files::new(alloc),
+        changes: ChangeList::new(alloc),
+    };
+    take_steps(alloc, &mut asked, row.1)?;
+    take_steps(alloc, &mut asked, row.2)?;
+    let Asked {
+        args,
+        files,
+        stood,
+        changes,
+    } = asked;
+    let files = snapshots_of(alloc, files)?;
+    let outputs = outputs_of(alloc, form, stood)?;
+    let lists = lists_of(alloc, changes)?;
     Ok(Request {
         args,
         values: NamedValues::new(alloc),
         files,
         outputs,
-        changes,
+        changes: InputChanges {
+            incremental: !row.2.is_empty(),
+            lists,
+        },
     })
 }
 
-/// Puts texts behind what is shown.
-fn push_all(shown: &mut String, texts: &[&str]) -> Result<(), AllocError> {
-    for text in texts {
-        shown.push_str(text)?;
+/// Puts a mark, two texts with a sign between them, and `;` behind what is shown.
+fn push_part(
+    shown: &mut String,
+    mark: &str,
+    left: &str,
+    sign: &str,
+    right: &str,
+) -> Result<(), AllocError> {
+    shown.push_str(mark)?;
+    shown.push_str(left)?;
+    shown.push_str(sign)?;
+    shown.push_str(right)?;
+    shown.push(';')
+}
+
+fn push_removes(shown: &mut String, removes: &Removals) -> Result<(), AllocError> {
+    for removed in removes.as_slice() {
+        push_part(shown, "-", removed.path.as_str(), "", "")?;
     }
     Ok(())
 }
 
-fn push_removes(shown: &mut String, reply: &Reply) -> Result<(), AllocError> {
-    for removed in reply.removes.as_slice() {
-        push_all(shown, &["-", removed.path.as_str(), ";"])?;
+fn push_writes(shown: &mut String, writes: &Writes) -> Result<(), AllocError> {
+    for file in writes.as_slice() {
+        let text = str::from_utf8(file.bytes.as_slice()).unwrap_or("no text");
+        push_part(shown, "+", file.path.as_str(), "=", text)?;
     }
     Ok(())
 }
 
-fn push_write(shown: &mut String, file: &Written) -> Result<(), Fail> {
-    let text = str::from_utf8(file.bytes.as_slice())?;
-    push_all(shown, &["+", file.path.as_str(), "=", text, ";"])?;
-    Ok(())
-}
-
-fn push_writes(shown: &mut String, reply: &Reply) -> Result<(), Fail> {
-    for file in reply.writes.as_slice() {
-        push_write(shown, file)?;
+fn push_lines(shown: &mut String, lines: &Lines) -> Result<(), AllocError> {
+    for line in lines.as_slice() {
+        push_part(shown, ">", line.as_str(), "", "")?;
     }
     Ok(())
 }
 
-fn push_lines(shown: &mut String, reply: &Reply) -> Result<(), AllocError> {
-    for line in reply.lines.as_slice() {
-        push_all(shown, &[">", line.as_str(), ";"])?;
-    }
-    Ok(())
+fn push_reply(shown: &mut String, reply: &Reply) -> Result<(), AllocError> {
+    push_removes(shown, &reply.removes)?;
+    push_writes(shown, &reply.writes)?;
+    push_lines(shown, &reply.lines)
 }
 
-fn show(alloc: Global, reply: &Reply) -> Result<String, Fail> {
-    let mut shown = String::new(alloc);
-    push_removes(&mut shown, reply)?;
-    push_writes(&mut shown, reply)?;
-    push_lines(&mut shown, reply)?;
-    Ok(shown)
-}
-
-fn show_fault(alloc: Global, fault: ActionFault) -> Result<String, Fail> {
-    let shown = format!(in alloc; "{fault}");
-    drop(fault);
-    Ok(shown?)
-}
-
-fn show_answer(alloc: Global, answer: Result<Reply, ActionFault>) -> Result<String, Fail> {
+fn show(alloc: Global, answer: &Result<Reply, ActionFault>) -> Result<String, AllocError> {
     match answer {
-        Ok(reply) => show(alloc, &reply),
-        Err(fault) => show_fault(alloc, fault),
+        Ok(reply) => {
+            let mut shown = String::new(alloc);
+            push_reply(&mut shown, reply)?;
+            Ok(shown)
+        }
+        Err(fault) => format!(in alloc; "{fault}"),
     }
 }
 
-/// The answer to a request by a task with these properties and outputs.
-fn ask_with(
-    alloc: Global,
-    stored: &StoredAction,
-    properties: &[Name],
-    outputs: &[(Name, Form)],
-    request: &Request,
-) -> Result<String, Fail>
-    requires files { map (λ tree. tree.0) request.now.files ≡ properties.now }
-    requires outputs { map {B = List ℕ × Form} (λ output. (output.name, output.form)) request.now.outputs
-        ≡ outputs.now }
-    requires changes { request.now.changes.incremental ≡ true
+/// Whether an action can answer a request, if it asks for changes alone.
+fn can_answer(stored: &StoredAction, request: &Request) -> bool
+    ensures { result ≡ true → request.now.changes.incremental ≡ true
         → (builtin_shape stored.now.kind).incremental ≡ true }
 {
-    match accepts::<Builtin>(stored, &request.args, properties, outputs) {
-        Fit::Yes => show_answer(alloc, run_action::<Builtin>(stored, alloc, request)),
-        _ => Ok(String::from_str(alloc, "no fit")?),
-    }
+    incremental::<Builtin>(stored) || !request.changes.is_incremental()
 }
 
-/// The answer to a request by a task with the property `src` and the output `out`.
-fn ask_named(
+/// What is shown of the answer to a request by a task with the property `src` and the output `out`.
+fn ask_stored(
     alloc: Global,
     stored: &StoredAction,
     form: Form,
     request: &Request,
-) -> Result<String, Fail>
+) -> Result<String, AllocError>
     requires files { map (λ tree. tree.0) request.now.files ≡ source ∷ [] }
     requires outputs { map {B = List ℕ × Form} (λ output. (output.name, output.form)) request.now.outputs
         ≡ (target, form) ∷ [] }
@@ -252,439 +229,309 @@ fn ask_named(
 {
     let properties = [source_name(alloc)?];
     let outputs = [(output_name(alloc)?, form)];
-    ask_with(alloc, stored, &properties, &outputs, request)
+    match accepts::<Builtin>(stored, &request.args, &properties, &outputs) {
+        Fit::Yes => show(alloc, &run_action::<Builtin>(stored, alloc, request)),
+        _ => String::from_str(alloc, "no fit"),
+    }
 }
 
-/// The answer to a row with these changes.
+/// What is shown of the answer to a request by the action of a closure.
 fn ask(
     alloc: Global,
-    stored: &StoredAction,
+    kind: u16,
+    run: Run,
+    shape: Result<Shape, AllocError>,
     form: Form,
-    row: &Row,
-    changes: &str,
-) -> Result<String, Fail> {
-    let changes = changes_of(alloc, stored, changes)?;
-    let request = request_of(alloc, form, row, changes)?;
-    ask_named(alloc, stored, form, &request)
-}
-
-/// Fails with what is shown where it is not this.
-fn is(shown: Result<String, Fail>, want: &str) -> Result<(), Fail> {
-    let shown = shown?;
-    if shown.as_str() != want {
-        return Err(Fail::new(shown.as_str()));
+    request: &Request,
+) -> Result<String, AllocError>
+    requires shaped { IfOk shape (λ shape. shape ≡ builtin_shape kind) }
+    requires stands { StandsFor kind (Run.pre run) (Run.post run) }
+    requires files { map (λ tree. tree.0) request.now.files ≡ source ∷ [] }
+    requires outputs { map {B = List ℕ × Form} (λ output. (output.name, output.form)) request.now.outputs
+        ≡ (target, form) ∷ [] }
+{
+    let stored = StoredAction::new(kind, 1, shape?, run);
+    if can_answer(&stored, request) {
+        ask_stored(alloc, &stored, form, request)
+    } else {
+        String::from_str(alloc, "no changes alone")
     }
-    Ok(())
 }
 
-/// Fails with the first answer that is not as wanted.
-fn are_answered(
-    alloc: Global,
-    stored: &StoredAction,
-    form: Form,
-    rows: &[Row],
-) -> Result<(), Fail> {
+/// Asks the kind of a number by a closure of the function that stands for it.
+macro_rules! ask_by {
+    ($alloc:expr, $form:expr, $request:expr; $kind:expr, $run:expr, $shape:expr) => {
+        ask($alloc, $kind, Box::new($alloc, $run)?, $shape($alloc), $form, $request)
+    };
+}
+
+/// What is shown of the answer to a request by a kind.
+fn ask_kind(alloc: Global, kind: u16, form: Form, request: &Request) -> Result<String, AllocError>
+    requires files { map (λ tree. tree.0) request.now.files ≡ source ∷ [] }
+    requires outputs { map {B = List ℕ × Form} (λ output. (output.name, output.form)) request.now.outputs
+        ≡ (target, form) ∷ [] }
+{
+    match kind {
+        COPY_FILES => ask_by!(alloc, form, request; COPY_FILES, copy_files, copy_files_shape),
+        REPLACE_TOKENS =>
+            ask_by!(alloc, form, request; REPLACE_TOKENS, replace_tokens, replace_tokens_shape),
+        KEEP_LINES => ask_by!(alloc, form, request; KEEP_LINES, keep_lines, keep_lines_shape),
+        SUMS => ask_by!(alloc, form, request; SUMS, sums, sums_shape),
+        CONCAT => ask_by!(alloc, form, request; CONCAT, concat, concat_shape),
+        ADD_FILE => ask_by!(alloc, form, request; ADD_FILE, add_file, add_file_shape),
+        WRITE_TEXT => ask_by!(alloc, form, request; WRITE_TEXT, write_text, write_text_shape),
+        FAIL => ask_by!(alloc, form, request; FAIL, fail, fail_shape),
+        WORD_INDEX => ask_by!(alloc, form, request; WORD_INDEX, word_index, word_index_shape),
+        _ => String::from_str(alloc, "no kind"),
+    }
+}
+
+/// What is shown of the answer to a row.
+fn answer(alloc: Global, row: &Row) -> Result<String, PlaceFault> {
+    let form = match row.0 {
+        CONCAT | WRITE_TEXT => Form::File,
+        _ => Form::Dir,
+    };
+    let request = request_of(alloc, form, row)?;
+    Ok(ask_kind(alloc, row.0, form, &request)?)
+}
+
+/// Fails with what is shown of the first row that is answered otherwise.
+fn hold(alloc: Global, rows: &[Row]) -> Result<(), Fail> {
     for row in rows {
-        is(ask(alloc, stored, form, row, row.3), row.4)?;
+        let shown = answer(alloc, row)?;
+        if shown.as_str() != row.3 {
+            return Err(Fail::new(shown.as_str()));
+        }
     }
     Ok(())
-}
-
-/// Each change alone, and all at once: `a` is modified, `b` gone, `c` made as it stands, and `d` new.
-const EACH: [(&str, &str); 5] = [
-    ("", "M a;"),
-    ("|", "R b;"),
-    ("|", "M c;"),
-    ("|", "A d;"),
-    ("|", "M a;R b;M c;A d;"),
-];
-
-/// Puts the answer to a row with these changes behind what is shown.
-fn push_answer(
-    alloc: Global,
-    stored: &StoredAction,
-    row: &Row,
-    changes: &str,
-    shown: &mut String,
-) -> Result<(), Fail> {
-    let answer = ask(alloc, stored, Form::Dir, row, changes)?;
-    shown.push_str(answer.as_str())?;
-    Ok(())
-}
-
-/// The answers to a row with each of these changes, each behind its bar.
-fn ask_each(
-    alloc: Global,
-    stored: &StoredAction,
-    row: &Row,
-    each: &[(&str, &str)],
-) -> Result<String, Fail> {
-    let mut shown = String::new(alloc);
-    for (bar, changes) in each {
-        shown.push_str(*bar)?;
-        push_answer(alloc, stored, row, changes, &mut shown)?;
-    }
-    Ok(shown)
-}
-
-/// Fails with the answers to each change and to all, where they are not as wanted.
-fn hold_each(alloc: Global, stored: &StoredAction, row: &Row) -> Result<(), Fail> {
-    is(ask_each(alloc, stored, row, &EACH), row.4)
-}
-
-fn hold_copy_files(alloc: Global, rows: &[Row]) -> Result<(), Fail> {
-    let shape = copy_files_shape(alloc)?;
-    let run: Run = Box::new(alloc, copy_files)?;
-    let stored = StoredAction::new(COPY_FILES, 1, shape, run);
-    are_answered(alloc, &stored, Form::Dir, rows)
-}
-
-fn hold_replace_tokens(alloc: Global, rows: &[Row]) -> Result<(), Fail> {
-    let shape = replace_tokens_shape(alloc)?;
-    let run: Run = Box::new(alloc, replace_tokens)?;
-    let stored = StoredAction::new(REPLACE_TOKENS, 1, shape, run);
-    are_answered(alloc, &stored, Form::Dir, rows)
-}
-
-fn hold_each_replace_tokens(alloc: Global, row: &Row) -> Result<(), Fail> {
-    let shape = replace_tokens_shape(alloc)?;
-    let run: Run = Box::new(alloc, replace_tokens)?;
-    let stored = StoredAction::new(REPLACE_TOKENS, 1, shape, run);
-    hold_each(alloc, &stored, row)
-}
-
-fn hold_keep_lines(alloc: Global, rows: &[Row]) -> Result<(), Fail> {
-    let shape = keep_lines_shape(alloc)?;
-    let run: Run = Box::new(alloc, keep_lines)?;
-    let stored = StoredAction::new(KEEP_LINES, 1, shape, run);
-    are_answered(alloc, &stored, Form::Dir, rows)
-}
-
-fn hold_each_keep_lines(alloc: Global, row: &Row) -> Result<(), Fail> {
-    let shape = keep_lines_shape(alloc)?;
-    let run: Run = Box::new(alloc, keep_lines)?;
-    let stored = StoredAction::new(KEEP_LINES, 1, shape, run);
-    hold_each(alloc, &stored, row)
-}
-
-fn hold_sums(alloc: Global, rows: &[Row]) -> Result<(), Fail> {
-    let shape = sums_shape(alloc)?;
-    let run: Run = Box::new(alloc, sums)?;
-    let stored = StoredAction::new(SUMS, 1, shape, run);
-    are_answered(alloc, &stored, Form::Dir, rows)
-}
-
-fn hold_each_sums(alloc: Global, row: &Row) -> Result<(), Fail> {
-    let shape = sums_shape(alloc)?;
-    let run: Run = Box::new(alloc, sums)?;
-    let stored = StoredAction::new(SUMS, 1, shape, run);
-    hold_each(alloc, &stored, row)
-}
-
-fn hold_concat(alloc: Global, rows: &[Row]) -> Result<(), Fail> {
-    let shape = concat_shape(alloc)?;
-    let run: Run = Box::new(alloc, concat)?;
-    let stored = StoredAction::new(CONCAT, 1, shape, run);
-    are_answered(alloc, &stored, Form::File, rows)
-}
-
-fn hold_add_file(alloc: Global, rows: &[Row]) -> Result<(), Fail> {
-    let shape = add_file_shape(alloc)?;
-    let run: Run = Box::new(alloc, add_file)?;
-    let stored = StoredAction::new(ADD_FILE, 1, shape, run);
-    are_answered(alloc, &stored, Form::Dir, rows)
-}
-
-fn hold_write_text(alloc: Global, rows: &[Row]) -> Result<(), Fail> {
-    let shape = write_text_shape(alloc)?;
-    let run: Run = Box::new(alloc, write_text)?;
-    let stored = StoredAction::new(WRITE_TEXT, 1, shape, run);
-    are_answered(alloc, &stored, Form::File, rows)
-}
-
-fn hold_fail(alloc: Global, rows: &[Row]) -> Result<(), Fail> {
-    let shape = fail_shape(alloc)?;
-    let run: Run = Box::new(alloc, fail)?;
-    let stored = StoredAction::new(FAIL, 1, shape, run);
-    are_answered(alloc, &stored, Form::Dir, rows)
-}
-
-fn hold_word_index(alloc: Global, rows: &[Row]) -> Result<(), Fail> {
-    let shape = word_index_shape(alloc)?;
-    let run: Run = Box::new(alloc, word_index)?;
-    let stored = StoredAction::new(WORD_INDEX, 1, shape, run);
-    are_answered(alloc, &stored, Form::Dir, rows)
 }
 
 /// Three files, where `b` is gone and `a` and `d` do not stand so.
-const NOW: &str = "a=X;c=C;d=D;";
-
-const STOOD: &str = "a=A;b=B;c=C;";
+const COPIED: &str = "src a=X;src c=C;src d=D;out a=A;out b=B;out c=C";
 
 const COPIES: [Row; 7] = [
     (
-        "",
-        NOW,
-        STOOD,
-        "M a;R b;A d;",
+        COPY_FILES,
+        COPIED,
+        "M a;R b;A d",
         "-b;+a=X;+d=D;>MODIFIED a;>REMOVED b;>ADDED d;",
     ),
-    ("", NOW, STOOD, "A d;", "+d=D;>ADDED d;"),
-    ("", NOW, STOOD, "M a;", "+a=X;>MODIFIED a;"),
-    ("", NOW, STOOD, "R b;", "-b;>REMOVED b;"),
-    ("", NOW, STOOD, "M c;", ">MODIFIED c;"),
-    ("x;", "", "", "", "no fit"),
-    ("", "a=;", "", "", "+a=;"),
+    (COPY_FILES, COPIED, "A d", "+d=D;>ADDED d;"),
+    (COPY_FILES, COPIED, "M a", "+a=X;>MODIFIED a;"),
+    (COPY_FILES, COPIED, "R b", "-b;>REMOVED b;"),
+    (COPY_FILES, COPIED, "M c", ">MODIFIED c;"),
+    (COPY_FILES, "arg x", "", "no fit"),
+    (COPY_FILES, "src a=", "", "+a=;"),
 ];
 
 #[test]
 fn copies_follow_the_changes(rt: HostRuntime) -> Result<(), Fail> {
-    hold_copy_files(rt.alloc(), &COPIES)
+    hold(rt.alloc(), &COPIES)
 }
 
-const TOKENS: [Row; 4] = [
-    ("k;v;", "a=@k@@k@ @k;", "", "", "+a=vv @k;"),
-    ("k;@k@;", "a=@k@k@;", "", "", "+a=@k@k@;"),
-    ("@;v;", "a=;", "", "", "no fit"),
+/// `a` is modified, `b` gone, `c` made as it stands, and `d` new.
+const TOKENS_EACH: &str = "arg k;arg v;src a=@k@x;src c=@k@;src d=;out a=v;out b=b;out c=v";
+
+/// `a` is modified, `b` gone, `c` made as it stands, and `d` new.
+const KEPT_EACH: &str = "arg x;src a=x1\ny\n;src c=x\nz;src d=y\nx;out a=x0\n;out b=x;out c=x\n";
+
+const EDITS: [Row; 17] = [
+    // Tokens are replaced once.
     (
-        "k;v;",
-        "a=@k@;b=@k@;",
-        "a=v;b=w;c=;",
-        "M a;M b;R c;",
+        REPLACE_TOKENS,
+        "arg k;arg v;src a=@k@@k@ @k",
+        "",
+        "+a=vv @k;",
+    ),
+    (REPLACE_TOKENS, "arg k;arg @k@;src a=@k@k@", "", "+a=@k@k@;"),
+    (REPLACE_TOKENS, "arg @;arg v;src a=", "", "no fit"),
+    (
+        REPLACE_TOKENS,
+        "arg k;arg v;src a=@k@;src b=@k@;out a=v;out b=w;out c=",
+        "M a;M b;R c",
         "-c;+b=v;>MODIFIED a;>MODIFIED b;>REMOVED c;",
     ),
-];
-
-#[test]
-fn tokens_are_replaced_once(rt: HostRuntime) -> Result<(), Fail> {
-    hold_replace_tokens(rt.alloc(), &TOKENS)
-}
-
-const KEPT: [Row; 3] = [
-    ("x;", "a=x\ny\nxx;", "", "", "+a=x\nxx;"),
-    ("x;", "a=;", "", "", "+a=;"),
+    // Each change alone, and all at once.
+    (REPLACE_TOKENS, TOKENS_EACH, "M a", "+a=vx;>MODIFIED a;"),
+    (REPLACE_TOKENS, TOKENS_EACH, "R b", "-b;>REMOVED b;"),
+    (REPLACE_TOKENS, TOKENS_EACH, "M c", ">MODIFIED c;"),
+    (REPLACE_TOKENS, TOKENS_EACH, "A d", "+d=;>ADDED d;"),
     (
-        "x;",
-        "a=x\ny\n;n=x;",
-        "a=x\n;o=;",
-        "M a;A n;R o;",
+        REPLACE_TOKENS,
+        TOKENS_EACH,
+        "M a;R b;M c;A d",
+        "-b;+a=vx;+d=;>MODIFIED a;>REMOVED b;>MODIFIED c;>ADDED d;",
+    ),
+    // Lines are kept whole.
+    (KEEP_LINES, "arg x;src a=x\ny\nxx", "", "+a=x\nxx;"),
+    (KEEP_LINES, "arg x;src a=", "", "+a=;"),
+    (
+        KEEP_LINES,
+        "arg x;src a=x\ny\n;src n=x;out a=x\n;out o=",
+        "M a;A n;R o",
         "-o;+n=x;>MODIFIED a;>ADDED n;>REMOVED o;",
+    ),
+    // Each change alone, and all at once.
+    (KEEP_LINES, KEPT_EACH, "M a", "+a=x1\n;>MODIFIED a;"),
+    (KEEP_LINES, KEPT_EACH, "R b", "-b;>REMOVED b;"),
+    (KEEP_LINES, KEPT_EACH, "M c", ">MODIFIED c;"),
+    (KEEP_LINES, KEPT_EACH, "A d", "+d=x;>ADDED d;"),
+    (
+        KEEP_LINES,
+        KEPT_EACH,
+        "M a;R b;M c;A d",
+        "-b;+a=x1\n;+d=x;>MODIFIED a;>REMOVED b;>MODIFIED c;>ADDED d;",
     ),
 ];
 
 #[test]
-fn lines_are_kept_whole(rt: HostRuntime) -> Result<(), Fail> {
-    hold_keep_lines(rt.alloc(), &KEPT)
+fn files_are_edited(rt: HostRuntime) -> Result<(), Fail> {
+    hold(rt.alloc(), &EDITS)
 }
 
-const DIGESTS: [Row; 3] = [
+/// `a` is modified, `b` gone, `c` made as it stands, and `d` new. `a` and `c` are empty files.
+const DIGESTS_EACH: &str = "src a=;src c=;src d=abc;out a=;out b=;\
+     out c=e3b0c44298fc1c149afbf4c8996fb92427ae41e4649b934ca495991b7852b855\n";
+
+const DIGESTS: [Row; 8] = [
     (
-        "",
-        "a=abc;",
-        "",
+        SUMS,
+        "src a=abc",
         "",
         "+a=ba7816bf8f01cfea414140de5dae2223b00361a396177a9cb410ff61f20015ad\n;",
     ),
     (
-        "",
-        "a=abcdbcdecdefdefgefghfghighijhijkijkljklmklmnlmnomnopnopq;",
-        "",
+        SUMS,
+        "src a=abcdbcdecdefdefgefghfghighijhijkijkljklmklmnlmnomnopnopq",
         "",
         "+a=248d6a61d20638b8e5c026930c3e6039a33ce45964ff2167f6ecedd419db06c1\n;",
     ),
     (
-        "",
-        "a=abc;",
-        "a=;b=;",
-        "M a;R b;",
-        "-b;+a=ba7816bf8f01cfea414140de5dae2223b00361a396177a9cb410ff61f20015ad\n;>MODIFIED a;>REMOVED b;",
+        SUMS,
+        "src a=abc;out a=;out b=",
+        "M a;R b",
+        "-b;+a=ba7816bf8f01cfea414140de5dae2223b00361a396177a9cb410ff61f20015ad\n;\
+         >MODIFIED a;>REMOVED b;",
+    ),
+    // Each change alone, and all at once.
+    (
+        SUMS,
+        DIGESTS_EACH,
+        "M a",
+        "+a=e3b0c44298fc1c149afbf4c8996fb92427ae41e4649b934ca495991b7852b855\n;>MODIFIED a;",
+    ),
+    (SUMS, DIGESTS_EACH, "R b", "-b;>REMOVED b;"),
+    (SUMS, DIGESTS_EACH, "M c", ">MODIFIED c;"),
+    (
+        SUMS,
+        DIGESTS_EACH,
+        "A d",
+        "+d=ba7816bf8f01cfea414140de5dae2223b00361a396177a9cb410ff61f20015ad\n;>ADDED d;",
+    ),
+    (
+        SUMS,
+        DIGESTS_EACH,
+        "M a;R b;M c;A d",
+        "-b;+a=e3b0c44298fc1c149afbf4c8996fb92427ae41e4649b934ca495991b7852b855\n;\
+         +d=ba7816bf8f01cfea414140de5dae2223b00361a396177a9cb410ff61f20015ad\n;>MODIFIED a;\
+         >REMOVED b;>MODIFIED c;>ADDED d;",
     ),
 ];
 
 /// The digests are the examples that go with FIPS 180-4.
 #[test]
 fn sums_are_digests(rt: HostRuntime) -> Result<(), Fail> {
-    hold_sums(rt.alloc(), &DIGESTS)
+    hold(rt.alloc(), &DIGESTS)
 }
 
-const JOINED: [Row; 1] = [("", "b/c=2;b-=3;a=1;", "", "", "+=132;")];
-
-#[test]
-fn concat_joins_by_path(rt: HostRuntime) -> Result<(), Fail> {
-    hold_concat(rt.alloc(), &JOINED)
-}
-
-const ADDED: [Row; 2] = [
-    ("n/m;N;", "a=;", "", "", "+n/m=N;"),
-    ("../m;N;", "a=;", "", "", "no fit"),
+const OTHERS: [Row; 6] = [
+    (CONCAT, "src b/c=2;src b-=3;src a=1", "", "+=132;"),
+    (ADD_FILE, "arg n/m;arg N;src a=", "", "+n/m=N;"),
+    (ADD_FILE, "arg ../m;arg N;src a=", "", "no fit"),
+    (WRITE_TEXT, "arg abc", "", "+=abc;"),
+    (FAIL, "arg no;src a=", "", "no"),
+    (FAIL, "arg a\nb;src a=", "", "no fit"),
 ];
 
+/// Those that write one file or none.
 #[test]
-fn add_file_adds_beneath(rt: HostRuntime) -> Result<(), Fail> {
-    hold_add_file(rt.alloc(), &ADDED)
-}
-
-const WRITTEN: [Row; 1] = [("abc;", "", "", "", "+=abc;")];
-
-#[test]
-fn texts_are_written(rt: HostRuntime) -> Result<(), Fail> {
-    hold_write_text(rt.alloc(), &WRITTEN)
-}
-
-const FAILED: [Row; 2] = [
-    ("no;", "a=;", "", "", "no"),
-    ("a\nb;", "a=;", "", "", "no fit"),
-];
-
-#[test]
-fn a_text_fails(rt: HostRuntime) -> Result<(), Fail> {
-    hold_fail(rt.alloc(), &FAILED)
-}
-
-const TOKENS_OF_EACH: Row = (
-    "k;v;",
-    "a=@k@x;c=@k@;d=;",
-    "a=v;b=b;c=v;",
-    "",
-    "+a=vx;>MODIFIED a;|-b;>REMOVED b;|>MODIFIED c;|+d=;>ADDED d;|-b;+a=vx;+d=;\
-         >MODIFIED a;>REMOVED b;>MODIFIED c;>ADDED d;",
-);
-
-#[test]
-fn tokens_follow_the_changes(rt: HostRuntime) -> Result<(), Fail> {
-    hold_each_replace_tokens(rt.alloc(), &TOKENS_OF_EACH)
-}
-
-const KEPT_OF_EACH: Row = (
-    "x;",
-    "a=x1\ny\n;c=x\nz;d=y\nx;",
-    "a=x0\n;b=x;c=x\n;",
-    "",
-    "+a=x1\n;>MODIFIED a;|-b;>REMOVED b;|>MODIFIED c;|+d=x;>ADDED d;|-b;+a=x1\n;+d=x;\
-         >MODIFIED a;>REMOVED b;>MODIFIED c;>ADDED d;",
-);
-
-#[test]
-fn lines_follow_the_changes(rt: HostRuntime) -> Result<(), Fail> {
-    hold_each_keep_lines(rt.alloc(), &KEPT_OF_EACH)
-}
-
-/// `a` and `c` are empty files, and the sum of `c` stands.
-const DIGESTS_OF_EACH: Row = (
-    "",
-    "a=;c=;d=abc;",
-    "a=;b=;c=e3b0c44298fc1c149afbf4c8996fb92427ae41e4649b934ca495991b7852b855\n;",
-    "",
-    "+a=e3b0c44298fc1c149afbf4c8996fb92427ae41e4649b934ca495991b7852b855\n;>MODIFIED a;|\
-         -b;>REMOVED b;|>MODIFIED c;|\
-         +d=ba7816bf8f01cfea414140de5dae2223b00361a396177a9cb410ff61f20015ad\n;>ADDED d;|-b;\
-         +a=e3b0c44298fc1c149afbf4c8996fb92427ae41e4649b934ca495991b7852b855\n;\
-         +d=ba7816bf8f01cfea414140de5dae2223b00361a396177a9cb410ff61f20015ad\n;>MODIFIED a;\
-         >REMOVED b;>MODIFIED c;>ADDED d;",
-);
-
-#[test]
-fn sums_follow_the_changes(rt: HostRuntime) -> Result<(), Fail> {
-    hold_each_sums(rt.alloc(), &DIGESTS_OF_EACH)
-}
-
-const WORDS: [Row; 4] = [
-    ("", "a=red Blue;b=blue;", "", "", "+blue=a\nb\n;+red=a\n;"),
-    ("", "a=green;b=blue;", "", "", "+blue=b\n;+green=a\n;"),
-    ("", "a=green;", "", "", "+green=a\n;"),
-    ("", "a=;", "", "", ""),
-];
-
-#[test]
-fn words_are_told_in_full(rt: HostRuntime) -> Result<(), Fail> {
-    hold_word_index(rt.alloc(), &WORDS)
-}
-
-const LONG_WORDS: [Row; 1] = [(
-    "",
-    "a=AAAAAAAAAAAAAAAAAAAAAAAAAAAAAAAAAAAAAAAAAAAAAAAAAAAAAAAAAAAAAAAA4\
-         bbbbbbbbbbbbbbbbbbbbbbbbbbbbbbbbbbbbbbbbbbbbbbbbbbbbbbbbbbbbbbbbb c;",
-    "",
-    "",
-    "+aaaaaaaaaaaaaaaaaaaaaaaaaaaaaaaaaaaaaaaaaaaaaaaaaaaaaaaaaaaaaaaa=a\n;+c=a\n;",
-)];
-
-/// A word of 64 letters counts, and one of 65 does not.
-#[test]
-fn long_words_are_left_out(rt: HostRuntime) -> Result<(), Fail> {
-    hold_word_index(rt.alloc(), &LONG_WORDS)
-}
-
-const WORDS_OF_EACH: [Row; 2] = [
-    (
-        "",
-        "a=green;b=blue;",
-        "blue=a\nb\n;red=a\n;",
-        "M a;",
-        "-red;+blue=b\n;+green=a\n;>MODIFIED a;",
-    ),
-    (
-        "",
-        "a=green;",
-        "blue=b\n;green=a\n;",
-        "R b;",
-        "-blue;>REMOVED b;",
-    ),
-];
-
-/// The three trees of the full requests, by what changed from one to the next.
-#[test]
-fn words_follow_the_changes(rt: HostRuntime) -> Result<(), Fail> {
-    hold_word_index(rt.alloc(), &WORDS_OF_EACH)
-}
-
-const WORDS_THAT_STAY: [Row; 2] = [
-    ("", "a=x;b=x;", "x=b\n;", "A a;", "+x=a\nb\n;>ADDED a;"),
-    ("", "b=X x!;", "x=b\n;", "M b;", ">MODIFIED b;"),
-];
-
-#[test]
-fn words_stay_where_they_stand(rt: HostRuntime) -> Result<(), Fail> {
-    hold_word_index(rt.alloc(), &WORDS_THAT_STAY)
-}
-
-const WORDS_OF_ALL: [Row; 1] = [(
-    "",
-    "a=x y;b=z;",
-    "w=c\n;x=b\nc\n;y=c\n;",
-    "A a;M b;R c;",
-    "-w;+x=a\n;+y=a\n;+z=b\n;>ADDED a;>MODIFIED b;>REMOVED c;",
-)];
-
-#[test]
-fn words_follow_all_changes_at_once(rt: HostRuntime) -> Result<(), Fail> {
-    hold_word_index(rt.alloc(), &WORDS_OF_ALL)
+fn other_actions_answer(rt: HostRuntime) -> Result<(), Fail> {
+    hold(rt.alloc(), &OTHERS)
 }
 
 /// Of a file that did not change the old index tells the words, whatever the file holds: `b` stays
 /// at `w` and gets no other word, while `a` leaves it.
-const OTHER: &str = "a=x;a-=y;b=z;";
+const TOLD: &str = "src a=x;src a-=y;src b=z;out w=a\na-\nb\n;out x=a-\n";
 
-const TOLD: &str = "w=a\na-\nb\n;x=a-\n;";
-
-const WORDS_OF_OTHERS: [Row; 2] = [
+const WORDS: [Row; 12] = [
+    // They are told in full,
     (
+        WORD_INDEX,
+        "src a=red Blue;src b=blue",
         "",
-        OTHER,
+        "+blue=a\nb\n;+red=a\n;",
+    ),
+    (
+        WORD_INDEX,
+        "src a=green;src b=blue",
+        "",
+        "+blue=b\n;+green=a\n;",
+    ),
+    (WORD_INDEX, "src a=green", "", "+green=a\n;"),
+    (WORD_INDEX, "src a=", "", ""),
+    // and these three trees by what changed from one to the next.
+    (
+        WORD_INDEX,
+        "src a=green;src b=blue;out blue=a\nb\n;out red=a\n",
+        "M a",
+        "-red;+blue=b\n;+green=a\n;>MODIFIED a;",
+    ),
+    (
+        WORD_INDEX,
+        "src a=green;out blue=b\n;out green=a\n",
+        "R b",
+        "-blue;>REMOVED b;",
+    ),
+    // A word of 64 letters counts, and one of 65 does not.
+    (
+        WORD_INDEX,
+        "src a=AAAAAAAAAAAAAAAAAAAAAAAAAAAAAAAAAAAAAAAAAAAAAAAAAAAAAAAAAAAAAAAA4\
+         bbbbbbbbbbbbbbbbbbbbbbbbbbbbbbbbbbbbbbbbbbbbbbbbbbbbbbbbbbbbbbbbb c",
+        "",
+        "+aaaaaaaaaaaaaaaaaaaaaaaaaaaaaaaaaaaaaaaaaaaaaaaaaaaaaaaaaaaaaaaa=a\n;+c=a\n;",
+    ),
+    // Words stay where they stand.
+    (
+        WORD_INDEX,
+        "src a=x;src b=x;out x=b\n",
+        "A a",
+        "+x=a\nb\n;>ADDED a;",
+    ),
+    (WORD_INDEX, "src b=X x!;out x=b\n", "M b", ">MODIFIED b;"),
+    // All changes come at once.
+    (
+        WORD_INDEX,
+        "src a=x y;src b=z;out w=c\n;out x=b\nc\n;out y=c\n",
+        "A a;M b;R c",
+        "-w;+x=a\n;+y=a\n;+z=b\n;>ADDED a;>MODIFIED b;>REMOVED c;",
+    ),
+    // Words of other files are as told.
+    (
+        WORD_INDEX,
         TOLD,
-        "M a;",
+        "M a",
         "+w=a-\nb\n;+x=a\na-\n;>MODIFIED a;",
     ),
     (
-        "",
-        OTHER,
+        WORD_INDEX,
         TOLD,
-        "M a-;M b;",
+        "M a-;M b",
         "-x;+w=a\n;+y=a-\n;+z=b\n;>MODIFIED a-;>MODIFIED b;",
     ),
 ];
 
 #[test]
-fn words_of_other_files_are_as_told(rt: HostRuntime) -> Result<(), Fail> {
-    hold_word_index(rt.alloc(), &WORDS_OF_OTHERS)
+fn words_are_told(rt: HostRuntime) -> Result<(), Fail> {
+    hold(rt.alloc(), &WORDS)
 }
