@@ -18,7 +18,8 @@ use std::test::Fail;
 /// without a text. Nothing is told of an edit that is done.
 pub type Step<'a> = (&'a str, &'a str, &'a str);
 
-fn words_of(alloc: Global, line: &str) -> Result<Vec<String>, Fail> {
+/// The words of a line.
+pub fn words_of(alloc: Global, line: &str) -> Result<Vec<String>, Fail> {
     let mut words = Vec::new(alloc);
     for word in line.split_whitespace() {
         words.push(String::from_str(alloc, word)?)?;
@@ -110,7 +111,12 @@ pub fn told_beside<A: Actions, T: Transforms, F: Folder, L: TaskListener>(
 ) -> Result<String, Fail> {
     let events = vec![in alloc; event(alloc, words, "")?]?;
     let answers = run_events::<A, T, F, L>(alloc, folder, tables, events.as_slice(), listeners)?;
-    match answers.as_slice() {
+    told_alone(alloc, answers.as_slice())
+}
+
+/// What is told of the one answer.
+fn told_alone(alloc: Global, answers: &[Answer]) -> Result<String, Fail> {
+    match answers {
         [answer] => told(alloc, answer),
         _ => Err(Fail::new("another count of answers")),
     }
@@ -125,6 +131,18 @@ pub fn told_of<A: Actions, T: Transforms, F: Folder>(
 ) -> Result<String, Fail> {
     let mut listeners: Vec<Recorder> = Vec::new(alloc);
     told_beside::<A, T, F, Recorder>(alloc, folder, tables, words, &mut listeners)
+}
+
+/// Fails where something else is told of these words while none listens.
+pub fn is_told_of<A: Actions, T: Transforms, F: Folder>(
+    alloc: Global,
+    folder: &mut F,
+    tables: &Handed<A, T>,
+    words: &str,
+    expected: &str,
+) -> Result<(), Fail> {
+    let text = told_of::<A, T, F>(alloc, folder, tables, words)?;
+    is_told(expected, text.as_str())
 }
 
 /// The bytes of a file.
@@ -149,9 +167,24 @@ fn push_file(
     out: &mut String,
 ) -> Result<(), Fail> {
     let text = String::from_utf8(folder.read(alloc, place, 1_048_576)?)?;
-    out.push_str(if out.is_empty() { "" } else { " " })?;
-    out.push_str(place.as_str())?;
-    out.push_str("=")?;
-    out.push_str(text.as_str())?;
+    let front = if out.is_empty() { "" } else { " " };
+    push_texts(out, [front, place.as_str(), "=", text.as_str()])
+}
+
+fn push_texts(out: &mut String, texts: [&str; 4]) -> Result<(), Fail> {
+    for text in texts {
+        out.push_str(text)?;
+    }
     Ok(())
+}
+
+/// Fails where other files stand beneath a place, or with other texts.
+pub fn are_held(
+    alloc: Global,
+    folder: &mut MemoryFolder,
+    root: &str,
+    expected: &str,
+) -> Result<(), Fail> {
+    let files = held(alloc, folder, root)?;
+    is_told(expected, files.as_str())
 }

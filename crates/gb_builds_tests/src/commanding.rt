@@ -1,4 +1,6 @@
 //! Whole builds over folders on a disk, in memory and of those that fail.
+use crate::building::words_of;
+use crate::ending::FailingWriter;
 use crate::offering::{Handed, offered};
 use gb_action::actions::Actions;
 use gb_command::run::run;
@@ -11,37 +13,41 @@ use gb_kinds::builtin::Builtin;
 use gb_provider::transforms::Transforms;
 use std::alloc::Global;
 use std::fs;
-use std::io::{self, ErrorKind, Write};
 use std::test::Fail;
 
-/// The line that puts a script with a task that writes a file.
+/// The place of a script, and the script, with a task that writes a file.
 const GEN: &str =
-    "put build.gb register gen : writeText(\"abc\") { outputFile out = file(\"build/a.txt\") }";
+    "build.gb register gen : writeText(\"abc\") { outputFile out = file(\"build/a.txt\") }";
 
 /// What is printed where it succeeds.
 const DONE: &str = "> Task :gen\nBUILD SUCCESSFUL\n1 actionable task: 1 executed\n";
 
-/// Lines, and what is answered to them behind that one.
+/// Lines, and what is answered to them where the script stands.
 type Row<'a> = (&'a str, &'a str);
 
 /// What is printed of lines: `put PLACE BYTES`, `read PLACE`, `run WORDS`, and `status WORDS` for its status.
-fn answers<F: Folder>(alloc: Global, folder: &mut F, lines: &str) -> Result<String, Fail> {
-    let tables = offered(alloc)?;
-    let out = answered::<Builtin, Builtin, F>(alloc, folder, &tables, lines)?;
-    Ok(String::from_utf8(out)?)
-}
-
-fn answered<A: Actions, T: Transforms, F: Folder>(
+fn answers<A: Actions, T: Transforms, F: Folder>(
     alloc: Global,
     folder: &mut F,
     tables: &Handed<A, T>,
     lines: &str,
-) -> Result<Vec<u8>, Fail> {
+) -> Result<String, Fail> {
     let mut out = Vec::new(alloc);
+    take_all::<A, T, F>(alloc, folder, tables, lines, &mut out)?;
+    Ok(String::from_utf8(out)?)
+}
+
+fn take_all<A: Actions, T: Transforms, F: Folder>(
+    alloc: Global,
+    folder: &mut F,
+    tables: &Handed<A, T>,
+    lines: &str,
+    out: &mut Vec<u8>,
+) -> Result<(), Fail> {
     for line in lines.split('\n') {
-        take::<A, T, F>(alloc, folder, tables, line, &mut out)?;
+        take::<A, T, F>(alloc, folder, tables, line, out)?;
     }
-    Ok(out)
+    Ok(())
 }
 
 fn take<A: Actions, T: Transforms, F: Folder>(
@@ -77,9 +83,13 @@ fn read<F: Folder>(
 ) -> Result<(), Fail> {
     let place = Place::read(alloc, place)?;
     match folder.read(alloc, &place, 10_000) {
-        Ok(bytes) => out.extend_from_slice(bytes.as_slice())?,
-        Err(_) => out.extend_from_slice(b"none")?,
+        Ok(bytes) => push_line(out, bytes.as_slice()),
+        Err(_) => push_line(out, b"none"),
     }
+}
+
+fn push_line(out: &mut Vec<u8>, bytes: &[u8]) -> Result<(), Fail> {
+    out.extend_from_slice(bytes)?;
     Ok(out.push(b'\n')?)
 }
 
@@ -91,10 +101,7 @@ fn build<A: Actions, T: Transforms, F: Folder>(
     words: &str,
     out: &mut Vec<u8>,
 ) -> Result<u8, Fail> {
-    let mut given = Vec::new(alloc);
-    for word in words.split_whitespace() {
-        given.push(String::from_str(alloc, word)?)?;
-    }
+    let given = words_of(alloc, words)?;
     Ok(run::<A, T, F, Vec<u8>>(alloc, folder, Ok(given), out, tables))
 }
 
@@ -105,25 +112,43 @@ fn status<A: Actions, T: Transforms, F: Folder>(
     words: &str,
     out: &mut Vec<u8>,
 ) -> Result<(), Fail> {
-    let mut unread = Vec::new(alloc);
-    let status = build::<A, T, F>(alloc, folder, tables, words, &mut unread)?;
+    let status = build::<A, T, F>(alloc, folder, tables, words, &mut Vec::new(alloc))?;
     Ok(out.extend_from_slice(format!(in alloc; "{status}")?.as_bytes())?)
 }
 
 /// What a folder answers that has the task.
-fn asked<F: Folder>(alloc: Global, folder: &mut F, lines: &str) -> Result<String, Fail> {
-    answers(alloc, folder, GEN)?;
-    answers(alloc, folder, lines)
+fn asked<A: Actions, T: Transforms, F: Folder>(
+    alloc: Global,
+    folder: &mut F,
+    tables: &Handed<A, T>,
+    lines: &str,
+) -> Result<String, Fail> {
+    put_task(alloc, folder)?;
+    answers::<A, T, F>(alloc, folder, tables, lines)
 }
 
-fn in_memory(alloc: Global, lines: &str) -> Result<String, Fail> {
-    asked(alloc, &mut MemoryFolder::new(alloc), lines)
+/// Puts the script with the task.
+fn put_task<F: Folder>(alloc: Global, folder: &mut F) -> Result<(), Fail> {
+    put(alloc, folder, GEN)
+}
+
+fn in_memory<A: Actions, T: Transforms>(
+    alloc: Global,
+    tables: &Handed<A, T>,
+    lines: &str,
+) -> Result<String, Fail> {
+    asked::<A, T, MemoryFolder>(alloc, &mut MemoryFolder::new(alloc), tables, lines)
 }
 
 /// What a folder of this name on a disk answers.
-fn on_disk(rt: &HostRuntime, name: &str, lines: &str) -> Result<String, Fail> {
+fn on_disk<A: Actions, T: Transforms>(
+    rt: &HostRuntime,
+    name: &str,
+    tables: &Handed<A, T>,
+    lines: &str,
+) -> Result<String, Fail> {
     let mut folder = DiskFolder::new(rt, String::from_str(rt.alloc(), name)?);
-    asked(rt.alloc(), &mut folder, lines)
+    asked::<A, T, DiskFolder<&HostRuntime>>(rt.alloc(), &mut folder, tables, lines)
 }
 
 /// Fails where something else was answered than a row has.
@@ -136,18 +161,27 @@ fn is_answered(row: &Row<'_>, answer: &str) -> Result<(), Fail> {
 }
 
 /// Fails at the first row that is answered otherwise in memory.
-fn hold(alloc: Global, rows: &[Row<'_>]) -> Result<(), Fail> {
+fn hold<A: Actions, T: Transforms>(
+    alloc: Global,
+    tables: &Handed<A, T>,
+    rows: &[Row<'_>],
+) -> Result<(), Fail> {
     for row in rows {
-        is_answered(row, in_memory(alloc, row.0)?.as_str())?;
+        is_answered(row, in_memory::<A, T>(alloc, tables, row.0)?.as_str())?;
     }
     Ok(())
 }
 
 /// Fails at the first row that is answered otherwise in a new folder of this name.
-fn hold_on_disk(rt: &HostRuntime, name: &str, rows: &[Row<'_>]) -> Result<(), Fail> {
+fn hold_on_disk<A: Actions, T: Transforms>(
+    rt: &HostRuntime,
+    name: &str,
+    tables: &Handed<A, T>,
+    rows: &[Row<'_>],
+) -> Result<(), Fail> {
     for row in rows {
         fs::create_dir(rt, name)?;
-        is_answered(row, on_disk(rt, name, row.0)?.as_str())?;
+        is_answered(row, on_disk::<A, T>(rt, name, tables, row.0)?.as_str())?;
         fs::remove_dir_all(rt, name)?;
     }
     Ok(())
@@ -170,12 +204,14 @@ const BUILDS: [Row<'static>; 3] = [
 
 #[test]
 fn a_folder_in_memory_is_built(rt: HostRuntime) -> Result<(), Fail> {
-    hold(rt.alloc(), &BUILDS)
+    let tables = offered(rt.alloc())?;
+    hold::<Builtin, Builtin>(rt.alloc(), &tables, &BUILDS)
 }
 
 #[test]
 fn a_folder_on_a_disk_is_built_alike(rt: HostRuntime) -> Result<(), Fail> {
-    hold_on_disk(&rt, "built", &BUILDS)
+    let tables = offered(rt.alloc())?;
+    hold_on_disk::<Builtin, Builtin>(&rt, "built", &tables, &BUILDS)
 }
 
 const WORDS: [Row<'static>; 14] = [
@@ -197,7 +233,8 @@ const WORDS: [Row<'static>; 14] = [
 
 #[test]
 fn words_ask_for_a_build_or_for_none(rt: HostRuntime) -> Result<(), Fail> {
-    hold(rt.alloc(), &WORDS)
+    let tables = offered(rt.alloc())?;
+    hold::<Builtin, Builtin>(rt.alloc(), &tables, &WORDS)
 }
 
 /// How a device fails: 0 once, 1 it stops, and else it stops within a write.
@@ -210,13 +247,20 @@ fn mode(alloc: Global, kind: u8) -> Result<FaultMode, Fail> {
 }
 
 /// What a build answers whose device fails at a call, and then the files outside the build folder.
-fn on_failing(alloc: Global, at: u64, kind: u8) -> Result<String, Fail> {
+fn on_failing<A: Actions, T: Transforms>(
+    alloc: Global,
+    tables: &Handed<A, T>,
+    at: u64,
+    kind: u8,
+) -> Result<String, Fail> {
     let mut inner = MemoryFolder::new(alloc);
-    answers(alloc, &mut inner, GEN)?;
+    put_task(alloc, &mut inner)?;
     let mut folder = FaultyFolder::new(inner, at, mode(alloc, kind)?);
-    let mut all = answers(alloc, &mut folder, "run gen")?;
-    all.push_str(answers(alloc, &mut folder.into_inner(), OUTSIDE)?.as_str())?;
-    Ok(all)
+    let mut all = Vec::new(alloc);
+    take_all::<A, T, FaultyFolder<MemoryFolder>>(alloc, &mut folder, tables, "run gen", &mut all)?;
+    let mut inner = folder.into_inner();
+    take_all::<A, T, MemoryFolder>(alloc, &mut inner, tables, OUTSIDE, &mut all)?;
+    Ok(String::from_utf8(all)?)
 }
 
 /// Lines that read the files outside the build folder.
@@ -239,56 +283,48 @@ fn is_good(all: &str, files: &str) -> Result<bool, Fail> {
 }
 
 /// After how many calls that are answered a build is good.
-fn failures_told(alloc: Global, kind: u8) -> Result<u64, Fail> {
-    let files = in_memory(alloc, OUTSIDE)?;
+fn failures_told<A: Actions, T: Transforms>(
+    alloc: Global,
+    tables: &Handed<A, T>,
+    kind: u8,
+) -> Result<u64, Fail> {
+    let files = in_memory::<A, T>(alloc, tables, OUTSIDE)?;
     for before in 0..100u64 {
-        if is_good(
-            on_failing(alloc, before + 1, kind)?.as_str(),
-            files.as_str(),
-        )? {
+        let all = on_failing::<A, T>(alloc, tables, before + 1, kind)?;
+        if is_good(all.as_str(), files.as_str())? {
             return Ok(before);
         }
     }
     Err(Fail::new("the build is never good"))
 }
 
-#[test]
-fn a_failing_device_is_told(rt: HostRuntime) -> Result<(), Fail> {
+fn are_told<A: Actions, T: Transforms>(alloc: Global, tables: &Handed<A, T>) -> Result<(), Fail> {
     for kind in 0..3u8 {
-        if failures_told(rt.alloc(), kind)? <= 3 {
+        if failures_told::<A, T>(alloc, tables, kind)? <= 3 {
             return Err(Fail::new("a build of few calls"));
         }
     }
     Ok(())
 }
 
-/// Takes nothing.
-#[derive(Drop)]
-struct FailingWriter;
-
-impl Write for FailingWriter {
-    fn write(&mut self, _buf: &[u8]) -> io::Result<usize> {
-        Err(io::Error::from(ErrorKind::Other))
-    }
-
-    fn flush(&mut self) -> io::Result<()> {
-        Ok(())
-    }
+#[test]
+fn a_failing_device_is_told(rt: HostRuntime) -> Result<(), Fail> {
+    let tables = offered(rt.alloc())?;
+    are_told::<Builtin, Builtin>(rt.alloc(), &tables)
 }
 
-/// The status of a build that cannot be printed.
-fn unprinted<A: Actions, T: Transforms>(alloc: Global, tables: &Handed<A, T>) -> u8 {
+/// Fails where a build that cannot be printed has another status.
+fn unprinted<A: Actions, T: Transforms>(alloc: Global, tables: &Handed<A, T>) -> Result<(), Fail> {
     let mut folder = MemoryFolder::new(alloc);
     let words = Ok(Vec::new(alloc));
-    run::<A, T, _, _>(alloc, &mut folder, words, &mut FailingWriter, tables)
+    match run::<A, T, _, _>(alloc, &mut folder, words, &mut FailingWriter, tables) {
+        1 => Ok(()),
+        status => Err(Fail::new(status)),
+    }
 }
 
 #[test]
 fn a_failing_writer_is_status_1(rt: HostRuntime) -> Result<(), Fail> {
     let tables = offered(rt.alloc())?;
-    if unprinted::<Builtin, Builtin>(rt.alloc(), &tables) == 1 {
-        Ok(())
-    } else {
-        Err(Fail::new("another status"))
-    }
+    unprinted::<Builtin, Builtin>(rt.alloc(), &tables)
 }

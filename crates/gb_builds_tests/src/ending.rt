@@ -120,7 +120,7 @@ impl Read for FailingReader {
 
 /// Takes nothing.
 #[derive(Drop)]
-struct FailingWriter;
+pub struct FailingWriter;
 
 impl Write for FailingWriter {
     fn write(&mut self, _buf: &[u8]) -> io::Result<usize> {
@@ -146,16 +146,16 @@ fn unwritten<A: Actions, T: Transforms>(alloc: Global, tables: &Handed<A, T>) ->
     replay::<A, T, _, _>(alloc, &mut input, &mut FailingWriter, tables)
 }
 
-fn end_with_1<A: Actions, T: Transforms>(alloc: Global, tables: &Handed<A, T>) -> bool {
-    unread::<A, T>(alloc, tables) == 1 && unwritten::<A, T>(alloc, tables) == 1
+fn end_with_1<A: Actions, T: Transforms>(alloc: Global, tables: &Handed<A, T>) -> Result<(), Fail> {
+    if unread::<A, T>(alloc, tables) == 1 && unwritten::<A, T>(alloc, tables) == 1 {
+        Ok(())
+    } else {
+        Err(Fail::new("another status"))
+    }
 }
 
 #[test]
 fn a_failing_device_ends_the_replay(rt: HostRuntime) -> Result<(), Fail> {
     let tables = nothing_handed(rt.alloc());
-    if end_with_1::<Builtin, Builtin>(rt.alloc(), &tables) {
-        Ok(())
-    } else {
-        Err(Fail::new("another status"))
-    }
+    end_with_1::<Builtin, Builtin>(rt.alloc(), &tables)
 }

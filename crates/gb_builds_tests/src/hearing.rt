@@ -1,9 +1,10 @@
 //! What listeners hear of builds of two tasks, over a device that fails and beside one that refuses.
-use crate::building::{Step, go_on, held, is_told, told_beside, told_of};
+use crate::building::{Step, are_held, go_on, is_told, is_told_of, told_beside, told_of};
 use crate::listening::{Refusing, heard_text};
 use crate::offering::{Handed, offered};
 use gb_action::actions::Actions;
 use gb_folder::faulty::{FaultMode, FaultyFolder};
+use gb_folder::folder::Folder;
 use gb_folder::memory::MemoryFolder;
 use gb_kinds::builtin::Builtin;
 use gb_listen::listener::{Recorder, TaskListener};
@@ -37,13 +38,30 @@ fn scripted<A: Actions, T: Transforms>(
     Ok(folder)
 }
 
-/// Tells whether one has heard that the first task was executed. Fails where it is built again then.
-fn is_kept(heard: &str, again: &str) -> Result<bool, Fail> {
-    let is_heard = heard.contains("executed :a\n");
+/// What is told of a build, and whether one has heard that its first task was executed.
+fn told_and_heard<A: Actions, T: Transforms, F: Folder>(
+    alloc: Global,
+    folder: &mut F,
+    tables: &Handed<A, T>,
+) -> Result<(String, bool), Fail> {
+    let mut listeners = vec![in alloc; Recorder::new(alloc)]?;
+    let text = told_beside::<A, T, F, Recorder>(alloc, folder, tables, "run a b", &mut listeners)?;
+    let heard = heard_by_last(alloc, listeners.as_slice())?;
+    Ok((text, heard.contains("executed :a\n")))
+}
+
+/// Fails where the first task is built again though one has heard that it was executed.
+fn is_kept<A: Actions, T: Transforms>(
+    alloc: Global,
+    folder: &mut MemoryFolder,
+    tables: &Handed<A, T>,
+    is_heard: bool,
+) -> Result<(), Fail> {
+    let again = told_of::<A, T, MemoryFolder>(alloc, folder, tables, "run a b")?;
     if !is_heard || again.starts_with("> Task :a UP-TO-DATE\n") {
-        Ok(is_heard)
+        Ok(())
     } else {
-        Err(Fail::new(again))
+        Err(Fail::new(again.as_str()))
     }
 }
 
@@ -55,18 +73,9 @@ fn stopped<A: Actions, T: Transforms>(
     at: u64,
 ) -> Result<(String, bool), Fail> {
     let mut faulty = FaultyFolder::new(scripted::<A, T>(alloc, tables)?, at, FaultMode::Stop);
-    let mut listeners = vec![in alloc; Recorder::new(alloc)]?;
-    let text = told_beside::<A, T, FaultyFolder<MemoryFolder>, Recorder>(
-        alloc,
-        &mut faulty,
-        tables,
-        "run a b",
-        &mut listeners,
-    )?;
-    let mut folder = faulty.into_inner();
-    let again = told_of::<A, T, MemoryFolder>(alloc, &mut folder, tables, "run a b")?;
-    let heard = heard_by_last(alloc, listeners.as_slice())?;
-    Ok((text, is_kept(heard.as_str(), again.as_str())?))
+    let told = told_and_heard::<A, T, FaultyFolder<MemoryFolder>>(alloc, &mut faulty, tables)?;
+    is_kept::<A, T>(alloc, &mut faulty.into_inner(), tables, told.1)?;
+    Ok(told)
 }
 
 fn heard_by_last<L: TaskListener>(alloc: Global, listeners: &[L]) -> Result<String, Fail> {
@@ -109,35 +118,36 @@ fn refused<A: Actions, T: Transforms>(
     at: u64,
     expected: &str,
 ) -> Result<(), Fail> {
-    let mut listeners = Vec::<Box<dyn TaskListener>>::new(alloc);
-    listeners.push(Box::new(alloc, Refusing::new(alloc, at))?)?;
-    listeners.push(Box::new(alloc, Recorder::new(alloc))?)?;
-    builds_alike::<A, T, Box<dyn TaskListener>>(alloc, tables, &mut listeners, expected)?;
+    let mut folder = scripted::<A, T>(alloc, tables)?;
+    is_heard::<A, T>(alloc, &mut folder, tables, at, expected)?;
+    are_held(alloc, &mut folder, "build", "build/x=A build/y=B")?;
+    is_told_of::<A, T, MemoryFolder>(alloc, &mut folder, tables, "run a b", UP_TO_DATE)
+}
+
+/// Fails where a build beside a listener that refuses a call prints something else, or another one behind it
+/// hears something else.
+fn is_heard<A: Actions, T: Transforms>(
+    alloc: Global,
+    folder: &mut MemoryFolder,
+    tables: &Handed<A, T>,
+    at: u64,
+    expected: &str,
+) -> Result<(), Fail> {
+    let mut listeners = vec![in alloc; Refusing::new(alloc, at), Refusing::new(alloc, 0)]?;
+    builds_alike::<A, T, Refusing>(alloc, folder, tables, &mut listeners, expected)?;
     is_told(HEARD, heard_by_last(alloc, listeners.as_slice())?.as_str())
 }
 
-/// Fails where a build beside these listeners prints something else, or leaves anything else to be done.
+/// Fails where a build beside these listeners prints something else.
 fn builds_alike<A: Actions, T: Transforms, L: TaskListener>(
     alloc: Global,
+    folder: &mut MemoryFolder,
     tables: &Handed<A, T>,
     listeners: &mut Vec<L>,
     expected: &str,
 ) -> Result<(), Fail> {
-    let mut folder = scripted::<A, T>(alloc, tables)?;
-    let text = told_beside::<A, T, MemoryFolder, L>(
-        alloc,
-        &mut folder,
-        tables,
-        "run a b",
-        listeners,
-    )?;
-    is_told(expected, text.as_str())?;
-    is_told(
-        "build/x=A build/y=B",
-        held(alloc, &mut folder, "build")?.as_str(),
-    )?;
-    let again = told_of::<A, T, MemoryFolder>(alloc, &mut folder, tables, "run a b")?;
-    is_told(UP_TO_DATE, again.as_str())
+    let text = told_beside::<A, T, MemoryFolder, L>(alloc, folder, tables, "run a b", listeners)?;
+    is_told(expected, text.as_str())
 }
 
 /// Refuses each of the four calls, and then none.

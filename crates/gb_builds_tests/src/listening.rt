@@ -13,7 +13,7 @@ use std::test::Fail;
 #[derive(Drop)]
 pub struct Refusing {
     recorder: Recorder,
-    /// The number of the call that it refuses, counted from 1.
+    /// The number of the call that it refuses, counted from 1; it refuses none where it is 0.
     at: u64,
     calls: u64,
     refusals: u64,

@@ -1,5 +1,5 @@
 //! Builds one after another with edits between them, and what each prints.
-use crate::building::{Step, go_on, held, is_told};
+use crate::building::{Step, are_held, go_on};
 use crate::offering::{Handed, offered};
 use gb_action::actions::Actions;
 use gb_folder::memory::MemoryFolder;
@@ -66,25 +66,24 @@ const ONCE_LOST: [Step<'static>; 2] = [("run gen", "", EXECUTED), ("run gen", ""
 fn only_what_changed_is_built_again(rt: HostRuntime) -> Result<(), Fail> {
     let alloc = rt.alloc();
     let tables = offered(alloc)?;
-    let mut folder = MemoryFolder::new(alloc);
-    go_on::<Builtin, Builtin, MemoryFolder>(alloc, &mut folder, &tables, &BUILDS)
+    go_on::<Builtin, Builtin, MemoryFolder>(alloc, &mut MemoryFolder::new(alloc), &tables, &BUILDS)
 }
 
 /// Fails where something is left of the tool's own after its loss, or something else is built then.
-fn is_lost<A: Actions, T: Transforms>(alloc: Global, tables: &Handed<A, T>) -> Result<(), Fail> {
-    let mut folder = MemoryFolder::new(alloc);
-    go_on::<A, T, MemoryFolder>(alloc, &mut folder, tables, &UNTIL_LOST)?;
-    is_told("", held(alloc, &mut folder, ".gb")?.as_str())?;
-    is_told(
-        "build/a.txt=abc",
-        held(alloc, &mut folder, "build")?.as_str(),
-    )?;
-    go_on::<A, T, MemoryFolder>(alloc, &mut folder, tables, &ONCE_LOST)
+fn is_lost<A: Actions, T: Transforms>(
+    alloc: Global,
+    folder: &mut MemoryFolder,
+    tables: &Handed<A, T>,
+) -> Result<(), Fail> {
+    go_on::<A, T, MemoryFolder>(alloc, folder, tables, &UNTIL_LOST)?;
+    are_held(alloc, folder, ".gb", "")?;
+    are_held(alloc, folder, "build", "build/a.txt=abc")?;
+    go_on::<A, T, MemoryFolder>(alloc, folder, tables, &ONCE_LOST)
 }
 
 #[test]
 fn what_is_lost_is_built_again(rt: HostRuntime) -> Result<(), Fail> {
     let alloc = rt.alloc();
     let tables = offered(alloc)?;
-    is_lost::<Builtin, Builtin>(alloc, &tables)
+    is_lost::<Builtin, Builtin>(alloc, &mut MemoryFolder::new(alloc), &tables)
 }

@@ -1,5 +1,5 @@
 //! Builds over a device that fails at one of their calls, and the builds after them.
-use crate::building::{Step, bytes_at, go_on, held, is_told, told_of};
+use crate::building::{Step, are_held, bytes_at, go_on, held, is_told_of, told_of};
 use crate::offering::{Handed, offered};
 use gb_action::actions::Actions;
 use gb_folder::faulty::{FaultMode, FaultyFolder};
@@ -135,7 +135,7 @@ fn mode(alloc: Global, kind: u64, text: &[u8]) -> Result<FaultMode, Fail> {
 
 /// Fails where a stopped build has changed something that is not its own.
 fn is_spared(alloc: Global, folder: &mut MemoryFolder, trial: &Trial<'_>) -> Result<(), Fail> {
-    is_told(trial.sources, held(alloc, folder, "src")?.as_str())?;
+    are_held(alloc, folder, "src", trial.sources)?;
     let outputs = held(alloc, folder, "build/o")?;
     if outputs.as_str().contains(trial.kept) {
         Ok(())
@@ -152,10 +152,16 @@ fn succeeds<A: Actions, T: Transforms>(
     trial: &Trial<'_>,
 ) -> Result<(), Fail> {
     let text = told_of::<A, T, MemoryFolder>(alloc, folder, tables, "run cp")?;
+    is_success(text.as_str(), trial)?;
+    are_held(alloc, folder, "build/o", trial.outputs)
+}
+
+/// Fails where what a build prints is not to follow a stopped one.
+fn is_success(text: &str, trial: &Trial<'_>) -> Result<(), Fail> {
     if text.starts_with(trial.next) && text.contains("\nBUILD SUCCESSFUL\n") {
-        is_told(trial.outputs, held(alloc, folder, "build/o")?.as_str())
+        Ok(())
     } else {
-        Err(Fail::new(text.as_str()))
+        Err(Fail::new(text))
     }
 }
 
@@ -168,10 +174,9 @@ fn recovers<A: Actions, T: Transforms>(
 ) -> Result<(), Fail> {
     is_spared(alloc, folder, trial)?;
     succeeds::<A, T>(alloc, folder, tables, trial)?;
-    let text = told_of::<A, T, MemoryFolder>(alloc, folder, tables, "run cp")?;
-    is_told(trial.later, text.as_str())?;
-    is_told(trial.sources, held(alloc, folder, "src")?.as_str())?;
-    is_told(trial.outputs, held(alloc, folder, "build/o")?.as_str())
+    is_told_of::<A, T, MemoryFolder>(alloc, folder, tables, "run cp", trial.later)?;
+    are_held(alloc, folder, "src", trial.sources)?;
+    are_held(alloc, folder, "build/o", trial.outputs)
 }
 
 /// What is told of a build whose device fails at a call, once the builds behind it have made up for it.
@@ -185,8 +190,7 @@ fn stopped<A: Actions, T: Transforms>(
     let folder = edited::<A, T>(alloc, tables, trial)?;
     let mut faulty = FaultyFolder::new(folder, at, mode);
     let text = told_of::<A, T, FaultyFolder<MemoryFolder>>(alloc, &mut faulty, tables, "run cp")?;
-    let mut folder = faulty.into_inner();
-    recovers::<A, T>(alloc, &mut folder, tables, trial)?;
+    recovers::<A, T>(alloc, &mut faulty.into_inner(), tables, trial)?;
     Ok(text)
 }
 
@@ -228,9 +232,19 @@ fn all_stops<A: Actions, T: Transforms>(
     kinds: &[u64],
 ) -> Result<(), Fail> {
     let torn = record::<A, T>(alloc, tables)?;
-    let count = calls::<A, T>(alloc, tables, trial, 1, torn.as_slice())?;
+    stops_alike::<A, T>(alloc, tables, trial, kinds, torn.as_slice())
+}
+
+fn stops_alike<A: Actions, T: Transforms>(
+    alloc: Global,
+    tables: &Handed<A, T>,
+    trial: &Trial<'_>,
+    kinds: &[u64],
+    torn: &[u8],
+) -> Result<(), Fail> {
+    let count = calls::<A, T>(alloc, tables, trial, 1, torn)?;
     for kind in kinds {
-        if calls::<A, T>(alloc, tables, trial, *kind, torn.as_slice())? != count {
+        if calls::<A, T>(alloc, tables, trial, *kind, torn)? != count {
             return Err(Fail::new("another count of calls"));
         }
     }

@@ -2,6 +2,8 @@
 ghost use Rattle.std.specs.Prelude.{◌≡◌, ◌≤◌, [], IsErr};
 ghost use Rattle.gb_folder.specs.Files.{HasRisen};
 
+use crate::building::is_told;
+use crate::listening::heard_text;
 use gb_core::path::TaskPath;
 use gb_listen::listener::{Recorder, TaskListener};
 use gb_listen::telling::tell;
@@ -47,29 +49,46 @@ impl TaskListener for Deaf {
     }
 }
 
-/// How many starts and ends of this task a listener has heard.
-fn heard_of(listener: &Box<dyn TaskListener>, task: &str) -> usize {
-    listener
-        .heard()
-        .iter()
-        .filter(|heard| match heard {
-            Heard::Start(path) | Heard::End(path, _) => path.as_str() == task,
-        })
-        .count()
+/// Tells listeners that a task starts and ends, and fails where one of that is heard by all.
+fn told<L: TaskListener>(
+    alloc: Global,
+    listeners: &mut Vec<L>,
+    task: &TaskPath,
+) -> Result<(), Fail> {
+    let is_start_heard = tell(alloc, listeners, task, None);
+    let is_end_heard = tell(alloc, listeners, task, Some(&Outcome::Executed));
+    if is_start_heard || is_end_heard {
+        Err(Fail::new("heard by all"))
+    } else {
+        Ok(())
+    }
+}
+
+/// What each of them has heard, with a bar behind it.
+fn heard_by_each<L: TaskListener>(alloc: Global, listeners: &[L]) -> Result<String, Fail> {
+    let mut out = String::new(alloc);
+    for listener in listeners {
+        out.push_str(heard_text(alloc, listener.heard())?.as_str())?;
+        out.push_str("|")?;
+    }
+    Ok(out)
+}
+
+/// Tells a task to three listeners, and fails where not the first and the last alone have heard of it.
+fn hear<L: TaskListener>(alloc: Global, listeners: &mut Vec<L>) -> Result<(), Fail> {
+    told(alloc, listeners, &TaskPath::read(alloc, ":gen")?)?;
+    is_told(
+        "start :gen\nexecuted :gen\n||start :gen\nexecuted :gen\n|",
+        heard_by_each(alloc, listeners.as_slice())?.as_str(),
+    )
 }
 
 #[test]
 fn one_that_refuses_keeps_none_from_hearing(rt: HostRuntime) -> Result<(), Fail> {
     let alloc = rt.alloc();
-    let task = TaskPath::read(alloc, ":gen")?;
     let mut listeners = Vec::<Box<dyn TaskListener>>::new(alloc);
     listeners.push(Box::new(alloc, Recorder::new(alloc))?)?;
     listeners.push(Box::new(alloc, Deaf { refusals: 0 })?)?;
     listeners.push(Box::new(alloc, Recorder::new(alloc))?)?;
-    assert!(rt; !tell(alloc, &mut listeners, &task, None));
-    assert!(rt; !tell(alloc, &mut listeners, &task, Some(&Outcome::Executed)));
-    assert_eq!(rt; heard_of(&listeners[0], ":gen"), 2);
-    assert_eq!(rt; heard_of(&listeners[1], ":gen"), 0);
-    assert_eq!(rt; heard_of(&listeners[2], ":gen"), 2);
-    Ok(())
+    hear(alloc, &mut listeners)
 }
