@@ -1,11 +1,13 @@
 #!/usr/bin/env bash
 # gate.sh: runs the gate at the top of the repository (`rt ci`), and tells where its time went: processor seconds by
-# crate for its proofs, its tests and its wrong edits; by crate the squares of the sizes of generated descriptions,
-# which the prover's time grows with (half a second for each MB squared); and the largest of these.
+# crate for its proofs, its tests and its wrong edits, and of all that ran; by crate the sizes of generated
+# descriptions, which the prover's time grows with (half a second for each MB of a small one, and up to one and a
+# half for those above 2 MB); and the largest of these.
 #
-# Processor time is read off /proc once a second, of the processes of this run alone: what one used in its last
-# second is not counted. Descriptions are those that the gate keeps while it tries the wrong edits of a crate, so
-# that crates without wrong edits, or with one, have none; all but a few seconds before a crate's end are seen.
+# Processor time by crate is read off /proc once a second, of the provers of this run alone: what one used in its
+# last second is not counted, nor is clang. Descriptions are those that the gate keeps while it tries the wrong
+# edits of a crate, so that crates without wrong edits, or with one, have none; all but a few seconds before a
+# crate's end are seen.
 set -u
 cd "$(dirname "$0")/.."
 seen=$(mktemp)
@@ -32,7 +34,7 @@ descriptions() { # the name and the bytes of each that is kept now
 begin=$(date +%s)
 setsid rt ci & # a session of its own
 gate=$!
-trap 'kill -- "-$gate" 2>/dev/null; rm -f "$seen" "$sizes" "$sizes.new"' EXIT
+trap 'kill -- "-$gate" 2>/dev/null; rm -f "$seen" "$seen.all" "$sizes" "$sizes.new"' EXIT
 turns=0
 while kill -0 "$gate" 2>/dev/null; do
   sample >>"$seen"
@@ -44,9 +46,11 @@ done
 wait "$gate"
 status=$?
 took=$(($(date +%s) - begin))
+times >"$seen.all" # user and system time of this shell, and then of what it waited for
 
 echo
 echo "wall seconds: $took"
+echo "processor time of all, user and system: $(tail -n 1 "$seen.all")"
 awk -v ticks="$ticks" '
   { if ($4 > most[$1]) most[$1] = $4; crate[$1] = $2; part[$1] = $3 }
   END {
@@ -56,14 +60,14 @@ awk -v ticks="$ticks" '
     close("sort -k5,5nr")
     sum = total["proofs"] + total["tests"] + total["edits"]
     printf "%-14s %8.0f %8.0f %8.0f %8.0f\n", "all", total["proofs"], total["tests"], total["edits"], sum
-    printf "processor minutes: %.0f\n", sum / 60 }' "$seen"
+    printf "processor minutes of the provers: %.0f\n", sum / 60 }' "$seen"
 
 echo
-echo "descriptions by crate: how many, and the sum of the squares of their MB; the ten largest, in MB"
+echo "descriptions by crate: how many, their MB, and the sum of the squares of these; the ten largest, in MB"
 awk '{ sub(/^Rattle-/, "", $1); sub(/\.Lts\.oantt$/, "", $1); if ($2 > most[$1]) most[$1] = $2 }
   END {
-    for (name in most) { split(name, part, "-proofs."); mb = most[name] / 1000000; count[part[1]]++; sum[part[1]] += mb * mb }
-    for (crate in sum) printf "%-18s %5d %6.0f\n", crate, count[crate], sum[crate] | "sort -k3,3nr"
+    for (name in most) { split(name, part, "-proofs."); mb = most[name] / 1000000; count[part[1]]++; all[part[1]] += mb; sum[part[1]] += mb * mb }
+    for (crate in sum) printf "%-18s %5d %6.0f %6.0f\n", crate, count[crate], all[crate], sum[crate] | "sort -k3,3nr"
     close("sort -k3,3nr")
     for (name in most) printf "%6.1f %s\n", most[name] / 1000000, name | "sort -rn | head -10"
   }' "$sizes"
