@@ -141,9 +141,9 @@ const REFUSED: [(&str, &str); 16] = [
     ("-m=1", "96 usage"),
     ("--continue=yes", "96 usage"),
     ("--cont", "96 usage"),
-    ("-P1=x --nope", "96 usage"),
-    ("-P1=x", "1 bad name 1"),
-    ("-Pa=1 -Pb+=1 -P=c -P2=3", "1 bad name b+"),
+    ("-P9=x --nope", "96 usage"),
+    ("-P9=x", "1 bad name 9"),
+    ("-Pa=1 -Pb+=1 -P=c -P9=3", "1 bad name b+"),
     ("--project-prop =x", "1 bad name "),
 ];
 
@@ -193,8 +193,8 @@ fn have_numbers(alloc: Global, rows: &[(usize, &str, u16)]) -> Result<(), Fail> 
 const MANY: [(usize, &str, u16); 5] = [
     (255, "-Pb=2", 0),
     (256, "-Pb=2", 58),
-    (256, "-P1=2", 58),
-    (255, "-P1=2", 1),
+    (256, "-P9=2", 58),
+    (255, "-P9=2", 1),
     (256, "--nope", 96),
 ];
 
