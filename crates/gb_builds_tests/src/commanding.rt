@@ -1,4 +1,4 @@
-//! Whole builds over folders on a disk, in memory and of those that fail.
+//! What the words of a command come to in a folder on a disk.
 use crate::building::words_of;
 use crate::ending::FailingWriter;
 use crate::offering::{Handed, offered};
@@ -6,7 +6,6 @@ use gb_action::actions::Actions;
 use gb_command::run::run;
 use gb_core::place::Place;
 use gb_disk::disk::DiskFolder;
-use gb_folder::faulty::{FaultMode, FaultyFolder};
 use gb_folder::folder::Folder;
 use gb_folder::memory::MemoryFolder;
 use gb_kinds::builtin::Builtin;
@@ -116,31 +115,7 @@ fn status<A: Actions, T: Transforms, F: Folder>(
     Ok(out.extend_from_slice(format!(in alloc; "{status}")?.as_bytes())?)
 }
 
-/// What a folder answers that has the task.
-fn asked<A: Actions, T: Transforms, F: Folder>(
-    alloc: Global,
-    folder: &mut F,
-    tables: &Handed<A, T>,
-    lines: &str,
-) -> Result<String, Fail> {
-    put_task(alloc, folder)?;
-    answers::<A, T, F>(alloc, folder, tables, lines)
-}
-
-/// Puts the script with the task.
-fn put_task<F: Folder>(alloc: Global, folder: &mut F) -> Result<(), Fail> {
-    put(alloc, folder, GEN)
-}
-
-fn in_memory<A: Actions, T: Transforms>(
-    alloc: Global,
-    tables: &Handed<A, T>,
-    lines: &str,
-) -> Result<String, Fail> {
-    asked::<A, T, MemoryFolder>(alloc, &mut MemoryFolder::new(alloc), tables, lines)
-}
-
-/// What a folder of this name on a disk answers.
+/// What a folder of this name on a disk answers that has the task.
 fn on_disk<A: Actions, T: Transforms>(
     rt: &HostRuntime,
     name: &str,
@@ -148,7 +123,8 @@ fn on_disk<A: Actions, T: Transforms>(
     lines: &str,
 ) -> Result<String, Fail> {
     let mut folder = DiskFolder::new(rt, String::from_str(rt.alloc(), name)?);
-    asked::<A, T, DiskFolder<&HostRuntime>>(rt.alloc(), &mut folder, tables, lines)
+    put(rt.alloc(), &mut folder, GEN)?;
+    answers::<A, T, DiskFolder<&HostRuntime>>(rt.alloc(), &mut folder, tables, lines)
 }
 
 /// Fails where something else was answered than a row has.
@@ -158,18 +134,6 @@ fn is_answered(row: &Row<'_>, answer: &str) -> Result<(), Fail> {
     } else {
         Err(Fail::new(answer))
     }
-}
-
-/// Fails at the first row that is answered otherwise in memory.
-fn hold<A: Actions, T: Transforms>(
-    alloc: Global,
-    tables: &Handed<A, T>,
-    rows: &[Row<'_>],
-) -> Result<(), Fail> {
-    for row in rows {
-        is_answered(row, in_memory::<A, T>(alloc, tables, row.0)?.as_str())?;
-    }
-    Ok(())
 }
 
 /// Fails at the first row that is answered otherwise in a new folder of this name.
@@ -203,13 +167,7 @@ const BUILDS: [Row<'static>; 3] = [
 ];
 
 #[test]
-fn a_folder_in_memory_is_built(rt: HostRuntime) -> Result<(), Fail> {
-    let tables = offered(rt.alloc())?;
-    hold::<Builtin, Builtin>(rt.alloc(), &tables, &BUILDS)
-}
-
-#[test]
-fn a_folder_on_a_disk_is_built_alike(rt: HostRuntime) -> Result<(), Fail> {
+fn a_folder_on_a_disk_is_built(rt: HostRuntime) -> Result<(), Fail> {
     let tables = offered(rt.alloc())?;
     hold_on_disk::<Builtin, Builtin>(&rt, "built", &tables, &BUILDS)
 }
@@ -234,83 +192,7 @@ const WORDS: [Row<'static>; 14] = [
 #[test]
 fn words_ask_for_a_build_or_for_none(rt: HostRuntime) -> Result<(), Fail> {
     let tables = offered(rt.alloc())?;
-    hold::<Builtin, Builtin>(rt.alloc(), &tables, &WORDS)
-}
-
-/// How a device fails: 0 once, 1 it stops, and else it stops within a write.
-fn mode(alloc: Global, kind: u8) -> Result<FaultMode, Fail> {
-    match kind {
-        0 => Ok(FaultMode::FailOnce),
-        1 => Ok(FaultMode::Stop),
-        _ => Ok(FaultMode::StopTorn(b"torn".to_vec(alloc)?)),
-    }
-}
-
-/// What a build answers whose device fails at a call, and then the files outside the build folder.
-fn on_failing<A: Actions, T: Transforms>(
-    alloc: Global,
-    tables: &Handed<A, T>,
-    at: u64,
-    kind: u8,
-) -> Result<String, Fail> {
-    let mut inner = MemoryFolder::new(alloc);
-    put_task(alloc, &mut inner)?;
-    let mut folder = FaultyFolder::new(inner, at, mode(alloc, kind)?);
-    let mut all = Vec::new(alloc);
-    take_all::<A, T, FaultyFolder<MemoryFolder>>(alloc, &mut folder, tables, "run gen", &mut all)?;
-    let mut inner = folder.into_inner();
-    take_all::<A, T, MemoryFolder>(alloc, &mut inner, tables, OUTSIDE, &mut all)?;
-    Ok(String::from_utf8(all)?)
-}
-
-/// Lines that read the files outside the build folder.
-const OUTSIDE: &str = "read build.gb\nread src/a";
-
-/// Whether an answer tells that the device failed, or that no record could be written.
-fn tells_of_failure(told: &str) -> bool {
-    told.contains("10 device ") || told.contains("90 history not written")
-}
-
-/// Whether all calls of the build were answered. Fails where one was not and this is not told, or where a file
-/// outside differs.
-fn is_good(all: &str, files: &str) -> Result<bool, Fail> {
-    let told = all.strip_suffix(files).unwrap_or("");
-    if told == DONE || tells_of_failure(told) {
-        Ok(told == DONE)
-    } else {
-        Err(Fail::new(all))
-    }
-}
-
-/// After how many calls that are answered a build is good.
-fn failures_told<A: Actions, T: Transforms>(
-    alloc: Global,
-    tables: &Handed<A, T>,
-    kind: u8,
-) -> Result<u64, Fail> {
-    let files = in_memory::<A, T>(alloc, tables, OUTSIDE)?;
-    for before in 0..100u64 {
-        let all = on_failing::<A, T>(alloc, tables, before + 1, kind)?;
-        if is_good(all.as_str(), files.as_str())? {
-            return Ok(before);
-        }
-    }
-    Err(Fail::new("the build is never good"))
-}
-
-fn are_told<A: Actions, T: Transforms>(alloc: Global, tables: &Handed<A, T>) -> Result<(), Fail> {
-    for kind in 0..3u8 {
-        if failures_told::<A, T>(alloc, tables, kind)? <= 3 {
-            return Err(Fail::new("a build of few calls"));
-        }
-    }
-    Ok(())
-}
-
-#[test]
-fn a_failing_device_is_told(rt: HostRuntime) -> Result<(), Fail> {
-    let tables = offered(rt.alloc())?;
-    are_told::<Builtin, Builtin>(rt.alloc(), &tables)
+    hold_on_disk::<Builtin, Builtin>(&rt, "worded", &tables, &WORDS)
 }
 
 /// Fails where a build that cannot be printed has another status.

@@ -1,0 +1,110 @@
+//! Builds of a plan of one task without actions.
+ghost use Rattle.std.specs.Prelude.{◌≡◌, [], IfOk, length};
+ghost use Rattle.gb_execute.specs.Building.{CanBuild};
+ghost use Rattle.gb_builds_tests.specs.Idle.{idle};
+
+use gb_action::actions::Actions;
+use gb_action::list::ActionList;
+use gb_action::table::ActionTable;
+use gb_action::values::NamedValues;
+use gb_core::path::TaskPath;
+use gb_core::tasks::TaskPaths;
+use gb_execute::execute::execute;
+use gb_folder::memory::MemoryFolder;
+use gb_kinds::builtin::{Builtin, StoredAction};
+use gb_listen::listener::{Recorder, TaskListener};
+use gb_plan::plan::{Plan, Planned};
+use gb_plan::task::{FileProperties, Outputs, TaskDeclaration};
+use gb_report::report::{Options, Outcome};
+use std::alloc::Global;
+use std::test::Fail;
+
+const OPTIONS: Options = Options {
+    keep_going: false,
+    rerun: false,
+    dry_run: false,
+};
+
+/// A task that needs none, and has no actions.
+fn task(alloc: Global, runs: bool) -> Result<TaskDeclaration, Fail>
+    ensures { IfOk result (λ task. task ≡ idle task.path runs) }
+{
+    Ok(TaskDeclaration {
+        path: TaskPath::read(alloc, ":gen")?,
+        runs,
+        is_stale: false,
+        values: NamedValues::new(alloc),
+        files: FileProperties::from_vec(Vec::new(alloc)),
+        outputs: Outputs::from_vec(Vec::new(alloc)),
+        actions: ActionList::new(alloc),
+        needs: TaskPaths::new(alloc),
+        must_run_after: TaskPaths::new(alloc),
+        finalizers: TaskPaths::new(alloc),
+    })
+}
+
+/// A plan of this task alone, which a name selects.
+fn plan<A: Actions>(alloc: Global, runs: bool) -> Result<Plan, Fail>
+    ensures can { IfOk result (CanBuild A.meanings []) }
+    ensures one { IfOk result (λ plan. length plan ≡ 1) }
+{
+    let task = task(alloc, runs)?;
+    let planned = Planned {
+        task,
+        word: 0,
+        is_selected: true,
+    };
+    let mut tasks = Vec::new(alloc);
+    tasks.push(planned)?;
+    Ok(Plan::from_vec(tasks))
+}
+
+/// How the build of the one task is told, and how often a listener hears of it.
+fn built(alloc: Global, runs: bool, options: Options) -> Result<(&'static str, usize), Fail> {
+    let plan = plan::<Builtin>(alloc, runs)?;
+    let table: ActionTable<StoredAction> = ActionTable::new(alloc);
+    let records = vec![in alloc; None]?;
+    let mut folder = MemoryFolder::new(alloc);
+    let mut listeners = vec![in alloc; Recorder::new(alloc)]?;
+    let report = execute::<Builtin, MemoryFolder, Recorder>(
+        alloc,
+        &mut folder,
+        &plan,
+        &table,
+        records.as_slice(),
+        &mut listeners,
+        options,
+    )?;
+    let told = match report.tasks.as_slice() {
+        [task] => told(&task.outcome),
+        _ => "another count",
+    };
+    Ok((told, listeners[0].heard().len()))
+}
+
+fn told(outcome: &Outcome) -> &'static str {
+    match outcome {
+        Outcome::UpToDate => "up to date",
+        Outcome::Skipped => "skipped",
+        _ => "another",
+    }
+}
+
+#[test]
+fn a_task_is_told_to_who_listens(rt: HostRuntime) -> Result<(), Fail> {
+    let alloc = rt.alloc();
+    assert_eq!(rt; built(alloc, true, OPTIONS)?, ("up to date", 2));
+    assert_eq!(rt; built(alloc, false, OPTIONS)?, ("skipped", 2));
+    Ok(())
+}
+
+#[test]
+fn a_dry_run_starts_nothing(rt: HostRuntime) -> Result<(), Fail> {
+    let alloc = rt.alloc();
+    let dry = Options {
+        dry_run: true,
+        ..OPTIONS
+    };
+    assert_eq!(rt; built(alloc, true, dry)?, ("skipped", 0));
+    Ok(())
+}
