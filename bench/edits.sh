@@ -1,0 +1,13 @@
+#!/usr/bin/env bash
+# edits.sh CRATE..: tries by hand the wrong edits of bench/edits/CRATE, beyond those that the gate tries. In a copy
+# of the last commit they stand among the crate's own, and `rt must-fail` says of each whether it is refused.
+set -eu
+cd "$(dirname "$0")/.."
+copy=$(mktemp -d)
+trap 'rm -rf "$copy"' EXIT
+git clone -q . "$copy/gb"
+for crate; do
+  cp "bench/edits/$crate"/*.edit "$copy/gb/crates/$crate/must-fail/"
+done
+cd "$copy/gb"
+rt must-fail "$@"
