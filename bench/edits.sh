@@ -7,6 +7,7 @@ copy=$(mktemp -d)
 trap 'rm -rf "$copy"' EXIT
 git clone -q . "$copy/gb"
 for crate; do
+  mkdir -p "$copy/gb/crates/$crate/must-fail"
   cp "bench/edits/$crate"/*.edit "$copy/gb/crates/$crate/must-fail/"
 done
 cd "$copy/gb"
