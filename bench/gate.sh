@@ -5,9 +5,9 @@
 # half for those above 2 MB); and the largest of these.
 #
 # Processor time by crate is read off /proc once a second, of the provers of this run alone: what one used in its
-# last second is not counted, nor is clang. Descriptions are those that the gate keeps while it tries the wrong
-# edits of a crate, so that crates without wrong edits, or with one, have none; all but a few seconds before a
-# crate's end are seen.
+# last second is not counted, nor is clang; a wrong edit of a program counts as a proof of it. Descriptions are
+# those that the gate keeps while it tries the wrong edits of a crate, so that crates without wrong edits, or with
+# one, have none; all but a few seconds before a crate's end are seen.
 set -u
 cd "$(dirname "$0")/.."
 seen=$(mktemp)
