@@ -1,16 +1,11 @@
 #!/usr/bin/env bash
 # Builds of many small tasks by a built `gb`: the first one, one with nothing to do, one after one edit; beside
 # them sha256sum over the same inputs and outputs, and make and ninja, where they are installed.
-# usage: builds.sh PROGRAM [TASKS..]; figures are in us, those with nothing to do the best of five
+# usage: builds.sh PROGRAM [TASKS..]; each figure has the processor time beside it, and those with nothing to
+# do are the best of five
 set -eu
 gb=$(realpath "${1:?usage: builds.sh PROGRAM [TASKS..]}")
 source "$(dirname "$0")/best.sh"
-once() { # once COMMAND..: one run, in us
-  local begin
-  begin=$(date +%s%N)
-  "$@" >/dev/null
-  echo $((($(date +%s%N) - begin) / 1000))
-}
 shift
 [ $# -gt 0 ] || set -- 1000 4000
 

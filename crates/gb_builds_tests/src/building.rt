@@ -47,7 +47,8 @@ fn event(alloc: Global, words: &str, text: &str) -> Result<Event, Fail> {
     }
 }
 
-fn events(alloc: Global, steps: &[Step<'_>]) -> Result<Vec<Event>, Fail> {
+/// The events of these steps.
+pub fn events(alloc: Global, steps: &[Step<'_>]) -> Result<Vec<Event>, Fail> {
     let mut events = Vec::new(alloc);
     for step in steps {
         events.push(event(alloc, step.0, step.1)?)?;
@@ -66,7 +67,7 @@ fn told(alloc: Global, answer: &Answer) -> Result<String, Fail> {
 }
 
 /// Fails at the first answer that tells something else than its step.
-fn are_told(alloc: Global, steps: &[Step<'_>], answers: &[Answer]) -> Result<(), Fail> {
+pub fn are_told(alloc: Global, steps: &[Step<'_>], answers: &[Answer]) -> Result<(), Fail> {
     for (step, answer) in steps.iter().zip(answers.iter()) {
         is_told(step.2, told(alloc, answer)?.as_str())?;
     }

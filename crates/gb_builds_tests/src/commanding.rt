@@ -101,7 +101,10 @@ fn build<A: Actions, T: Transforms, F: Folder>(
     out: &mut Vec<u8>,
 ) -> Result<u8, Fail> {
     let given = words_of(alloc, words)?;
-    Ok(run::<A, T, F, Vec<u8>>(alloc, folder, Ok(given), out, tables))
+    match run::<A, T, F, Vec<u8>>(alloc, folder, Ok(given), out, tables) {
+        Some(status) => Ok(status),
+        None => Err(Fail::new("not printed")),
+    }
 }
 
 fn status<A: Actions, T: Transforms, F: Folder>(
@@ -195,18 +198,18 @@ fn words_ask_for_a_build_or_for_none(rt: HostRuntime) -> Result<(), Fail> {
     hold_on_disk::<Builtin, Builtin>(&rt, "worded", &tables, &WORDS)
 }
 
-/// Fails where a build that cannot be printed has another status.
+/// Fails where a build that cannot be printed has a status.
 fn unprinted<A: Actions, T: Transforms>(alloc: Global, tables: &Handed<A, T>) -> Result<(), Fail> {
     let mut folder = MemoryFolder::new(alloc);
     let words = Ok(Vec::new(alloc));
     match run::<A, T, _, _>(alloc, &mut folder, words, &mut FailingWriter, tables) {
-        1 => Ok(()),
-        status => Err(Fail::new(status)),
+        None => Ok(()),
+        Some(status) => Err(Fail::new(status)),
     }
 }
 
 #[test]
-fn a_failing_writer_is_status_1(rt: HostRuntime) -> Result<(), Fail> {
+fn what_cannot_be_printed_has_no_status(rt: HostRuntime) -> Result<(), Fail> {
     let tables = offered(rt.alloc())?;
     unprinted::<Builtin, Builtin>(rt.alloc(), &tables)
 }

@@ -1,6 +1,6 @@
 //! What listeners hear of builds of two tasks, over a device that fails and beside one that refuses.
 use crate::building::{Step, are_held, go_on, is_told, is_told_of, told_beside, told_of};
-use crate::listening::{Refusing, heard_text};
+use crate::listening::{Refusing, heard_by_each, heard_text};
 use crate::offering::{Handed, offered};
 use gb_action::actions::Actions;
 use gb_folder::faulty::{FaultMode, FaultyFolder};
@@ -166,4 +166,56 @@ fn one_that_refuses_changes_only_the_success(rt: HostRuntime) -> Result<(), Fail
     let alloc = rt.alloc();
     let tables = offered(alloc)?;
     all_refusals::<Builtin, Builtin>(alloc, &tables)
+}
+
+/// A task that fails, as a file stands in the way of its output, and its finalizer.
+const FINALIZED: [Step<'static>; 2] = [
+    (
+        "put build.gb",
+        "register bad : writeText(\"A\") { outputFile out = file(\"build/x/y\") finalizedBy \"fin\" }
+register fin : writeText(\"F\") { outputFile out = file(\"build/z\") }",
+        "",
+    ),
+    ("put build/x", "in the way", ""),
+];
+
+const FAILED_AND_REFUSED: &str =
+    "> Task :bad FAILED\n> Task :fin\nFAILED :bad: 12 blocked build/x/y\n\
+FAILED listener: 91 listener refused\nBUILD FAILED\n2 actionable tasks: 2 executed\n";
+
+/// What the first and the last have heard, and between them the one that refused the second call.
+const BETWEEN: &str = "start :bad\nfailed :bad\nstart :fin\nexecuted :fin\n|\
+start :bad\nstart :fin\nexecuted :fin\n|start :bad\nfailed :bad\nstart :fin\nexecuted :fin\n|";
+
+/// Fails where a build beside one that refuses its second call, between two that refuse none, tells one of
+/// them something else.
+fn one_is_missed<A: Actions, T: Transforms>(
+    alloc: Global,
+    tables: &Handed<A, T>,
+) -> Result<(), Fail> {
+    let mut folder = MemoryFolder::new(alloc);
+    go_on::<A, T, MemoryFolder>(alloc, &mut folder, tables, &FINALIZED)?;
+    let mut listeners = Vec::<Box<dyn TaskListener>>::new(alloc);
+    listeners.push(Box::new(alloc, Recorder::new(alloc))?)?;
+    listeners.push(Box::new(alloc, Refusing::new(alloc, 2))?)?;
+    listeners.push(Box::new(alloc, Recorder::new(alloc))?)?;
+    let text = told_beside::<A, T, MemoryFolder, Box<dyn TaskListener>>(
+        alloc,
+        &mut folder,
+        tables,
+        "run bad",
+        &mut listeners,
+    )?;
+    is_told(FAILED_AND_REFUSED, text.as_str())?;
+    is_told(
+        BETWEEN,
+        heard_by_each(alloc, listeners.as_slice())?.as_str(),
+    )
+}
+
+#[test]
+fn one_that_refuses_an_end_hears_all_else(rt: HostRuntime) -> Result<(), Fail> {
+    let alloc = rt.alloc();
+    let tables = offered(alloc)?;
+    one_is_missed::<Builtin, Builtin>(alloc, &tables)
 }

@@ -13,6 +13,8 @@ mod ending;
 #[cfg(test)]
 mod executing;
 #[cfg(test)]
+mod granting;
+#[cfg(test)]
 mod hearing;
 #[cfg(test)]
 mod listening;

@@ -1,6 +1,6 @@
 //! A listener that refuses one of its calls, and what listeners hear.
-ghost use Rattle.std.specs.Prelude.{◌≡◌, ◌≤◌, ◌++◌, [], ◌∷◌, OnErr, OnOk};
-ghost use Rattle.gb_folder.specs.Files.{HasRisen};
+ghost use Rattle.std.specs.Prelude.{◌≡◌, ◌++◌, [], ◌∷◌, OnErr, OnOk};
+ghost use Rattle.gb_meaning.specs.Headline.{counted};
 ghost use Rattle.gb_report.specs.declared.report.Heard.TheVariants.{Start, End};
 
 use gb_core::path::TaskPath;
@@ -67,11 +67,11 @@ impl Refusing {
         self.recorder.after_execute(alloc, task, outcome)
     }
 
-    /// Counts a call that was refused.
+    /// Counts a call that was refused, up to the last value.
     fn count(&mut self, kept: &Result<(), AllocError>)
         ensures recorder { self.new.recorder ≡ self.old.recorder }
-        ensures count { self.old.refusals ≤ self.new.refusals }
-        ensures rose { OnErr kept.now (HasRisen self.old.refusals self.new.refusals) }
+        ensures ok { OnOk kept.now (self.new.refusals ≡ self.old.refusals) }
+        ensures err { OnErr kept.now (self.new.refusals ≡ counted self.old.refusals 1) }
     {
         if kept.is_err() {
             self.refusals = self.refusals.saturating_add(1);
@@ -102,6 +102,16 @@ impl TaskListener for Refusing {
     fn heard(&self) -> &[Heard] {
         self.recorder.heard()
     }
+}
+
+/// What each of them has heard, with a bar behind it.
+pub fn heard_by_each<L: TaskListener>(alloc: Global, listeners: &[L]) -> Result<String, Fail> {
+    let mut out = String::new(alloc);
+    for listener in listeners {
+        out.push_str(heard_text(alloc, listener.heard())?.as_str())?;
+        out.push_str("|")?;
+    }
+    Ok(out)
 }
 
 /// What was heard, as the paths of tasks, each behind its start or how it ended.

@@ -1,9 +1,9 @@
 //! Listeners of several kinds side by side.
-ghost use Rattle.std.specs.Prelude.{◌≡◌, ◌≤◌, [], IsErr};
-ghost use Rattle.gb_folder.specs.Files.{HasRisen};
+ghost use Rattle.std.specs.Prelude.{◌≡◌, [], IsErr};
+ghost use Rattle.gb_meaning.specs.Headline.{counted};
 
 use crate::building::is_told;
-use crate::listening::heard_text;
+use crate::listening::heard_by_each;
 use gb_core::path::TaskPath;
 use gb_listen::listener::{Recorder, TaskListener};
 use gb_listen::telling::tell;
@@ -20,8 +20,7 @@ struct Deaf {
 impl Deaf {
     fn refuse(&mut self) -> Result<(), AllocError>
         ensures refused { IsErr result }
-        ensures rose { HasRisen self.old.refusals self.new.refusals }
-        ensures count { self.old.refusals ≤ self.new.refusals }
+        ensures counted { self.new.refusals ≡ counted self.old.refusals 1 }
     {
         self.refusals = self.refusals.saturating_add(1);
         Err(AllocError)
@@ -62,16 +61,6 @@ fn told<L: TaskListener>(
     } else {
         Ok(())
     }
-}
-
-/// What each of them has heard, with a bar behind it.
-fn heard_by_each<L: TaskListener>(alloc: Global, listeners: &[L]) -> Result<String, Fail> {
-    let mut out = String::new(alloc);
-    for listener in listeners {
-        out.push_str(heard_text(alloc, listener.heard())?.as_str())?;
-        out.push_str("|")?;
-    }
-    Ok(out)
 }
 
 /// Tells a task to three listeners, and fails where not the first and the last alone have heard of it.

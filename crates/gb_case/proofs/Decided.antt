@@ -93,5 +93,5 @@ pub prepared_is_case : PreparedIsCase
 prepared_is_case kinds options task world read prepared.Skips known case = case
 prepared_is_case kinds options task world read prepared.HasNoActions known case = case
 prepared_is_case kinds options task world read prepared.HasNoSource known case = case
-prepared_is_case kinds options task world read (prepared.Decided decision) known case =
+prepared_is_case kinds options task world read (prepared.Decided decision seen) known case =
     (case.0, decision_is_case kinds options task world read decision known case.0 case.1)

@@ -225,5 +225,5 @@ pub outside_is_enough : OutsideIsEnough
 outside_is_enough options task folder read prepared.Skips out case = early_outside folder task ∙ case
 outside_is_enough options task folder read prepared.HasNoActions out case = early_outside folder task ∙ case
 outside_is_enough options task folder read prepared.HasNoSource out case = early_outside folder task ∙ case
-outside_is_enough options task folder read (prepared.Decided decision) out case =
+outside_is_enough options task folder read (prepared.Decided decision seen) out case =
     (early_outside folder task ∙ case.0, decided_outside options task folder out read decision case.1)

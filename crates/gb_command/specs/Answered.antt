@@ -1,12 +1,14 @@
 -- What the program answers.
-use Rattle.std.specs.Prelude.{ℕ, ◌≡◌, ◌⊎◌, List, Result, Ok, Err}
+use Rattle.std.specs.Prelude.{ℕ, ◌≡◌, ◌⊎◌, ◌∷◌, [], List, Result, IfOk, Ok, Err}
 use Rattle.std.specs.Result.{result_map_both}
 use Rattle.gb_folder.specs.Files.{Tearing}
 use Rattle.gb_history.specs.Places.{record_place}
 use Rattle.gb_invocation.specs.Scripts.{registers_in, setting_of}
 use Rattle.gb_meaning.specs.Edits.{Shown}
 use Rattle.gb_meaning.specs.Headline.{Agrees, EventKeeps, InvocationHolds, TearsAreSeen, answer_of}
+use Rattle.gb_meaning.specs.Every.{PromiseHolds}
 use Rattle.gb_meaning.specs.Kinds.{Kinds}
+use Rattle.gb_meaning.specs.Outline.{IsOutlined}
 use Rattle.gb_meaning.specs.declared.events.Event.TheVariants as events
 use Rattle.gb_meaning.specs.declared.events.Invocation.{Invocation}
 use Rattle.gb_records.specs.Said.{IsText}
@@ -40,9 +42,15 @@ abbrev pub IsRefused : Given → Shown → Result Report Fault → Shown → Typ
 IsRefused given old answer new =
     (fault : Fault) × AreRefused given fault × (answer ≡ Err fault) × (new.contents ≡ old.contents)
 
+-- Over any folder: a report is that of a plan of what the words ask for, of which each task starts and
+-- answers as it may.
+abbrev pub IsOutlinedFor : Given → Result Report Fault → Type 0
+IsOutlinedFor given answer =
+    IfOk answer (λ report. (asked : Invocation) × AskFor given asked × IsOutlined asked report)
+
 module _ {M F Z S A : Type 0} (tables : Tables M F Z S A) (may_leave : Tearing) where
-  -- It is one invocation by its definition, with what the scripts of the folder register, and changes only
-  -- what a build may: nothing where it is refused.
+  -- It is one invocation by its definition, with what the scripts of the folder register, and so a plain step
+  -- from whatever true records; and it changes only what a build may: nothing where it is refused.
   pub record Invokes (asked : Invocation) (old : Shown) (answer : Result Report Fault) (new : Shown)
       : Type 0 where
     pub keeps : EventKeeps (registers_in tables) (events.Invoke asked) (answer_of answer)
@@ -50,6 +58,10 @@ module _ {M F Z S A : Type 0} (tables : Tables M F Z S A) (may_leave : Tearing) 
     pub holds : (kinds : Kinds) → Agrees tables.shapes tables.kinds kinds
         → TearsAreSeen IsText record_place may_leave
         → InvocationHolds (setting_of tables kinds may_leave) old asked answer new
+    pub promise : (kinds : Kinds) → Agrees tables.shapes tables.kinds kinds
+        → TearsAreSeen IsText record_place may_leave
+        → PromiseHolds (setting_of tables kinds may_leave) old (events.Invoke asked ∷ [])
+        (answer_of answer ∷ []) new
 
   -- the words are refused, or they ask for an invocation, and this is its answer
   abbrev pub Answers : Given → Shown → Result Report Fault → Shown → Type 0

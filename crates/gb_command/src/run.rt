@@ -1,12 +1,12 @@
 //! The program over any folder: it reads the words, builds what they ask for and prints the answer.
-ghost use Rattle.std.specs.Prelude.{◌≡◌, ◌≤◌, ◌⊎◌, IsTrue, MatchResult, Result, map, string_bytes};
+ghost use Rattle.std.specs.Prelude.{◌≡◌, ◌≤◌, IfSome, IsTrue, MatchResult, Result, map, string_bytes};
 ghost use Rattle.std.specs.Io.KnownBytes.{Appends};
 ghost use Rattle.gb_answer.specs.Answer.{answer_text, status_of};
 ghost use Rattle.gb_meaning.specs.declared.events.Invocation.{Invocation};
 ghost use Rattle.gb_registry.specs.Tables.{tables_of};
 ghost use Rattle.gb_report.specs.declared.fault.Fault.{Fault};
 ghost use Rattle.gb_report.specs.declared.report.Report.{Report};
-ghost use Rattle.gb_command.specs.Answered.{Answers, AreRefused, AskFor, given_of};
+ghost use Rattle.gb_command.specs.Answered.{Answers, AreRefused, AskFor, IsOutlinedFor, given_of};
 
 use gb_action::actions::Actions;
 use gb_answer::answer::{answer_text, status_of};
@@ -34,32 +34,35 @@ pub type Handed<A, T> = Tables<
 /// The status where the answer cannot be printed.
 pub const UNPRINTED: u8 = 1;
 
-/// Builds what the words ask for, prints what became of it, and answers the status: 0 where the build
-/// was successful, 2 where the words ask for no build that is known, and else 1.
+/// Builds what the words ask for, prints what became of it, and answers the status: 0 where the build was
+/// successful, 2 where the words ask for no build that is known, and else 1. `None` where it could not be
+/// printed: memory ran out, or the writer failed.
 pub fn run<A: Actions, T: Transforms, F: Folder, W: Write>(
     alloc: Global,
     folder: &mut F,
     words: Result<Vec<String>, Fault>,
     writer: &mut W,
     tables: &Handed<A, T>,
-) -> u8
+) -> Option<u8>
     ensures count { F.failures folder.old ≤ F.failures folder.new }
-    // There is an answer, whether it could be printed or not: what is printed is its text, and the status is
-    // its own; or the status is 1.
+    // There is an answer, whether it could be printed or not. Where it could, its text and nothing else is
+    // printed, and the status is its own.
     ensures told { (answer : Result Report Fault)
         × (IsTrue F.tells → Answers (tables_of T.meanings A.meanings tables.now) (F.may_leave folder.old)
         (given_of (λ words. map string_bytes words.items) words)
         (record { contents = F.contents folder.old; failures = F.failures folder.old })
         answer
         (record { contents = F.contents folder.new; failures = F.failures folder.new }))
-        × ((result ≡ 1) ⊎ (Appends (W.contents writer.old) (W.contents writer.new) (answer_text answer)
-        × (result ≡ status_of answer))) }
+        × IsOutlinedFor (given_of (λ words. map string_bytes words.items) words) answer
+        × IfSome result (λ status.
+        Appends (W.contents writer.old) (W.contents writer.new) (answer_text answer)
+        × (status ≡ status_of answer)) }
 {
     let answer = answered::<A, T, F>(alloc, folder, words, tables);
     let status = status_of(&answer);
     let is_printed = print(alloc, writer, &answer);
     drop(answer);
-    if is_printed { status } else { UNPRINTED }
+    if is_printed { Some(status) } else { None }
 }
 
 /// Prints the answer, and tells whether all of it was taken.
@@ -87,6 +90,7 @@ fn answered<A: Actions, T: Transforms, F: Folder>(
         (record { contents = F.contents folder.old; failures = F.failures folder.old })
         result
         (record { contents = F.contents folder.new; failures = F.failures folder.new }) }
+    ensures outlined { IsOutlinedFor (given_of (λ words. map string_bytes words.items) words) result }
 {
     match asked_by(alloc, words) {
         Ok(asked) => {

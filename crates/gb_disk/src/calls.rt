@@ -6,6 +6,7 @@ ghost use Rattle.gb_disk.specs.Disk.{AllUnder, IsOfListing, IsOfMachine, path_in
 
 use crate::device::Device;
 use crate::names::in_order;
+use crate::span::Span;
 use crate::standing::Standing;
 use crate::trail::Trail;
 use crate::walk::Found;
@@ -51,8 +52,8 @@ impl<R: Files> Device<R> {
         Ok(found.files)
     }
 
-    /// The bytes of a file, of which there are at most `limit`: as many as there were when it was looked at,
-    /// or fewer where it ends by then.
+    /// The bytes of a file, of which there are at most `limit`: as many as there were when it was looked at.
+    /// A file that has fewer by then is the device's failure.
     pub fn read(
         &self,
         alloc: Global,
@@ -69,10 +70,16 @@ impl<R: Files> Device<R> {
         if len > limit {
             return Err(FolderFault::TooLarge);
         }
-        self.bytes_found(alloc, trail, place, 0, len)
+        // One byte more shows that a file of which none was told is too large.
+        let span = Span::of(len, 0, limit.saturating_add(1));
+        let bytes = self.bytes_found(alloc, trail, place, &span)?;
+        if bytes.len() as u64 > limit {
+            return Err(FolderFault::TooLarge);
+        }
+        Ok(bytes)
     }
 
-    /// The bytes of a file from `at` on: `len` of them, or fewer where the file ends.
+    /// The bytes of a file from `at` on: `len` of them, or fewer where the file ended when it was looked at.
     pub fn read_part(
         &self,
         alloc: Global,
@@ -87,11 +94,11 @@ impl<R: Files> Device<R> {
         ensures not_large { result ≢ Err FolderFault.TooLarge }
         ensures not_named { result ≢ Err FolderFault.BadFileName }
     {
-        let whole = self.file_len(trail, place)?;
-        if at >= whole {
+        let span = Span::of(self.file_len(trail, place)?, at, len);
+        if span.most == 0 {
             return Ok(Vec::new(alloc));
         }
-        self.bytes_found(alloc, trail, place, at, (whole - at).min(len))
+        self.bytes_found(alloc, trail, place, &span)
     }
 
     /// Puts a file in place of what stood there.
@@ -151,23 +158,23 @@ impl<R: Files> Device<R> {
         }
     }
 
-    /// The bytes of a file that was found, from `at` on: `most` of them, or fewer where the file ends. Where
-    /// they cannot be read, what stands there by now tells why.
+    /// The bytes of a span of a file that was found. Where they cannot be read, what stands there by now
+    /// tells why.
     fn bytes_found(
         &self,
         alloc: Global,
         trail: &mut Trail,
         place: &Place,
-        at: u64,
-        most: u64,
+        span: &Span,
     ) -> Result<Vec<u8>, FolderFault>
         ensures at { OnOk result
             (string_bytes trail.new.path ≡ path_in (string_bytes self.now.base) place.now) }
-        ensures within { IfOk result (λ bytes. length bytes.items ≤ most) }
+        ensures within { IfOk result (λ bytes. length bytes.items ≤ span.now.most) }
+        ensures enough { IfOk result (λ bytes. span.now.least ≤ length bytes.items) }
         ensures err { IfErr result
             (λ fault. IsOfMachine fault ⊎ (fault ≡ FolderFault.Missing) ⊎ (fault ≡ FolderFault.Blocked)) }
     {
-        match self.bytes_of(alloc, &mut trail.path, place, at, most) {
+        match self.bytes_of(alloc, &mut trail.path, place, span) {
             Err(FolderFault::Device) => {
                 self.file_len(trail, place)?;
                 Err(FolderFault::Device)

@@ -20,8 +20,9 @@ const MOST: usize = 8;
 /// put in place of a known folder, where it leads to a folder with a file or a folder at the rest of the
 /// place: `list`, `read` and `read_part` follow it. Nor is it noticed if a file changes its length, or gives
 /// way to another one, to a link, a pipe or a device, between a `list` of its place and a `read` or
-/// `read_part` of it that comes next: what stands there is opened, and as many bytes are read as were listed.
-/// If it cannot be read, as where the file went, it is looked at once more.
+/// `read_part` of it that comes next: what stands there is opened, and as many bytes are read as were listed,
+/// or all of them where none were. If it cannot be read, or not so many bytes of it, as where the file went,
+/// it is looked at once more.
 #[derive(Drop)]
 pub(crate) struct Trail {
     pub path: String,
@@ -84,8 +85,7 @@ impl Trail {
         Ok(self.known.push(copy)?)
     }
 
-    /// Lists a file of so many bytes by its own place, and takes that up. An empty one is looked at when it is
-    /// read, as `read_part` opens none.
+    /// Lists a file of so many bytes by its own place, and takes that up.
     pub fn list_file(
         &mut self,
         alloc: Global,
@@ -95,10 +95,10 @@ impl Trail {
         ensures path { self.new.path ≡ self.old.path }
         ensures under { IfOk result (λ places. AllUnder place.now places.items) }
     {
-        if len > 0 {
-            let place = place.copy()?;
-            self.listed = Some(Listed { place, len });
-        }
+        self.listed = Some(Listed {
+            place: place.copy()?,
+            len,
+        });
         alone(alloc, place)
     }
 

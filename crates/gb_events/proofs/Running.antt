@@ -1,5 +1,6 @@
 -- Runs of events, one event more at a time.
-use Rattle.std.specs.Prelude.{ℕ, ◌≡◌, ◌≤◌, ◌<◌, ◌++◌, ◌⊎◌, Bool, true, false, IsTrue, List, [], ◌∷◌, length, suc, take, zero, ⊤}
+use Rattle.std.specs.Prelude.{ℕ, ◌≡◌, ◌≤◌, ◌<◌, ◌++◌, ◌⊎◌, Bool, true, false, IfOk, IsTrue, List, [], ◌∷◌, Err, Ok, Result, length, suc, take, zero, ⊤}
+use Rattle.std.specs.List.{AllZip}
 use Rattle.std.proofs.Common.{arith, refl, sym, ap, subst, ◌∙◌, inl, inr, append_assoc}
 use Rattle.std.proofs.lemmas.List.{append-nil, length-take-le}
 use Rattle.std.proofs.Math.Seq.{take-nil}
@@ -7,15 +8,21 @@ use Rattle.gb_folder.specs.Files.{Bytes, Contents}
 use Rattle.gb_meaning.specs.declared.events.Answer.{Answer}
 use Rattle.gb_meaning.specs.declared.events.Answer.TheVariants as answers
 use Rattle.gb_meaning.specs.declared.events.Event.{Event}
+use Rattle.gb_meaning.specs.declared.events.Event.TheVariants as events
+use Rattle.gb_meaning.specs.declared.events.Invocation.{Invocation}
 use Rattle.gb_meaning.specs.Edits.{Shown}
 use Rattle.gb_meaning.specs.Events.{Setting, State, world_in}
-use Rattle.gb_meaning.specs.Headline.{AllKeepElsewhere, Ear, EventKeeps, EventsHold, HaveHeardAll, Registering, RunHolds, StillClear, contents_outside, seen_with, state_of}
+use Rattle.gb_meaning.specs.Headline.{AllKeepElsewhere, Ear, EventKeeps, EventsHold, HaveHeardAll, Registering, RunHolds, StillClear, answer_of, contents_outside, seen_with, state_of}
 use Rattle.gb_meaning.specs.Memory.{Memory}
+use Rattle.gb_meaning.specs.Outline.{IsOutlined}
+use Rattle.gb_report.specs.declared.fault.Fault.{Fault}
+use Rattle.gb_report.specs.declared.report.Report.{Report}
 use Rattle.gb_meaning.specs.TrueRecord.{memory_contents}
 use Rattle.gb_execute.proofs.Clearly.{clear_or_not}
 use Rattle.gb_plan.proofs.Tests.{not_true}
 use Rattle.gb_invoke.specs.Leading.{Leads, StandsSeen}
 use Rattle.gb_invoke.proofs.Leading.{seen_more, step_weaker}
+use Rattle.gb_events.specs.Answers.{AnswerIsOutlined, Edit, edit_answer}
 
 -- ---- Runs
 
@@ -100,6 +107,29 @@ heard_more (answers.Refused fault ∷ told) answer old mid new heard more = hear
 heard_more (answers.Built report ∷ told) answer old mid new heard more = (heard.0, heard.1, heard_more told answer heard.0 mid new heard.2 more)
 heard_more (answers.NotBuilt fault ∷ told) answer old mid new heard more = heard_more told answer old mid new heard more
 
+-- ---- What is told over any folder
+
+pub outlined_more : (all : List Event) (told : List Answer) (event : Event) (answer : Answer) → AllZip AnswerIsOutlined all told → AnswerIsOutlined event answer
+    → AllZip AnswerIsOutlined (all ++ event ∷ []) (told ++ answer ∷ [])
+outlined_more [] [] event answer outlined more = (more, tt)
+outlined_more [] (a ∷ told) event answer outlined more = absurd outlined
+outlined_more (e ∷ all) [] event answer outlined more = absurd outlined
+outlined_more (e ∷ all) (a ∷ told) event answer outlined more = (outlined.0, outlined_more all told event answer outlined.1 more)
+
+pub report_outlined : (invocation : Invocation) (result : Result Report Fault) → IfOk result (IsOutlined invocation) → AnswerIsOutlined (events.Invoke invocation) (answer_of result)
+report_outlined invocation (Ok report) outlined = outlined
+report_outlined invocation (Err fault) outlined = tt
+
+pub edit_outlined : (event : Event) (edit : Edit) → AnswerIsOutlined event (edit_answer edit)
+edit_outlined (events.Put place bytes) (Ok done) = tt
+edit_outlined (events.Put place bytes) (Err fault) = tt
+edit_outlined (events.Remove place) (Ok done) = tt
+edit_outlined (events.Remove place) (Err fault) = tt
+edit_outlined events.Lost (Ok done) = tt
+edit_outlined events.Lost (Err fault) = tt
+edit_outlined (events.Invoke invocation) (Ok done) = tt
+edit_outlined (events.Invoke invocation) (Err fault) = tt
+
 -- ---- Lists, one element more
 
 pub more_ahead : (setting : Setting) (old end : Shown) (all : List Event) (event : Event) (rest : List Event) (told : List Answer) (answer : Answer) (others : List Answer)
@@ -111,7 +141,7 @@ more_ahead setting old end all event rest told answer others runs =
 pub taken_all : {X Y : Type 0} (index : ℕ) (xs : List X) (ys : List Y) → length ys ≡ index → index < length xs → length (take index xs) ≡ length ys
 taken_all index xs ys same less = length-take-le index xs (omega (arith, less)) ∙ sym same
 
-take_all : {X : Type 0} (index : ℕ) (xs : List X) → length xs ≤ index → take index xs ≡ xs
+pub take_all : {X : Type 0} (index : ℕ) (xs : List X) → length xs ≤ index → take index xs ≡ xs
 take_all index [] less = take-nil index
 take_all zero (x ∷ xs) less = absurd (omega arith)
 take_all (suc index) (x ∷ xs) less = ap (λ rest. x ∷ rest) (take_all index xs (omega (arith, less)))

@@ -1,8 +1,11 @@
--- What becomes of an edit.
-use Rattle.std.specs.Prelude.{Result, Ok, Err}
+-- What becomes of an edit, and of any event over a folder that does not tell what it holds.
+use Rattle.std.specs.Prelude.{Result, Ok, Err, ⊤}
 use Rattle.gb_report.specs.declared.fault.Fault.{Fault}
 use Rattle.gb_meaning.specs.declared.events.Answer.{Answer}
 use Rattle.gb_meaning.specs.declared.events.Answer.TheVariants as answers
+use Rattle.gb_meaning.specs.declared.events.Event.{Event}
+use Rattle.gb_meaning.specs.declared.events.Event.TheVariants as events
+use Rattle.gb_meaning.specs.Outline.{IsOutlined}
 
 -- what an edit comes to
 abbrev pub Edit : Type 0
@@ -12,3 +15,9 @@ Edit = Result (Unit {0}) Fault
 abbrev pub edit_answer : Edit → Answer
 edit_answer (Ok done) = answers.Edited
 edit_answer (Err fault) = answers.Refused fault
+
+-- a build is that of a plan of what was asked of some registry, by its outline; of other answers nothing is
+-- said
+abbrev pub AnswerIsOutlined : Event → Answer → Type 0
+AnswerIsOutlined (events.Invoke invocation) (answers.Built report) = IsOutlined invocation report
+AnswerIsOutlined event answer = ⊤

@@ -1,16 +1,18 @@
 //! Any list of edits and builds.
 ghost use Rattle.std.specs.Prelude.{◌≡◌, ◌≤◌, [], ◌∷◌, IfOk, IsTrue, OnErr, length, map};
+ghost use Rattle.std.specs.List.{AllZip};
 ghost use Rattle.gb_folder.specs.Files.{SameTearing};
 ghost use Rattle.gb_history.specs.Places.{record_place};
 ghost use Rattle.gb_invocation.specs.Scripts.{registers_in, setting_of};
 ghost use Rattle.gb_invoke.specs.Leading.{Leads};
+ghost use Rattle.gb_meaning.specs.Every.{PromiseHolds};
 ghost use Rattle.gb_meaning.specs.Headline.{Agrees, AllKeepElsewhere, EventKeeps, EventsHold, HaveHeardAll};
 ghost use Rattle.gb_meaning.specs.Headline.{HasFailed, TearsAreSeen, answer_of, times_blamed};
 ghost use Rattle.gb_meaning.specs.Headline.{times_blamed_in_all};
 ghost use Rattle.gb_meaning.specs.Kinds.{Kinds};
 ghost use Rattle.gb_records.specs.Said.{IsText};
 ghost use Rattle.gb_registry.specs.Tables.{tables_of};
-ghost use Rattle.gb_events.specs.Answers.{edit_answer};
+ghost use Rattle.gb_events.specs.Answers.{AnswerIsOutlined, edit_answer};
 
 use crate::edits::{lose, put, remove};
 use gb_action::actions::Actions;
@@ -45,6 +47,9 @@ pub fn run_events<A: Actions, T: Transforms, F: Folder, L: TaskListener>(
     // Each listener heard the builds, one after another.
     ensures heard { IfOk result (λ answers.
         HaveHeardAll answers.items (map L.ear listeners.old.items) (map L.ear listeners.new.items)) }
+    // Over any folder: each build is that of a plan of what was asked of some registry, of which each task
+    // starts and answers as it may.
+    ensures outlined { IfOk result (λ answers. AllZip AnswerIsOutlined events.now answers.items) }
     // Whatever fails, a build changes nothing but `.gb` and the build folders of its projects.
     ensures elsewhere { IsTrue F.tells → IfOk result (λ answers.
         AllKeepElsewhere (registers_in (tables_of T.meanings A.meanings tables.now)) events.now answers.items
@@ -54,6 +59,16 @@ pub fn run_events<A: Actions, T: Transforms, F: Folder, L: TaskListener>(
         → Agrees A.meanings tables.now.actions kinds
         → TearsAreSeen IsText record_place (F.may_leave folder.old)
         → EventsHold
+        (setting_of (tables_of T.meanings A.meanings tables.now) kinds (F.may_leave folder.old))
+        (record { contents = F.contents folder.old; failures = F.failures folder.old })
+        events.now answers.items
+        (record { contents = F.contents folder.new; failures = F.failures folder.new })) }
+    // So each event is a plain step, and each build in which no task failed is from scratch, from whatever
+    // true records.
+    ensures promise { IsTrue F.tells → IfOk result (λ answers. (kinds : Kinds)
+        → Agrees A.meanings tables.now.actions kinds
+        → TearsAreSeen IsText record_place (F.may_leave folder.old)
+        → PromiseHolds
         (setting_of (tables_of T.meanings A.meanings tables.now) kinds (F.may_leave folder.old))
         (record { contents = F.contents folder.old; failures = F.failures folder.old })
         events.now answers.items
@@ -78,6 +93,7 @@ fn take<A: Actions, T: Transforms, F: Folder, L: TaskListener>(
     ensures tearing { SameTearing (F.may_leave folder.old) (F.may_leave folder.new) }
     ensures device { HasFailed (times_blamed result) (F.failures folder.old) (F.failures folder.new) }
     ensures heard { HaveHeardAll (result ∷ []) (map L.ear listeners.old.items) (map L.ear listeners.new.items) }
+    ensures outlined { AnswerIsOutlined event.now result }
     ensures keeps { IsTrue F.tells
         → EventKeeps (registers_in (tables_of T.meanings A.meanings tables.now)) event.now result
         (F.contents folder.old) (F.contents folder.new) }

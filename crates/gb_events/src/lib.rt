@@ -6,3 +6,4 @@
 
 mod edits;
 pub mod events;
+pub mod nothing;

@@ -1,10 +1,11 @@
 -- What listeners hear of one report more.
-use Rattle.std.specs.Prelude.{◌≡◌, true, false, cond, List, [], ◌∷◌, ◌++◌}
+use Rattle.std.specs.Prelude.{ℕ, ◌≡◌, true, false, cond, List, [], ◌∷◌, ◌++◌}
 use Rattle.std.specs.List.{AllZip}
-use Rattle.std.proofs.Common.{refl, ap, inl, arith}
+use Rattle.std.proofs.Common.{refl, ap, sym, ◌∙◌}
 use Rattle.std.proofs.lemmas.Grind.{flat_map-append}
-use Rattle.gb_listen.specs.Telling.{AllTold, HasBeenTold}
-use Rattle.gb_meaning.specs.Headline.{Ear, HearsAll}
+use Rattle.gb_listen.specs.Telling.{AllTold}
+use Rattle.gb_listen.proofs.Counts.{counted_none}
+use Rattle.gb_meaning.specs.Headline.{Ear, HearsAll, HearsSome}
 use Rattle.gb_meaning.specs.Turn.{heard_of}
 use Rattle.gb_report.specs.Outcome.{is_started}
 use Rattle.gb_report.specs.declared.report.Heard.{Heard}
@@ -17,11 +18,14 @@ nothing_more (x ∷ xs) = ap (λ (ys : List Heard). x ∷ ys) (nothing_more xs)
 
 all_heard : (ears : List Ear) → AllZip (HearsAll []) ears ears
 all_heard [] = tt
-all_heard (ear ∷ ears) = (nothing_more ear.0, all_heard ears)
+all_heard (ear ∷ ears) = (ap (λ (xs : List Heard). (xs, ear.1)) (nothing_more ear.0), all_heard ears)
 
-each_told : (ears : List Ear) → AllZip (HasBeenTold []) ears ears
+each_told : (ears : List Ear) → AllZip (HearsSome []) ears ears
 each_told [] = tt
-each_told (ear ∷ ears) = (record { count = omega arith; some = inl (nothing_more ear.0) }, each_told ears)
+each_told (ear ∷ ears) = (
+  ([], refl, ap (λ (xs : List Heard). (xs, ear.1)) (nothing_more ear.0) ∙ ap (λ (n : ℕ). (ear.0 ++ [], n)) (sym (counted_none ear.1))),
+  each_told ears,
+)
 
 -- told of nothing, all have heard it
 pub untold : (ears : List Ear) → AllTold [] true ears ears

@@ -1,5 +1,5 @@
 //! What is remembered of a task.
-ghost use Rattle.std.specs.Prelude.{◌≡◌, IsTrue};
+ghost use Rattle.std.specs.Prelude.{◌≡◌, IsTrue, IfOk};
 ghost use Rattle.std.specs.FinMap.Entries.{is_sorted};
 ghost use Rattle.gb_core.specs.Lists.{byte_order};
 ghost use Rattle.gb_history.specs.Remembered.{AreInOrder, prints_in};
@@ -9,6 +9,7 @@ use gb_action::values::NamedValues;
 use gb_core::place::Place;
 use gb_plan::task::Action;
 use gb_tree::prints::Prints;
+use std::alloc::{AllocError, Global};
 use std::marker::Model;
 
 /// In which form a record is written.
@@ -96,4 +97,29 @@ impl Record {
     {
         self.outputs.as_slice()
     }
+
+    /// The digests of its inputs and of its outputs; the rest goes.
+    pub fn into_prints(self, alloc: Global) -> Result<(Vec<Prints>, Vec<Prints>), AllocError>
+        ensures inputs { IfOk result (λ prints. prints.0.items ≡ self.inputs) }
+        ensures outputs { IfOk result (λ prints. prints.1.items ≡ prints_in self.outputs) }
+    {
+        let Record {
+            actions: _,
+            values: _,
+            inputs,
+            outputs,
+        } = self;
+        let outputs = prints_alone(alloc, outputs)?;
+        Ok((inputs, outputs))
+    }
+}
+
+/// The digests of outputs, without their forms and places.
+fn prints_alone(alloc: Global, outputs: Vec<OutputRecord>) -> Result<Vec<Prints>, AllocError>
+    ensures { IfOk result (λ prints. prints.items ≡ prints_in outputs.items) }
+{
+    outputs
+        .into_iter()
+        .map(|output| output.prints)
+        .collect(alloc)
 }

@@ -26,7 +26,7 @@ heads : {X : Type 0} (x y : X) (xs ys : List X) → x ∷ xs ≡ y ∷ ys → x 
 heads x y xs ys e = cc
 
 -- one action writes, so some action does
-some_writes : (kinds : Kinds) (actions : List Action) (w : Action) (ws : List Action) → writers kinds actions ≡ w ∷ ws → list_any (λ (a : Action). kinds.writes (kind_of a)) actions ≡ true
+pub some_writes : (kinds : Kinds) (actions : List Action) (w : Action) (ws : List Action) → writers kinds actions ≡ w ∷ ws → list_any (λ (a : Action). kinds.writes (kind_of a)) actions ≡ true
 some_writes kinds [] w ws e = absurd (let q = e in (cc))
 some_writes kinds (a ∷ actions) w ws e = by (λ q. some_writes kinds actions w ws q) (kinds.writes (kind_of a)) e
   where
@@ -36,7 +36,7 @@ some_writes kinds (a ∷ actions) w ws e = by (λ q. some_writes kinds actions w
     by again false q = again q
 
 -- an action that writes is the one
-the_one : (kinds : Kinds) (done left : List Action) (action w : Action) → kinds.writes (kind_of action) ≡ true → writers kinds (done ++ action ∷ left) ≡ w ∷ [] → action ≡ w
+pub the_one : (kinds : Kinds) (done left : List Action) (action w : Action) → kinds.writes (kind_of action) ≡ true → writers kinds (done ++ action ∷ left) ≡ w ∷ [] → action ≡ w
 the_one kinds done left action w writes e = by (writers kinds done) (sym here ∙ e)
   where
     here : writers kinds (done ++ action ∷ left) ≡ writers kinds done ++ action ∷ writers kinds left

@@ -75,7 +75,7 @@ module _ (kinds : Kinds) (task : Task) (trees : Trees) (changes : List Changes) 
   or_none false = refl
 
   -- where one action writes, none before it does
-  two_writers : (xs : List Action) (a b : Action) (ys : List Action) → any_writes xs ≡ true → writers kinds xs ++ a ∷ ys ≡ b ∷ [] → ⊥
+  pub two_writers : (xs : List Action) (a b : Action) (ys : List Action) → any_writes xs ≡ true → writers kinds xs ++ a ∷ ys ≡ b ∷ [] → ⊥
   two_writers [] a b ys e is = true≢false (sym e)
   two_writers (x ∷ xs) a b ys e is = by (λ w q. two_writers xs a b ys w q) (kinds.writes (kind_of x)) e is
     where
@@ -97,6 +97,14 @@ module _ (kinds : Kinds) (task : Task) (trees : Trees) (changes : List Changes) 
               ∙ ap (λ (actions : List Action). put_over course.rest (run_along course actions).held) (sym same);
           printed = going.printed ∙ ap (lines_by course) (sym same);
         }
+
+    -- memory ran out behind the last action
+    pub fails_late : IsGoing [] folder lines → (may_leave : Tearing) (before : ℕ) (fault : Fault) (after : ℕ) → fault ≡ faults.OutOfMemory → Fails course old may_leave before fault lines after folder
+    fails_late going may_leave before fault after is = record {
+      moment = record { done = going.done; left = []; all = going.all; no_fault = going.no_fault; front = []; behind = []; at_hand = refl };
+      printed = going.printed;
+      why = inr (inl (is, going.stands));
+    }
 
     module _ (action : Action) (left : List Action) (going : IsGoing (action ∷ left) folder lines) where
       all_more : task.actions ≡ (going.done ++ action ∷ []) ++ left

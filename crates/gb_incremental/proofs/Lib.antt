@@ -2,6 +2,7 @@ pub mod Looks
 pub mod AtPaths
 pub mod Writer
 pub mod Seen
+pub mod Owned
 pub mod Following
 pub mod Leading
 pub mod StepTexts
@@ -16,3 +17,4 @@ pub mod Same
 pub mod Further
 pub mod Failing
 pub mod OneWriter
+pub mod Telling

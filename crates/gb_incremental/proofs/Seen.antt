@@ -91,7 +91,7 @@ module _ (files : Files) (root : Place) where
       by false true e = refl
       by false false e = refl
 
-  under_all : (part : Files) → AllByRecursion (λ p. is_under p root ≡ true) (map (λ (f : Place × Bytes). f.0) (files_where (λ place. is_under place root) part))
+  pub under_all : (part : Files) → AllByRecursion (λ p. is_under p root ≡ true) (map (λ (f : Place × Bytes). f.0) (files_where (λ place. is_under place root) part))
   under_all [] = tt
   under_all (file ∷ part) = by (under_all part) (is_under file.0 root) refl
     where
@@ -100,7 +100,7 @@ module _ (files : Files) (root : Place) where
       by again true is = (is, again)
       by again false is = again
 
-  placed_all : (part : Files) → are_placed part ≡ true → AllByRecursion (λ p. is_place p ≡ true) (map (λ (f : Place × Bytes). f.0) (files_where (λ place. is_under place root) part))
+  pub placed_all : (part : Files) → are_placed part ≡ true → AllByRecursion (λ p. is_place p ≡ true) (map (λ (f : Place × Bytes). f.0) (files_where (λ place. is_under place root) part))
   placed_all [] placed = tt
   placed_all (file ∷ part) placed = by (placed_all part (right_of (is_place file.0) (are_placed part) placed)) (is_under file.0 root)
     where

@@ -56,6 +56,10 @@ module _ (steps : List (Place × Option (Bor Bytes))) (i : ℕ) (step : Place ×
       sym (shown-append (take i steps) (step ∷ [])) ∙ ap (λ s. shown_steps (take i steps ++ s ∷ [])) is
       ∙ ap shown_steps (sym (take_more steps i step within))
 
+  -- the files then
+  pub after_more : (files : Files) → after_steps (after_steps files (shown_steps (take i steps))) (here ∷ []) ≡ after_steps files (shown_steps (take (i + 1) steps))
+  after_more files = sym (after-append files (shown_steps (take i steps)) (here ∷ [])) ∙ ap (after_steps files) front_more
+
   -- one step more is done
   pub put_more : (old now new : Contents) → now ≡ folder_after old (shown_steps (take i steps)) → new ≡ folder_after now (here ∷ []) → new ≡ folder_after old (shown_steps (take (i + 1) steps))
   put_more old now new before after =

@@ -44,11 +44,11 @@ pub ok_value : {T E : Type 0} (r : Result T E) → IsOk r → (value : T) × (r 
 ok_value (Ok x) e = (x, refl)
 ok_value (Err y) e = absurd (true≢false (sym e))
 
-none_mapped : {X Y : Type 0} (f : X → Y) (xs : List X) → map f xs ≡ [] → xs ≡ []
+pub none_mapped : {X Y : Type 0} (f : X → Y) (xs : List X) → map f xs ≡ [] → xs ≡ []
 none_mapped f [] e = refl
 none_mapped f (x ∷ xs) e = absurd (let q = e in (cc))
 
-none_later : {X : Type 0} (xs ys : List X) → xs ++ ys ≡ [] → ys ≡ []
+pub none_later : {X : Type 0} (xs ys : List X) → xs ++ ys ≡ [] → ys ≡ []
 none_later [] ys e = e
 none_later (x ∷ xs) ys e = absurd (let q = e in (cc))
 

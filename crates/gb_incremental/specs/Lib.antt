@@ -7,3 +7,4 @@ pub mod Changing
 pub mod Laws
 pub mod Turn
 pub mod Requests
+pub mod Digests

@@ -7,10 +7,11 @@ use Rattle.gb_report.specs.declared.fault.Fault.TheVariants as faults
 use Rattle.gb_action.specs.Changes.{Changes}
 use Rattle.gb_action.specs.Files.{Trees}
 use Rattle.gb_action.specs.declared.output.OutputFiles.{OutputFiles}
+use Rattle.gb_tree.specs.Prints.{digests_of}
 use Rattle.gb_plan.specs.declared.task.Action.{Action}
 use Rattle.gb_plan.specs.declared.task.TaskDeclaration.{TaskDeclaration as Task}
 use Rattle.gb_meaning.specs.Kinds.{Kinds}
-use Rattle.gb_meaning.specs.Made.{full_outputs, put_over, rest_of}
+use Rattle.gb_meaning.specs.Made.{full_outputs, put_over, put_result, rest_of}
 use Rattle.gb_meaning.specs.Run.{step_by}
 use Rattle.gb_run.specs.Asking.{made_by}
 use Rattle.gb_run.specs.Course.{free_files}
@@ -32,6 +33,14 @@ pub record Ends (kinds : Kinds) (task : Task) (action : Action) (trees : Trees) 
   pub step : step_by task.outputs (rest_of task old) [] (made_by kinds task action trees) ≡ Ok more
   pub few : full_outputs task.outputs more ≡ []
   pub files : new ≡ put_over (rest_of task old) more
+
+-- It makes files, and these are their digests.
+pub record Makes (kinds : Kinds) (task : Task) (action : Action) (trees : Trees)
+    (digests : Files) : Type 0 where
+  pub more : Files
+  pub put : put_result task.outputs [] (made_by kinds task action trees) ≡ Ok more
+  pub few : full_outputs task.outputs more ≡ []
+  pub prints : digests ≡ digests_of more
 
 -- It stops, by itself or by the machine; of its steps some first ones are done.
 pub record Stops (kinds : Kinds) (task : Task) (action : Action) (trees : Trees) (old : Files)

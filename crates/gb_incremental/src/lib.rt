@@ -13,5 +13,6 @@ pub mod laws;
 pub mod planning;
 pub mod reply;
 pub mod run;
+mod standing;
 pub mod stepping;
 pub mod turns;

@@ -1,24 +1,30 @@
 //! The run of a task's actions by changes, one after another.
 ghost use Rattle.std.specs.Prelude.{◌≡◌, ◌≤◌, ◌⊎◌, ◌++◌, ℕ, List, [], true, false, Ok, Err, IsTrue, IfOk, IfErr, OnOk, OnErr, map};
+ghost use Rattle.std.specs.FinMap.Entries.{is_sorted};
 ghost use Rattle.std.specs.List.{AllByRecursion};
+ghost use Rattle.gb_core.specs.Lists.{byte_order};
 ghost use Rattle.gb_action.specs.Files.{Trees};
 ghost use Rattle.gb_action.specs.Replies.{Answers};
-ghost use Rattle.gb_folder.specs.Files.{Files, SameTearing};
+ghost use Rattle.gb_folder.specs.Files.{Files, SameTearing, are_placed};
 ghost use Rattle.gb_store.specs.Changes.{ChangesOnly};
 ghost use Rattle.gb_store.specs.Faults.{Blames, BlamesOnly};
+ghost use Rattle.gb_tree.specs.Prints.{digests_of};
 ghost use Rattle.gb_plan.specs.Ready.{IsReady, IsReadyAction};
 ghost use Rattle.gb_plan.specs.Task.{is_output_of, seen_files, seen_outputs};
 ghost use Rattle.gb_meaning.specs.Headline.{Agrees};
 ghost use Rattle.gb_meaning.specs.Kinds.{Kinds, kind_of};
-ghost use Rattle.gb_meaning.specs.Made.{rest_of};
+ghost use Rattle.gb_meaning.specs.Made.{made_of, rest_of};
+ghost use Rattle.gb_meaning.specs.Memory.{output_files};
 ghost use Rattle.gb_run.specs.Asking.{IsFullLike, made_by, printed_by};
 ghost use Rattle.gb_run.specs.Course.{EndsWell, course_of};
+ghost use Rattle.gb_run.specs.Digests.{prints_at};
 ghost use Rattle.gb_incremental.specs.Asking.{AnswersChanges, CanGoOn, GoesOn, IsFitting, request_of};
 ghost use Rattle.gb_incremental.specs.Changing.{Fails};
-ghost use Rattle.gb_incremental.specs.Turn.{Ends, IsItsTurn, Stops};
+ghost use Rattle.gb_incremental.specs.Turn.{Ends, IsItsTurn, Makes, Stops};
 
 use crate::asking::{ask, full_request, is_writer};
 use crate::planning::planned;
+use crate::standing::{digests_stood, follow_steps};
 use crate::stepping::take_steps;
 use gb_action::actions::Actions;
 use gb_action::change::ChangeLists;
@@ -31,15 +37,18 @@ use gb_core::text::Texts;
 use gb_folder::folder::Folder;
 use gb_plan::task::{Action, TaskDeclaration};
 use gb_report::fault::Fault;
+use gb_run::digests::Digests;
+use gb_tree::prints::Prints;
 use std::alloc::Global;
 use std::mem;
 
-/// What a run has at hand: the request, in which outputs have no files, and the outputs as they are seen,
-/// for the one action that is asked by changes.
+/// What a run has at hand: the request, in which outputs have no files, the outputs as they are seen, for
+/// the one action that is asked by changes, and the digests of what stands there.
 #[derive(Drop)]
 struct Running {
     request: Request,
     seen: OutputSnapshots,
+    digests: Digests,
 }
 
 /// Asks an action in full that writes no file, and puts its lines behind the others.
@@ -88,6 +97,7 @@ fn ask_by_changes<A: Actions>(
     ensures request { OnOk result (running.new.request ≡ request_of task.now running.old.request.files
         running.old.request.changes.lists running.old.seen action.now.args) }
     ensures seen { OnOk result (running.new.seen ≡ running.old.request.outputs) }
+    ensures digests { running.new.digests ≡ running.old.digests }
     ensures answered { IfOk result (λ reply. (kinds : Kinds) → Agrees A.meanings table.now kinds
         → Answers (kinds.makes (kind_of action.now)) (kinds.prints (kind_of action.now))
         (request_of task.now running.old.request.files running.old.request.changes.lists running.old.seen
@@ -109,6 +119,7 @@ fn go_back(running: &mut Running)
       changes = record { incremental = false; lists = running.old.request.changes.lists };
     } }
     ensures seen { running.new.seen ≡ running.old.request.outputs }
+    ensures digests { running.new.digests ≡ running.old.digests }
 {
     mem::swap(&mut running.request.outputs, &mut running.seen);
     running.request.changes.incremental = false;
@@ -142,6 +153,11 @@ fn run_writer<A: Actions, F: Folder>(
     ensures printed { OnOk result ((kinds : Kinds) → Agrees A.meanings table.now kinds → lines.new ≡ lines.old
         ++ printed_by kinds task.now action.now running.old.request.files running.old.request.changes.lists) }
     ensures lines { OnErr result (lines.new ≡ lines.old) }
+    ensures makes { OnOk result ((kinds : Kinds) → Agrees A.meanings table.now kinds
+        → (standing : Files) → IsTrue (is_sorted byte_order standing) → IsTrue (are_placed standing)
+        → IsItsTurn kinds task.now action.now running.old.request.files running.old.request.changes.lists
+        running.old.seen standing → running.old.digests ≡ digests_of (output_files task.now standing)
+        → Makes kinds task.now action.now running.old.request.files running.new.digests) }
     ensures ok { IsTrue F.tells → OnOk result ((kinds : Kinds) → Agrees A.meanings table.now kinds
         → IsItsTurn kinds task.now action.now running.old.request.files running.old.request.changes.lists
         running.old.seen (F.contents folder.old).files
@@ -163,6 +179,7 @@ fn run_writer<A: Actions, F: Folder>(
         reply.removes.as_slice(),
         reply.writes.as_slice(),
     )?;
+    follow_steps(&mut running.digests, steps.as_slice())?;
     take_steps(folder, steps.as_slice())?;
     go_back(running);
     lines.append(printed)?;
@@ -198,6 +215,10 @@ fn run_one<A: Actions, F: Folder>(
     ensures lines { OnErr result (lines.new ≡ lines.old) }
 
     // An action that writes no file.
+    ensures kept { OnOk result ((kinds : Kinds) → Agrees A.meanings table.now kinds
+        → IsFitting kinds task.now action.now → kinds.writes (kind_of action.now) ≡ false
+        → (made_by kinds task.now action.now running.old.request.files ≡ Ok [])
+        × (running.new.digests ≡ running.old.digests)) }
     ensures read { IsTrue F.tells → OnOk result ((kinds : Kinds) → Agrees A.meanings table.now kinds
         → IsFitting kinds task.now action.now → kinds.writes (kind_of action.now) ≡ false
         → (made_by kinds task.now action.now running.old.request.files ≡ Ok [])
@@ -209,6 +230,11 @@ fn run_one<A: Actions, F: Folder>(
         × (F.contents folder.new ≡ F.contents folder.old)) }
 
     // The action that writes.
+    ensures makes { OnOk result ((kinds : Kinds) → Agrees A.meanings table.now kinds
+        → (standing : Files) → IsTrue (is_sorted byte_order standing) → IsTrue (are_placed standing)
+        → IsItsTurn kinds task.now action.now running.old.request.files running.old.request.changes.lists
+        running.old.seen standing → running.old.digests ≡ digests_of (output_files task.now standing)
+        → Makes kinds task.now action.now running.old.request.files running.new.digests) }
     ensures wrote { IsTrue F.tells → OnOk result ((kinds : Kinds) → Agrees A.meanings table.now kinds
         → IsItsTurn kinds task.now action.now running.old.request.files running.old.request.changes.lists
         running.old.seen (F.contents folder.old).files
@@ -231,7 +257,8 @@ fn run_one<A: Actions, F: Folder>(
 
 /// Runs the actions of a task over the files that stand at its outputs: the one that writes by changes, the
 /// others in full with the same change lists. What is left is what a run in full leaves, and no place is
-/// touched at which the right file stands. After an error the lines are those of the actions that had ended.
+/// touched at which the right file stands. Answers the digests of what the actions make: those that stood,
+/// with the reply put over them. After an error the lines are those of the actions that had ended.
 pub fn run_by_changes<A: Actions, F: Folder>(
     alloc: Global,
     folder: &mut F,
@@ -239,14 +266,24 @@ pub fn run_by_changes<A: Actions, F: Folder>(
     table: &ActionTable<A::Stored>,
     files: Snapshots,
     outputs: OutputSnapshots,
+    stood: Vec<Prints>,
     changes: ChangeLists,
     lines: &mut Texts,
-) -> Result<(), Fault>
+) -> Result<Vec<Prints>, Fault>
     requires ready { IsReady A.meanings table.now task.now }
     requires able { AllByRecursion (CanGoOn A.meanings table.now) task.now.actions }
     requires named { map (λ tree. tree.0) files ≡ seen_files task.now.files }
     requires formed { map (λ output. (output.name, output.form)) outputs ≡ seen_outputs task.now.outputs }
+    requires prints { stood.items ≡ map (λ output. (output.name, digests_of output.files)) outputs }
     requires no_lines { lines.old ≡ [] }
+    ensures named { IfOk result (λ made.
+        map (λ prints. prints.0) made.items ≡ map (λ output. output.name) task.now.outputs) }
+    ensures made { IfOk result (λ made. (kinds : Kinds) → Agrees A.meanings table.now kinds
+        → (old : Trees) (standing : Files)
+        → IsTrue (is_sorted byte_order standing) → IsTrue (are_placed standing)
+        → GoesOn kinds task.now old files changes outputs standing → (held : Files)
+        × (made_of kinds task.now.actions task.now.values files task.now.outputs ≡ Ok held)
+        × (made.items ≡ prints_at task.now.outputs held)) }
     ensures count { F.failures folder.old ≤ F.failures folder.new }
     ensures blame { Blames result (F.failures folder.old) (F.failures folder.new) }
     ensures blamed { BlamesOnly (is_output_of task.now) result }
@@ -266,9 +303,10 @@ pub fn run_by_changes<A: Actions, F: Folder>(
     let mut running = Running {
         request: full_request(alloc, task, files, changes)?,
         seen: outputs,
+        digests: digests_stood(alloc, task.outputs.as_slice(), stood.as_slice())?,
     };
     for action in task.actions.iter() {
         run_one::<A, F>(alloc, folder, task, table, action, &mut running, lines)?;
     }
-    Ok(())
+    Ok(running.digests.prints(alloc, task.outputs.as_slice())?)
 }

@@ -107,7 +107,7 @@ module _ (kinds : Kinds) (registry : Registry) (registers : Registering) (may_le
       success = is.success;
     }
 
-    refusal_too : (fault : Fault) (after : ℕ) → later ≤ after → IsNotBuilt one (from_later remembered) invocation fault after → IsNotBuilt two (from_before remembered) invocation fault after
+    refusal_too : (fault : Fault) (after : ℕ) → later ≤ after → IsNotBuilt (always registry) (shows contents later) invocation fault after → IsNotBuilt registers (shows contents before) invocation fault after
     refusal_too fault after count (inl said) = absurd (cc)
     refusal_too fault after count (inr (inl (other, scripts, refused))) =
         inr (inl (other, subst (registers (outside contents).files invocation.properties) scripts says, refused))
@@ -140,14 +140,14 @@ module _ (kinds : Kinds) (registry : Registry) (registers : Registering) (may_le
 
 -- an invocation that is not built, and changed nothing
 pub refused_leads : (setting : Setting) (old end : Shown) (invocation : Invocation) (fault : Fault)
-    → ((remembered : Memory) → IsNotBuilt setting (state_of old remembered) invocation fault end.failures)
+    → IsNotBuilt setting.registers old invocation fault end.failures
     → end.contents ≡ old.contents → (result : Result Report Fault) → result ≡ Err fault → Leads setting old (events.Invoke invocation) (answer_of result) end
 refused_leads setting old end invocation fault why same result is =
     subst (λ (r : Result Report Fault). Leads setting old (events.Invoke invocation) (answer_of r) end) (sym is)
     (λ remembered clear seen worth. nothing_leads setting old end (events.Invoke invocation) (answers.NotBuilt fault) same remembered clear seen worth
-    (why remembered, same, refl))
+    (why, same, refl))
 
 -- memory ran out
 pub out_of_memory : (setting : Setting) (old end : Shown) (invocation : Invocation) (fault : Fault) → fault ≡ faults.OutOfMemory
     → end.contents ≡ old.contents → (result : Result Report Fault) → result ≡ Err fault → Leads setting old (events.Invoke invocation) (answer_of result) end
-out_of_memory setting old end invocation fault out = refused_leads setting old end invocation fault (λ remembered. inr (inr (inl out)))
+out_of_memory setting old end invocation fault out = refused_leads setting old end invocation fault (inr (inr (inl out)))

@@ -1,12 +1,16 @@
 //! One invocation over the scripts of a folder.
-ghost use Rattle.std.specs.Prelude.{◌≡◌, ◌≤◌, [], Ok, map, IfOk, IsTrue, OnErr};
-ghost use Rattle.gb_folder.specs.Files.{SameTearing};
+ghost use Rattle.std.specs.Prelude.{◌≡◌, ◌≤◌, ◌&&◌, ◌∷◌, [], ℕ, List, Ok, map, not, true, IfErr, IfOk, IsTrue, OnErr};
+ghost use Rattle.gb_folder.specs.Files.{SameTearing, is_own};
 ghost use Rattle.gb_history.specs.Places.{record_place};
 ghost use Rattle.gb_invoke.specs.Leading.{Leads};
+ghost use Rattle.gb_invoke.specs.Refusing.{IsNotBegun};
 ghost use Rattle.gb_meaning.specs.declared.events.Event.TheVariants as events;
+ghost use Rattle.gb_meaning.specs.Events.{IsNotBuilt, is_read_first};
+ghost use Rattle.gb_meaning.specs.Every.{PromiseHolds};
 ghost use Rattle.gb_meaning.specs.Headline.{Agrees, EventKeeps, HaveHeard, InvocationHolds, KeepsElsewhere};
 ghost use Rattle.gb_meaning.specs.Headline.{HasFailed, TearsAreSeen, answer_of, times_blamed};
 ghost use Rattle.gb_meaning.specs.Kinds.{Kinds};
+ghost use Rattle.gb_meaning.specs.Outline.{IsOutlined};
 ghost use Rattle.gb_records.specs.Said.{IsText};
 ghost use Rattle.gb_registry.specs.Configure.{configure_faults};
 ghost use Rattle.gb_registry.specs.Tables.{tables_of};
@@ -50,7 +54,19 @@ pub fn invoke<A: Actions, T: Transforms, F: Folder, L: TaskListener>(
     ensures device { HasFailed (times_blamed (answer_of result))
         (F.failures folder.old) (F.failures folder.new) }
     ensures tearing { SameTearing (F.may_leave folder.old) (F.may_leave folder.new) }
+    // Over any folder: it is a build of the plan of what was asked of some registry, of which each task
+    // starts and answers as it may; and a refusal blames the device where it reads before the first task.
+    ensures outlined { IfOk result (IsOutlined invocation.now) }
+    ensures places { IfErr result (λ fault. (place : List ℕ) → fault ≡ Fault.Device place
+        → IsTrue (is_read_first invocation.now.options place)) }
     ensures refused { IsTrue F.tells → OnErr result (F.contents folder.new ≡ F.contents folder.old) }
+    // Why it is refused, and that a dry run changes nothing, hang on no kinds and no device.
+    ensures not_built { IsTrue F.tells → IfErr result (λ fault.
+        IsNotBuilt (registers_in (tables_of T.meanings A.meanings tables.now))
+        (record { contents = F.contents folder.old; failures = F.failures folder.old })
+        invocation.now fault (F.failures folder.new)) }
+    ensures dry { IsTrue F.tells → invocation.now.options.dry_run ≡ true
+        → F.contents folder.new ≡ F.contents folder.old }
     // A build changes nothing but `.gb` and the build folders of the projects, and a refusal nothing.
     ensures keeps { IsTrue F.tells
         → EventKeeps (registers_in (tables_of T.meanings A.meanings tables.now)) (events.Invoke invocation.now)
@@ -71,6 +87,16 @@ pub fn invoke<A: Actions, T: Transforms, F: Folder, L: TaskListener>(
         (setting_of (tables_of T.meanings A.meanings tables.now) kinds (F.may_leave folder.old))
         (record { contents = F.contents folder.old; failures = F.failures folder.old })
         invocation.now result
+        (record { contents = F.contents folder.new; failures = F.failures folder.new }) }
+    // So it is a plain step, and a build in which no task failed is from scratch, from whatever true
+    // records.
+    ensures promise { IsTrue F.tells → (kinds : Kinds)
+        → Agrees A.meanings tables.now.actions kinds
+        → TearsAreSeen IsText record_place (F.may_leave folder.old)
+        → PromiseHolds
+        (setting_of (tables_of T.meanings A.meanings tables.now) kinds (F.may_leave folder.old))
+        (record { contents = F.contents folder.old; failures = F.failures folder.old })
+        (events.Invoke invocation.now ∷ []) (answer_of result ∷ [])
         (record { contents = F.contents folder.new; failures = F.failures folder.new }) }
 {
     let given = copy_given(alloc, &invocation.properties)?;
@@ -97,6 +123,13 @@ fn build_registered<A: Actions, T: Transforms, F: Folder, L: TaskListener>(
     ensures device { HasFailed (times_blamed (answer_of result))
         (F.failures folder.old) (F.failures folder.new) }
     ensures tearing { SameTearing (F.may_leave folder.old) (F.may_leave folder.new) }
+    ensures outlined { IfOk result (IsOutlined invocation.now) }
+    ensures places { IfErr result (λ fault. (place : List ℕ) → fault ≡ Fault.Device place
+        → IsTrue (is_own place && not invocation.now.options.dry_run)) }
+    ensures not_begun { IfErr result
+        (IsNotBegun (registry_said (tables_of T.meanings A.meanings tables.now) registry.now) invocation.now
+        (F.failures folder.old) (F.failures folder.new)) }
+    ensures dry { invocation.now.options.dry_run ≡ true → folder.new ≡ folder.old }
     ensures refused { IsTrue F.tells → OnErr result (F.contents folder.new ≡ F.contents folder.old) }
     ensures keeps { IsTrue F.tells
         → KeepsElsewhere (registry_said (tables_of T.meanings A.meanings tables.now) registry.now)

@@ -1,20 +1,21 @@
 -- What a refused invocation leaves is as its definition says, and it blames the device no more than it failed.
-use Rattle.std.specs.Prelude.{ℕ, ◌≡◌, ◌≤◌, ◌||◌, Bool, false, List, cond, codes, IfErr, Ok, Err, Result, bytes_eq}
-use Rattle.std.proofs.Common.{refl, sym, ap, subst, inl, inr, arith}
-use Rattle.gb_folder.specs.Files.{HasRisen}
+use Rattle.std.specs.Prelude.{ℕ, ◌≡◌, ◌≤◌, ◌||◌, ◌&&◌, Bool, IsTrue, false, not, List, cond, codes, IfErr, Ok, Err, Result, bytes_eq}
+use Rattle.std.proofs.Common.{refl, sym, ap, ◌∙◌, subst, inl, inr, arith}
+use Rattle.gb_folder.specs.Files.{HasRisen, Place, is_own}
 use Rattle.gb_meaning.specs.declared.events.Answer.TheVariants as answers
 use Rattle.gb_meaning.specs.declared.events.Event.TheVariants as events
 use Rattle.gb_meaning.specs.declared.events.Invocation.{Invocation}
 use Rattle.gb_meaning.specs.Edits.{Shown}
-use Rattle.gb_meaning.specs.Events.{IsNotBuilt, Setting, State}
-use Rattle.gb_meaning.specs.Headline.{HasFailed, answer_of, is_of_device, state_of, times_blamed}
+use Rattle.gb_meaning.specs.Events.{IsNotBuilt, Setting}
+use Rattle.gb_meaning.specs.Headline.{HasFailed, Registering, answer_of, is_of_device, times_blamed}
 use Rattle.gb_meaning.specs.TrueRecord.{outside}
 use Rattle.gb_graph.specs.Answer.{IsRefusalOf}
 use Rattle.gb_plan.specs.Graph.{Registry}
 use Rattle.gb_plan.specs.Task.{Text}
 use Rattle.gb_report.specs.declared.report.Report.{Report}
-use Rattle.gb_plan.proofs.Tests.{or_right}
+use Rattle.gb_plan.proofs.Tests.{not_false, or_right}
 use Rattle.gb_report.specs.declared.fault.Fault.{Fault}
+use Rattle.gb_report.specs.declared.fault.Fault.TheVariants as faults
 use Rattle.gb_tree.specs.Property.{last_segment}
 use Rattle.gb_invoke.specs.Asking.{NoneBlameDevice}
 use Rattle.gb_invoke.specs.Leading.{Leads}
@@ -25,13 +26,13 @@ use Rattle.gb_invoke.proofs.Asked.{refusal_blames_none, request_registry, words_
 -- ---- What is left
 
 -- why a build is not begun is why an invocation is not built
-not_built : (setting : Setting) (registry : Registry) (old : State) (invocation : Invocation) (fault : Fault) (after : ℕ) → setting.registers (outside old.contents).files invocation.properties (Ok registry)
-    → IsNotBegun registry invocation old.failures after fault → IsNotBuilt setting old invocation fault after
-not_built setting registry old invocation fault after scripts (inl (inl out)) = inr (inr (inl out))
-not_built setting registry old invocation fault after scripts (inl (inr (inl words))) = inr (inl (registry, scripts, inl words))
-not_built setting registry old invocation fault after scripts (inl (inr (inr plan))) = inr (inl (registry, scripts, inr plan))
-not_built setting registry old invocation fault after scripts (inr (inl out)) = inr (inr (inl out))
-not_built setting registry old invocation fault after scripts (inr (inr device)) =
+pub not_built : (registers : Registering) (registry : Registry) (old : Shown) (invocation : Invocation) (fault : Fault) (after : ℕ) → registers (outside old.contents).files invocation.properties (Ok registry)
+    → IsNotBegun registry invocation old.failures after fault → IsNotBuilt registers old invocation fault after
+not_built registers registry old invocation fault after scripts (inl (inl out)) = inr (inr (inl out))
+not_built registers registry old invocation fault after scripts (inl (inr (inl words))) = inr (inl (registry, scripts, inl words))
+not_built registers registry old invocation fault after scripts (inl (inr (inr plan))) = inr (inl (registry, scripts, inr plan))
+not_built registers registry old invocation fault after scripts (inr (inl out)) = inr (inr (inl out))
+not_built registers registry old invocation fault after scripts (inr (inr device)) =
     inr (inr (inr (
       device.0,
       or_right (bytes_eq device.0 (codes "settings.gb") || bytes_eq (last_segment device.0) (codes "build.gb")) _ device.1,
@@ -62,7 +63,7 @@ pub refused_leads : (setting : Setting) (registry : Registry) (old end : Shown) 
 refused_leads setting registry old end invocation fault scripts why same result is =
     subst (λ (r : Result Report Fault). Leads setting old (events.Invoke invocation) (answer_of r) end) (sym is)
     (λ remembered clear seen worth. nothing_leads setting old end (events.Invoke invocation) (answers.NotBuilt fault) same remembered clear seen worth
-    (not_built setting registry (state_of old remembered) invocation fault end.failures scripts why, same, refl))
+    (not_built setting.registers registry old invocation fault end.failures scripts why, same, refl))
 
 -- ---- The device
 
@@ -90,3 +91,22 @@ pub told_fails : (registry : Registry) (invocation : Invocation) (fault : Fault)
     → IsNotBegun registry invocation before after fault → (result : Result Report Fault) → result ≡ Err fault → HasFailed (times_blamed (answer_of result)) before after
 told_fails registry invocation fault before after none count why result is =
     subst (λ (r : Result Report Fault). HasFailed (times_blamed (answer_of r)) before after) (sym is) (refused_fails registry invocation fault before after none count why)
+
+-- ---- Places
+
+not_of_device : (fault : Fault) (place : Place) → is_of_device fault ≡ false → fault ≡ faults.Device place → ⊥
+not_of_device fault place none is = not_false (sym (ap is_of_device is) ∙ none)
+
+-- a refusal blames the device at no other place than one of the tool's own, and in a dry run at none
+pub refused_at : (registry : Registry) (invocation : Invocation) (fault : Fault) (before after : ℕ) → NoneBlameDevice registry → IsNotBegun registry invocation before after fault
+    → (place : Place) → fault ≡ faults.Device place → IsTrue (is_own place && not invocation.options.dry_run)
+refused_at registry invocation fault before after none (inl (inl out)) place is = absurd (cc (out, is))
+refused_at registry invocation fault before after none (inl (inr (inl words))) place is =
+    absurd (not_of_device fault place (words_blame_none registry invocation.requested invocation.excluded fault words) is)
+refused_at registry invocation fault before after none (inl (inr (inr plan))) place is =
+    absurd (not_of_device fault place
+    (refusal_blames_none plan.0 fault (subst NoneBlameDevice (sym (request_registry registry invocation.requested invocation.excluded plan.0 plan.1)) none) plan.2) is)
+refused_at registry invocation fault before after none (inr (inl out)) place is = absurd (cc (out, is))
+refused_at registry invocation fault before after none (inr (inr device)) place is =
+    let same : device.0 ≡ place = cc (device.2.1, is) in
+    subst (λ (p : Place). IsTrue (is_own p && not invocation.options.dry_run)) same device.1

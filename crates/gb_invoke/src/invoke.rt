@@ -5,6 +5,7 @@ ghost use Rattle.gb_history.specs.Places.{record_place};
 ghost use Rattle.gb_meaning.specs.declared.events.Event.TheVariants as events;
 ghost use Rattle.gb_meaning.specs.Headline.{Agrees, HasFailed, HaveHeard, InvocationHolds, TearsAreSeen, answer_of, is_of_build, times_blamed};
 ghost use Rattle.gb_meaning.specs.Kinds.{Kinds};
+ghost use Rattle.gb_meaning.specs.Outline.{IsOutlinedBy};
 ghost use Rattle.gb_meaning.specs.TrueRecord.{outside};
 ghost use Rattle.gb_records.specs.Said.{IsText};
 ghost use Rattle.gb_store.specs.Changes.{ChangesOnly};
@@ -42,6 +43,8 @@ pub fn build_requested<A: Actions, F: Folder, L: TaskListener, Ts: Tasks>(
     ensures kept { Ts.registry tasks.new ≡ Ts.registry tasks.old }
     ensures dry_run { IfOk result (λ report. report.dry_run ≡ invocation.now.options.dry_run) }
     ensures of_plan { IfOk result (IsReportOf (Ts.registry tasks.old) invocation.now) }
+    // Over any folder: which tasks start, and what each may answer.
+    ensures outlined { IfOk result (IsOutlinedBy (Ts.registry tasks.old) invocation.now) }
     ensures not_begun { IfErr result (IsNotBegun (Ts.registry tasks.old) invocation.now
         (F.failures folder.old) (F.failures folder.new)) }
     ensures heard { IfOk result (λ report.

@@ -3,3 +3,4 @@ mod Current
 mod Growth
 mod Names
 mod Sources
+pub mod Recorded

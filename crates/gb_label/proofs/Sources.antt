@@ -9,7 +9,9 @@ use Rattle.gb_meaning.specs.Tree.{has_no_source, tree_of, trees_of}
 use Rattle.gb_plan.specs.declared.task.FileProperty.{FileProperty}
 use Rattle.gb_plan.specs.declared.task.TaskDeclaration.{TaskDeclaration as Task}
 use Rattle.gb_tree.specs.Prints.{digests_of}
-use Rattle.gb_turn.specs.Reading.{digests_in}
+use Rattle.gb_tree.specs.Reading.{digests_seen}
+use Rattle.gb_tree.specs.declared.kept.SeenFile.{SeenFile}
+use Rattle.gb_turn.specs.Reading.{Read, digests_in, prints_read}
 use Rattle.gb_label.specs.Looking.{gives_no_source, lacks_source}
 
 -- one pair more passes
@@ -76,3 +78,19 @@ same_reasons (property ∷ properties) files =
 
 pub same_source : (task : Task) (files : Files) → lacks_source task.files (digests_in (trees_of task files)) ≡ has_no_source task files
 same_source task files = ap (λ b. list_any (λ property. property.skip_when_empty) task.files && b) (same_reasons task.files files)
+
+-- of readings it is told as of their digests
+reasons_read : (properties : List FileProperty) (readings : List Read)
+    → list_all gives_no_source (zip properties (prints_read readings)) ≡ list_all gives_no_source (zip properties readings)
+reasons_read [] readings = refl
+reasons_read (property ∷ properties) [] = refl
+reasons_read (property ∷ properties) (reading ∷ readings) =
+    ap (λ b. (not property.skip_when_empty || b) && list_all gives_no_source (zip properties (prints_read readings))) (none_seen reading.1)
+    ∙ ap (λ b. (not property.skip_when_empty || is_empty reading.1) && b) (reasons_read properties readings)
+  where
+    none_seen : (files : List SeenFile) → is_empty (digests_seen files) ≡ is_empty files
+    none_seen [] = refl
+    none_seen (file ∷ files) = refl
+
+pub source_read : (properties : List FileProperty) (readings : List Read) → lacks_source properties (prints_read readings) ≡ lacks_source properties readings
+source_read properties readings = ap (λ b. list_any (λ property. property.skip_when_empty) properties && b) (reasons_read properties readings)

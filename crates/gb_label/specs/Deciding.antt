@@ -1,7 +1,7 @@
 -- What is decided of a task that has a source.
 use Rattle.std.specs.Prelude.{ℕ, ◌≡◌, ◌⊎◌, true, false, Option, None, Some, map, IsTrue, List, ⊤}
 use Rattle.std.specs.List.{filter, flat_map}
-use Rattle.gb_folder.specs.Files.{Contents, Place, is_empty}
+use Rattle.gb_folder.specs.Files.{Contents, Files, Place, is_empty}
 use Rattle.gb_history.specs.Ascending.{ascends}
 use Rattle.gb_history.specs.Decision.{DecidesFrom}
 use Rattle.gb_history.specs.Remembered.{AreInOrder, Prints, Remembered}
@@ -18,7 +18,7 @@ use Rattle.gb_report.specs.declared.fault.Fault.{Fault}
 use Rattle.gb_report.specs.declared.fault.Fault.TheVariants as faults
 use Rattle.gb_report.specs.declared.report.Options.{Options}
 use Rattle.gb_report.specs.declared.report.Outcome.TheVariants as outcomes
-use Rattle.gb_turn.specs.Reading.{digests_in, print_faults, recorded_of}
+use Rattle.gb_turn.specs.Reading.{AreOutputs, AreOutputsSeen, Read, digests_in, print_faults, recorded_of}
 
 -- the names of the task's values, file properties and outputs strictly rise
 pub record HasNamesInOrder (task : Task) : Type 0 where
@@ -65,3 +65,15 @@ MayDecide options task decisions.Full = ⊤
 abbrev pub IsGrown : Fault → Type 0
 IsGrown fault =
     ((place : Place) × (fault ≡ faults.TooLarge place)) ⊎ ((name : List ℕ) × (fault ≡ faults.TooManyFiles name))
+
+-- where it may go on by changes its outputs were read
+abbrev pub AreOutputsFor : Task → Decision → List Read → Type 0
+AreOutputsFor task decisions.UpToDate outputs = ⊤
+AreOutputsFor task (decisions.Incremental changes) outputs = AreOutputs task outputs
+AreOutputsFor task decisions.Full outputs = ⊤
+
+-- and so they stand in these files
+abbrev pub AreOutputsSeenFor : Task → Files → Decision → List Read → Type 0
+AreOutputsSeenFor task files decisions.UpToDate outputs = ⊤
+AreOutputsSeenFor task files (decisions.Incremental changes) outputs = AreOutputsSeen task files outputs
+AreOutputsSeenFor task files decisions.Full outputs = ⊤

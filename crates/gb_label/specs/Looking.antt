@@ -1,25 +1,24 @@
 -- What a task's turn is found to come to before its record is looked at.
-use Rattle.std.specs.Prelude.{ℕ, ◌≡◌, ◌⊎◌, ◌||◌, ◌&&◌, not, Bool, true, false, List, [], map, Some}
+use Rattle.std.specs.Prelude.{ℕ, ◌≡◌, ◌⊎◌, ◌||◌, ◌&&◌, not, Bool, true, false, List, [], Some}
 use Rattle.std.specs.List.{list_any, list_all, zip}
 use Rattle.gb_core.specs.Lists.{first_of}
 use Rattle.gb_folder.specs.Files.{Contents, is_empty}
-use Rattle.gb_history.specs.Remembered.{Prints}
 use Rattle.gb_meaning.specs.Label.{CannotRead, HasNoActions, HasNoSource, Skips, early_case}
 use Rattle.gb_meaning.specs.Tree.{has_no_source, input_faults, trees_of}
 use Rattle.gb_plan.specs.declared.task.FileProperty.{FileProperty}
 use Rattle.gb_plan.specs.declared.task.TaskDeclaration.{TaskDeclaration as Task}
 use Rattle.gb_report.specs.declared.fault.Fault.{Fault}
 use Rattle.gb_store.specs.Faults.{IsOfMachine}
-use Rattle.gb_turn.specs.Reading.{digests_in}
+use Rattle.gb_turn.specs.Reading.{AreInputs, AreInputsSeen, digests_in, prints_read}
 use Rattle.gb_label.specs.declared.look.Look.{Look}
 use Rattle.gb_label.specs.declared.look.Look.TheVariants as looks
 
--- the property gives its task no source: it does not skip it when empty, or is empty by its prints
-abbrev pub gives_no_source : FileProperty × Prints → Bool
+-- the property gives its task no source: it does not skip it when empty, or has no files
+abbrev pub gives_no_source : {X : Type 0} → FileProperty × (List ℕ × List X) → Bool
 gives_no_source pair = not pair.0.skip_when_empty || is_empty pair.1.1
 
--- there are properties that skip the task when empty, and all of them are empty by their prints
-abbrev pub lacks_source : List FileProperty → List Prints → Bool
+-- there are properties that skip the task when empty, and none of them has files
+abbrev pub lacks_source : {X : Type 0} → List FileProperty → List (List ℕ × List X) → Bool
 lacks_source properties inputs =
     list_any (λ property. property.skip_when_empty) properties && list_all gives_no_source (zip properties inputs)
 
@@ -31,7 +30,8 @@ IsCase task folder looks.HasNoActions = early_case task folder ≡ Some HasNoAct
 IsCase task folder looks.HasNoSource = early_case task folder ≡ Some HasNoSource
 IsCase task folder (looks.Goes inputs) =
     (input_faults task folder ≡ []) × (has_no_source task folder.files ≡ false)
-    × (inputs.items ≡ digests_in (trees_of task folder.files))
+    × (prints_read inputs.items ≡ digests_in (trees_of task folder.files))
+    × AreInputsSeen task folder.files inputs.items
 
 -- what may be found of the task over any folder
 abbrev pub MayBe : Task → Look → Type 0
@@ -42,7 +42,7 @@ MayBe task looks.HasNoSource =
     × (list_any (λ property. property.skip_when_empty) task.files ≡ true)
 MayBe task (looks.Goes inputs) =
     (task.runs ≡ true) × (is_empty task.actions ≡ false)
-    × (map (λ found. found.0) inputs.items ≡ map (λ property. property.name) task.files)
+    × AreInputs task inputs.items
 
 -- the machine failed between these counts, or the fault is the first of what the task cannot be read for
 abbrev pub IsHindered : Task → Contents → ℕ → ℕ → Fault → Type 0

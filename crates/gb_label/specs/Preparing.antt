@@ -1,21 +1,25 @@
 -- What a started task's turn is prepared for.
 use Rattle.std.specs.Prelude.{◌≡◌, true, false, Option, Some, None, ⊤}
 use Rattle.std.specs.List.{list_any}
-use Rattle.gb_folder.specs.Files.{Contents, is_empty}
+use Rattle.gb_folder.specs.Files.{Contents, Files, is_empty}
 use Rattle.gb_history.specs.Remembered.{Remembered}
 use Rattle.gb_meaning.specs.Label.{HasNoActions, HasNoSource, Skips, early_case}
 use Rattle.gb_plan.specs.declared.task.TaskDeclaration.{TaskDeclaration as Task}
 use Rattle.gb_report.specs.declared.report.Options.{Options}
+use Rattle.gb_history.specs.declared.decide.Decision.{Decision}
+use Rattle.gb_history.specs.declared.decide.Decision.TheVariants as decisions
+use Rattle.gb_turn.specs.Reading.{AreInputs, AreInputsSeen, AreOutputs, AreOutputsSeen}
 use Rattle.gb_label.specs.Deciding.{IsDecided, MayDecide}
 use Rattle.gb_label.specs.declared.prepare.Prepared.{Prepared}
 use Rattle.gb_label.specs.declared.prepare.Prepared.TheVariants as prepared
+use Rattle.gb_label.specs.declared.prepare.Seen.{Seen}
 
 -- It is the task's case; and where it is none, what is decided from its record.
 abbrev pub IsPrepared : Options → Task → Contents → Option Remembered → Prepared → Type 0
 IsPrepared options task folder run prepared.Skips = early_case task folder ≡ Some Skips
 IsPrepared options task folder run prepared.HasNoActions = early_case task folder ≡ Some HasNoActions
 IsPrepared options task folder run prepared.HasNoSource = early_case task folder ≡ Some HasNoSource
-IsPrepared options task folder run (prepared.Decided decision) =
+IsPrepared options task folder run (prepared.Decided decision seen) =
     (early_case task folder ≡ None) × IsDecided options task folder run decision
 
 -- what it may be over any folder
@@ -25,11 +29,37 @@ MayPrepare task prepared.HasNoActions = (task.runs ≡ true) × (is_empty task.a
 MayPrepare task prepared.HasNoSource =
     (task.runs ≡ true) × (is_empty task.actions ≡ false)
     × (list_any (λ property. property.skip_when_empty) task.files ≡ true)
-MayPrepare task (prepared.Decided decision) = (task.runs ≡ true) × (is_empty task.actions ≡ false)
+MayPrepare task (prepared.Decided decision seen) = (task.runs ≡ true) × (is_empty task.actions ≡ false)
 
 -- what may be decided over any folder, where that is what it comes to
 abbrev pub MayDecideAs : Options → Task → Prepared → Type 0
 MayDecideAs options task prepared.Skips = ⊤
 MayDecideAs options task prepared.HasNoActions = ⊤
 MayDecideAs options task prepared.HasNoSource = ⊤
-MayDecideAs options task (prepared.Decided decision) = MayDecide options task decision
+MayDecideAs options task (prepared.Decided decision seen) = MayDecide options task decision
+
+-- What a run goes by was read: its inputs where it is due, and its outputs where it may go on by changes.
+abbrev pub IsReadFor : Task → Seen → Decision → Type 0
+IsReadFor task seen decisions.UpToDate = ⊤
+IsReadFor task seen (decisions.Incremental changes) =
+    AreInputs task seen.inputs.items × AreOutputs task seen.outputs.items
+IsReadFor task seen decisions.Full = AreInputs task seen.inputs.items
+
+abbrev pub IsRead : Task → Prepared → Type 0
+IsRead task prepared.Skips = ⊤
+IsRead task prepared.HasNoActions = ⊤
+IsRead task prepared.HasNoSource = ⊤
+IsRead task (prepared.Decided decision seen) = IsReadFor task seen decision
+
+-- And so it stands in these files.
+abbrev pub IsSeenFor : Task → Files → Seen → Decision → Type 0
+IsSeenFor task files seen decisions.UpToDate = ⊤
+IsSeenFor task files seen (decisions.Incremental changes) =
+    AreInputsSeen task files seen.inputs.items × AreOutputsSeen task files seen.outputs.items
+IsSeenFor task files seen decisions.Full = AreInputsSeen task files seen.inputs.items
+
+abbrev pub IsSeen : Task → Files → Prepared → Type 0
+IsSeen task files prepared.Skips = ⊤
+IsSeen task files prepared.HasNoActions = ⊤
+IsSeen task files prepared.HasNoSource = ⊤
+IsSeen task files (prepared.Decided decision seen) = IsSeenFor task files seen decision

@@ -2,8 +2,9 @@
 //! nothing to do or no source, is up to date, or has to run, by changes or in full.
 #![tactic(auto)]
 
-mod deciding;
+pub mod deciding;
 mod listing;
 mod look;
 pub mod prepare;
 mod present;
+pub mod record;

@@ -11,8 +11,8 @@ use crate::listing::check_outputs;
 use gb_folder::folder::Folder;
 use gb_plan::task::{FileProperty, TaskDeclaration};
 use gb_report::fault::Fault;
-use gb_tree::prints::Prints;
-use gb_turn::prints::print_inputs;
+use gb_tree::kept::Reading;
+use gb_turn::inputs::read_inputs;
 use std::alloc::Global;
 
 /// What a task is found to be before its record is looked at.
@@ -23,8 +23,8 @@ pub enum Look {
     HasNoActions,
     /// All file properties that skip the task when empty are empty.
     HasNoSource,
-    /// None of these, but its outputs have not been listed. The prints are those of its file properties.
-    Goes(Vec<Prints>),
+    /// None of these, but its outputs have not been listed. So its file properties were read.
+    Goes(Vec<Reading>),
 }
 
 /// Whether there are properties that skip a task when empty.
@@ -35,14 +35,14 @@ fn may_skip(properties: &[FileProperty]) -> bool
 }
 
 /// Whether the property gives its task no source: it does not skip it when empty, or is empty.
-fn gives_no_source(property: &FileProperty, found: &Prints) -> bool
+fn gives_no_source(property: &FileProperty, found: &Reading) -> bool
     ensures { result ≡ gives_no_source (property.now, found.now) }
 {
-    !property.skip_when_empty || found.as_slice().is_empty()
+    !property.skip_when_empty || found.is_empty()
 }
 
 /// Whether all properties that skip a task when empty are empty.
-fn are_empty(properties: &[FileProperty], inputs: &[Prints]) -> bool
+fn are_empty(properties: &[FileProperty], inputs: &[Reading]) -> bool
     requires { length properties.now ≡ length inputs.now }
     ensures { result ≡ list_all gives_no_source (zip properties.now inputs.now) }
 {
@@ -55,7 +55,7 @@ fn are_empty(properties: &[FileProperty], inputs: &[Prints]) -> bool
 }
 
 /// Whether there are properties that skip a task when empty, and all of them are empty.
-fn is_without_source(properties: &[FileProperty], inputs: &[Prints]) -> bool
+fn is_without_source(properties: &[FileProperty], inputs: &[Reading]) -> bool
     requires { length properties.now ≡ length inputs.now }
     ensures { result ≡ lacks_source properties.now inputs.now }
 {
@@ -67,6 +67,7 @@ fn look_at_files<F: Folder>(
     alloc: Global,
     folder: &mut F,
     task: &TaskDeclaration,
+    mut room: u64,
 ) -> Result<Look, Fault>
     requires runs { task.now.runs ≡ true }
     requires acts { is_empty task.now.actions ≡ false }
@@ -80,7 +81,7 @@ fn look_at_files<F: Folder>(
     ensures err { IsTrue F.tells → IfErr result
         (IsHindered task.now (F.contents folder.old) (F.failures folder.old) (F.failures folder.new)) }
 {
-    let inputs = print_inputs(alloc, folder, task)?;
+    let inputs = read_inputs(alloc, folder, task, &mut room)?;
     if is_without_source(task.files.as_slice(), inputs.as_slice()) {
         check_outputs(alloc, folder, task)?;
         return Ok(Look::HasNoSource);
@@ -88,12 +89,14 @@ fn look_at_files<F: Folder>(
     Ok(Look::Goes(inputs))
 }
 
-/// What a task is found to be before its record is looked at. Nothing is changed, also not by an error: the
-/// first of what hinders reading its inputs or, where it has no source, listing its outputs; or the machine's.
+/// What a task is found to be before its record is looked at; of the bytes of its inputs so many are kept.
+/// Nothing is changed, also not by an error: the first of what hinders reading its inputs or, where it has no
+/// source, listing its outputs; or the machine's.
 pub fn looked_at<F: Folder>(
     alloc: Global,
     folder: &mut F,
     task: &TaskDeclaration,
+    room: u64,
 ) -> Result<Look, Fault>
     ensures count { F.failures folder.old ≤ F.failures folder.new }
     ensures blame { Blames result (F.failures folder.old) (F.failures folder.new) }
@@ -113,5 +116,5 @@ pub fn looked_at<F: Folder>(
     if task.actions.is_empty() {
         return Ok(Look::HasNoActions);
     }
-    look_at_files(alloc, folder, task)
+    look_at_files(alloc, folder, task, room)
 }

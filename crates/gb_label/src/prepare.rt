@@ -3,7 +3,7 @@ ghost use Rattle.std.specs.Prelude.{◌≡◌, ◌≤◌, ◌||◌, true, false,
 ghost use Rattle.gb_folder.specs.Files.{SameTearing, is_empty};
 ghost use Rattle.gb_label.specs.Deciding.{HasNamesInOrder};
 ghost use Rattle.gb_label.specs.Looking.{IsHindered};
-ghost use Rattle.gb_label.specs.Preparing.{IsPrepared, MayDecideAs, MayPrepare};
+ghost use Rattle.gb_label.specs.Preparing.{IsPrepared, IsRead, IsSeen, MayDecideAs, MayPrepare};
 ghost use Rattle.gb_plan.specs.Task.{is_output_of};
 ghost use Rattle.gb_store.specs.Faults.{Blames, BlamesOnly};
 ghost use Rattle.gb_turn.specs.Reading.{is_input_of};
@@ -13,9 +13,10 @@ use crate::look::{Look, looked_at};
 use gb_folder::folder::Folder;
 use gb_history::decide::Decision;
 use gb_history::record::Record;
-use gb_plan::task::TaskDeclaration;
+use gb_plan::task::{FileProperty, TaskDeclaration};
 use gb_report::fault::Fault;
 use gb_report::report::Options;
+use gb_tree::kept::Reading;
 use std::alloc::Global;
 
 /// What a started task's turn comes to.
@@ -26,9 +27,22 @@ pub enum Prepared {
     HasNoActions,
     /// All file properties that skip the task when empty are empty: its outputs are to be removed.
     HasNoSource,
-    /// None of these: it is up to date, or runs by changes or in full.
-    Decided(Decision),
+    /// None of these: it is up to date, or runs by changes or in full, on what was read of it.
+    Decided(Decision, Seen),
 }
+
+/// What was read of a task on the way to a decision.
+#[derive(Drop)]
+pub struct Seen {
+    /// Its file properties.
+    pub inputs: Vec<Reading>,
+    /// Its outputs, where they were compared with its record; else nothing.
+    pub outputs: Vec<Reading>,
+}
+
+/// How many bytes of a task's inputs are kept where its record may say that nothing is to be done, and as many
+/// of its outputs where it may go on by changes.
+const KEPT: u64 = 67_108_864;
 
 /// What a task's turn comes to, by its record, its inputs and its outputs as they stand. Nothing is changed,
 /// also not by an error: the first of what hinders reading its inputs or listing its outputs, or the machine's.
@@ -50,18 +64,46 @@ pub fn prepare<F: Folder>(
     ensures may_decide { IfOk result (MayDecideAs options task.now) }
     ensures reads { OnErr result ((task.now.runs ≡ true) × (is_empty task.now.actions ≡ false)) }
     ensures same { IsTrue F.tells → F.contents folder.new ≡ F.contents folder.old }
+    // What a run goes by was read; and it stands so in a folder that tells.
+    ensures read { IfOk result (IsRead task.now) }
     ensures prepared { IsTrue F.tells → IfOk result
         (IsPrepared options task.now (F.contents folder.old) (option_copied old.entry)) }
+    ensures seen { IsTrue F.tells → IfOk result (IsSeen task.now (F.contents folder.old).files) }
     ensures err { IsTrue F.tells → IfErr result
         (IsHindered task.now (F.contents folder.old) (F.failures folder.old) (F.failures folder.new)) }
 {
-    match looked_at(alloc, folder, task)? {
+    match looked_at(alloc, folder, task, input_room(task, options, old))? {
         Look::Skips => Ok(Prepared::Skips),
         Look::HasNoActions => Ok(Prepared::HasNoActions),
         Look::HasNoSource => Ok(Prepared::HasNoSource),
         Look::Goes(inputs) => {
-            let decision = decided(alloc, folder, task, options, old, inputs)?;
-            Ok(Prepared::Decided(decision))
+            let room = output_room(task.files.as_slice());
+            let (decision, outputs) = decided(
+                alloc,
+                folder,
+                task,
+                options,
+                old,
+                inputs.as_slice(),
+                room,
+            )?;
+            Ok(Prepared::Decided(decision, Seen { inputs, outputs }))
         }
     }
+}
+
+/// How many bytes of the inputs are kept: all where the task is to run whatever they are.
+fn input_room(task: &TaskDeclaration, options: Options, old: Option<&Record>) -> u64 {
+    if old.is_none() || options.rerun || task.is_stale {
+        return u64::MAX;
+    }
+    KEPT
+}
+
+/// How many bytes of the outputs are kept: none where no run goes on from them.
+fn output_room(properties: &[FileProperty]) -> u64 {
+    if properties.iter().any(|property| property.incremental) {
+        return KEPT;
+    }
+    0
 }

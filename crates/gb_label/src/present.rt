@@ -3,47 +3,14 @@ ghost use Rattle.std.specs.Prelude.{◌≡◌, ◌++◌, ◌∷◌, [], map, IfO
 ghost use Rattle.gb_history.specs.Remembered.{prints_in};
 ghost use Rattle.gb_label.specs.Deciding.{HasNamesInOrder, IsPresentOf, incremental_names};
 
-use gb_action::list::ActionList;
-use gb_action::values::NamedValues;
+use crate::record::record_of;
 use gb_core::name::Name;
 use gb_history::decide::Present;
-use gb_history::record::{OutputRecord, Record};
-use gb_plan::task::{Action, FileProperty, TaskDeclaration};
+use gb_history::record::OutputRecord;
+use gb_plan::task::{FileProperty, TaskDeclaration};
 use gb_report::report::Options;
 use gb_tree::prints::Prints;
 use std::alloc::{AllocError, Global};
-
-fn copied(alloc: Global, action: &Action) -> Result<Action, AllocError>
-    ensures { IfOk result (λ copy. copy ≡ action.now) }
-{
-    let kind = action.kind.copy()?;
-    let args = action.args.copy(alloc)?;
-    Ok(Action {
-        kind,
-        version: action.version,
-        args,
-    })
-}
-
-fn actions_of(alloc: Global, actions: &ActionList<Action>) -> Result<Vec<Action>, AllocError>
-    ensures { IfOk result (λ copies. copies.items ≡ actions.now) }
-{
-    let mut copies = Vec::new(alloc);
-    for action in actions.iter() {
-        copies.push(copied(alloc, action)?)?;
-    }
-    Ok(copies)
-}
-
-fn values_of(alloc: Global, values: &NamedValues) -> Result<NamedValues, AllocError>
-    ensures { IfOk result (λ copies. copies ≡ values.now) }
-{
-    let mut copies = NamedValues::new(alloc);
-    for (name, value) in values.as_slice() {
-        copies.push(name.copy()?, value.copy(alloc)?)?;
-    }
-    Ok(copies)
-}
 
 /// Adds the name of the property, where it is incremental.
 fn add_incremental(names: &mut Vec<Name>, property: &FileProperty) -> Result<(), AllocError>
@@ -81,11 +48,10 @@ pub fn present_of(
         ≡ map (λ output. output.name) task.now.outputs }
     ensures { IfOk result (IsPresentOf options task.now inputs.items outputs.items) }
 {
-    let actions = actions_of(alloc, &task.actions)?;
-    let values = values_of(alloc, &task.values)?;
+    let now = record_of(alloc, task, inputs, outputs)?;
     let incremental = incremental_of(alloc, task.files.as_slice())?;
     Ok(Present {
-        now: Record::new(actions, values, inputs, outputs),
+        now,
         incremental,
         rerun: options.rerun,
         is_stale: task.is_stale,

@@ -1,41 +1,14 @@
 -- What was told in two parts was told as a whole.
-use Rattle.std.proofs.Common.{◌≡◌, ◌≤◌, ℕ, Bool, true, false, not, ◌&&◌, List, [], ◌∷◌, ◌++◌, length, ap, sym, ◌∙◌, inl, inr, arith, refl}
-use Rattle.std.specs.List.{AllZip, items_where_true}
-use Rattle.std.proofs.lemmas.Bool.{cases_order, false≢true}
+use Rattle.std.proofs.Common.{◌≡◌, ◌≤◌, ◌+◌, ℕ, Bool, true, false, not, ◌&&◌, List, [], ◌∷◌, ◌++◌, length, ap, sym, ◌∙◌, arith, refl}
+use Rattle.std.specs.List.{AllZip, count_by, items_where_true}
+use Rattle.std.proofs.lemmas.Bool.{false≢true}
 use Rattle.std.proofs.lemmas.List.{length-append, append_assoc}
 use Rattle.gb_report.specs.declared.report.Heard.{Heard}
-use Rattle.gb_folder.specs.Files.{HasRisen}
-use Rattle.gb_meaning.specs.Turn.{heard_of}
-use Rattle.gb_meaning.specs.Headline.{Ear, HearsAll, HearsSome}
-use Rattle.gb_listen.specs.Telling.{HasBeenTold, ToldIsHeard, ToldMore}
-
--- ---- Counts
-
-risen_before : (a b c : ℕ) → HasRisen a b → b ≤ c → HasRisen a c
-risen_before a b c (inl less) more = inl (omega (arith, less, more))
-risen_before a b c (inr last) more = inr last
-
-risen_after : (a b c : ℕ) → a ≤ b → b ≤ c → HasRisen b c → HasRisen a c
-risen_after a b c low more (inl less) = inl (omega (arith, less, low))
-risen_after a b c low more (inr last) = elim (cases_order a b) [
-  | inl e ↦ inr (e ∙ last)
-  | inr (inl less) ↦ inl (omega (arith, less, more))
-  | inr (inr above) ↦ absurd (omega (arith, above, low))
-]
+use Rattle.gb_meaning.specs.Headline.{Ear, HearsAll, HearsSome, counted}
+use Rattle.gb_listen.specs.Telling.{ToldIsHeard, ToldMore}
+use Rattle.gb_listen.proofs.Counts.{counted_both, counted_none, kept_or_refused, refused_both}
 
 -- ---- Marks of what was kept
-
-abbrev every : List Heard → List Bool
-every [] = []
-every (x ∷ xs) = true ∷ every xs
-
-every_long : (xs : List Heard) → length (every xs) ≡ length xs
-every_long [] = refl
-every_long (x ∷ xs) = let rest = every_long xs in omega (arith, rest)
-
-every_kept : (xs : List Heard) → items_where_true (every xs) xs ≡ xs
-every_kept [] = refl
-every_kept (x ∷ xs) = ap (λ zs. x ∷ zs) (every_kept xs)
 
 kept_joined : (bs cs : List Bool) (xs ys : List Heard) → length bs ≡ length xs → items_where_true (bs ++ cs) (xs ++ ys) ≡ items_where_true bs xs ++ items_where_true cs ys
 kept_joined [] cs [] ys same = refl
@@ -58,68 +31,66 @@ kept_whole (b ∷ bs) [] same = refl
 kept_whole (true ∷ bs) (x ∷ xs) same = ap (λ zs. x ∷ zs) (kept_whole bs xs (omega (arith, same)))
 kept_whole (false ∷ bs) (x ∷ xs) same = let short = kept_short bs xs in absurd (omega (arith, same, short))
 
--- what a listener kept of what it was told
-kept_of : (told : List Heard) (old new : Ear) → HearsSome told old new → (kept : List Bool) × (length kept ≡ length told) × (new.0 ≡ old.0 ++ items_where_true kept told)
-kept_of told old new (inl all) = (every told, every_long told, all ∙ ap (λ xs. old.0 ++ xs) (sym (every_kept told)))
-kept_of told old new (inr some) = (some.1, some.2, some.3)
-
 -- ---- One listener
+
+pair_is : (ear : Ear) (hears : List Heard) (count : ℕ) → ear.0 ≡ hears → ear.1 ≡ count → ear ≡ (hears, count)
+pair_is (heard, refused) hears count same also = ap (λ (xs : List Heard). (xs, refused)) same ∙ ap (λ (n : ℕ). (hears, n)) also
+
+-- who has heard as many as were told has heard them all, and refused none
+heard_whole : (told : List Heard) (old new : Ear) → HearsSome told old new → length new.0 ≡ length old.0 + length told → HearsAll told old new
+heard_whole told old new some long =
+    let is = ap (λ (ear : Ear). length ear.0) some.2 in
+    let parts = length-append old.0 (items_where_true some.0 told) in
+    let all = kept_or_refused some.0 told some.1 in
+    let none : count_by not some.0 ≡ 0 = omega (arith, is, parts, all, long) in
+    pair_is new (old.0 ++ told) old.1
+    (ap (λ (ear : Ear). ear.0) some.2 ∙ ap (λ xs. old.0 ++ xs) (kept_whole some.0 told (omega (arith, all, none))))
+    (ap (λ (ear : Ear). ear.1) some.2 ∙ ap (counted old.1) none ∙ counted_none old.1)
 
 module _ (first later : List Heard) (old mid new : Ear) where
   all_of_both : HearsAll first old mid → HearsAll later mid new → HearsAll (first ++ later) old new
-  all_of_both a b = b ∙ ap (λ xs. xs ++ later) a ∙ append_assoc old.0 first later
+  all_of_both a b =
+      b ∙ ap (λ (ear : Ear). (ear.0 ++ later, ear.1)) a ∙ ap (λ xs. (xs, old.1)) (append_assoc old.0 first later)
 
-  some_of_both : HasBeenTold first old mid → HasBeenTold later mid new → HasRisen old.1 new.1
-      → (kept : List Bool) × (length kept ≡ length (first ++ later)) × (new.0 ≡ old.0 ++ items_where_true kept (first ++ later))
-  some_of_both a b rose =
-      let one = kept_of first old mid a.some in
-      let two = kept_of later mid new b.some in
-      let long = length-append one.0 two.0 in
+  some_of_both : HearsSome first old mid → HearsSome later mid new → HearsSome (first ++ later) old new
+  some_of_both a b =
+      let long = length-append a.0 b.0 in
       let both_long = length-append first later in (
-        one.0 ++ two.0,
-        omega (arith, long, both_long, one.1, two.1),
-        two.2 ∙ ap (λ xs. xs ++ items_where_true two.0 later) one.2 ∙ append_assoc old.0 (items_where_true one.0 first) (items_where_true two.0 later)
-            ∙ ap (λ xs. old.0 ++ xs) (sym (kept_joined one.0 two.0 first later one.1)),
+        a.0 ++ b.0,
+        omega (arith, long, both_long, a.1, b.1),
+        b.2 ∙ ap (λ (ear : Ear). (ear.0 ++ items_where_true b.0 later, counted ear.1 (count_by not b.0))) a.2
+            ∙ ap (λ xs. (xs, counted (counted old.1 (count_by not a.0)) (count_by not b.0)))
+            (append_assoc old.0 (items_where_true a.0 first) (items_where_true b.0 later) ∙ ap (λ xs. old.0 ++ xs) (sym (kept_joined a.0 b.0 first later a.1)))
+            ∙ ap (λ n. (old.0 ++ items_where_true (a.0 ++ b.0) (first ++ later), n))
+            (counted_both old.1 (count_by not a.0) (count_by not b.0) ∙ ap (counted old.1) (sym (refused_both a.0 b.0))),
       )
 
-  told_both : HasBeenTold first old mid → HasBeenTold later mid new → HasBeenTold (first ++ later) old new
-  told_both a b = record {
-    count = omega (arith, a.count, b.count);
-    some = elim a.some [
-      | inl all ↦ elim b.some [
-        | inl also ↦ inl (all_of_both all also)
-        | inr less ↦ let rose = risen_after old.1 mid.1 new.1 a.count b.count less.0 in let s = some_of_both a b rose in inr (rose, s.0, s.1, s.2)
-      ]
-      | inr less ↦ let rose = risen_before old.1 mid.1 new.1 less.0 b.count in let s = some_of_both a b rose in inr (rose, s.0, s.1, s.2)
-    ];
-  }
-
   -- who has heard it all has heard each part
-  parts : HasBeenTold first old mid → HasBeenTold later mid new → HearsAll (first ++ later) old new → HearsAll first old mid × HearsAll later mid new
+  parts : HearsSome first old mid → HearsSome later mid new → HearsAll (first ++ later) old new → HearsAll first old mid × HearsAll later mid new
   parts a b all =
-      let one = kept_of first old mid a.some in
-      let two = kept_of later mid new b.some in
-      let total = ap length (sym (two.2 ∙ ap (λ xs. xs ++ items_where_true two.0 later) one.2) ∙ all) in
-      let l1 = length-append (old.0 ++ items_where_true one.0 first) (items_where_true two.0 later) in
-      let l2 = length-append old.0 (items_where_true one.0 first) in
-      let l3 = length-append old.0 (first ++ later) in
-      let l4 = length-append first later in
-      let s1 = kept_short one.0 first in
-      let s2 = kept_short two.0 later in (
-        one.2 ∙ ap (λ xs. old.0 ++ xs) (kept_whole one.0 first (omega (arith, total, l1, l2, l3, l4, s1, s2))),
-        two.2 ∙ ap (λ xs. mid.0 ++ xs) (kept_whole two.0 later (omega (arith, total, l1, l2, l3, l4, s1, s2))),
+      let total = ap (λ (ear : Ear). length ear.0) all in
+      let l1 = ap (λ (ear : Ear). length ear.0) a.2 in
+      let l2 = ap (λ (ear : Ear). length ear.0) b.2 in
+      let l3 = length-append old.0 (items_where_true a.0 first) in
+      let l4 = length-append mid.0 (items_where_true b.0 later) in
+      let l5 = length-append old.0 (first ++ later) in
+      let l6 = length-append first later in
+      let s1 = kept_or_refused a.0 first a.1 in
+      let s2 = kept_or_refused b.0 later b.1 in (
+        heard_whole first old mid a (omega (arith, total, l1, l2, l3, l4, l5, l6, s1, s2)),
+        heard_whole later mid new b (omega (arith, total, l1, l2, l3, l4, l5, l6, s1, s2)),
       )
 
 -- ---- All listeners
 
 module _ (first later : List Heard) where
-  each_both : (old mid new : List Ear) → AllZip (HasBeenTold first) old mid → AllZip (HasBeenTold later) mid new → AllZip (HasBeenTold (first ++ later)) old new
+  each_both : (old mid new : List Ear) → AllZip (HearsSome first) old mid → AllZip (HearsSome later) mid new → AllZip (HearsSome (first ++ later)) old new
   each_both [] [] [] a b = tt
   each_both [] [] (n ∷ new) a b = absurd b
   each_both [] (m ∷ mid) new a b = absurd a
   each_both (o ∷ old) [] new a b = absurd a
   each_both (o ∷ old) (m ∷ mid) [] a b = absurd b
-  each_both (o ∷ old) (m ∷ mid) (n ∷ new) a b = (told_both first later o m n a.0 b.0, each_both old mid new a.1 b.1)
+  each_both (o ∷ old) (m ∷ mid) (n ∷ new) a b = (some_of_both first later o m n a.0 b.0, each_both old mid new a.1 b.1)
 
   all_both : (old mid new : List Ear) → AllZip (HearsAll first) old mid → AllZip (HearsAll later) mid new → AllZip (HearsAll (first ++ later)) old new
   all_both [] [] [] a b = tt
@@ -129,7 +100,7 @@ module _ (first later : List Heard) where
   all_both (o ∷ old) (m ∷ mid) [] a b = absurd b
   all_both (o ∷ old) (m ∷ mid) (n ∷ new) a b = (all_of_both first later o m n a.0 b.0, all_both old mid new a.1 b.1)
 
-  all_parts : (old mid new : List Ear) → AllZip (HasBeenTold first) old mid → AllZip (HasBeenTold later) mid new → AllZip (HearsAll (first ++ later)) old new
+  all_parts : (old mid new : List Ear) → AllZip (HearsSome first) old mid → AllZip (HearsSome later) mid new → AllZip (HearsAll (first ++ later)) old new
       → AllZip (HearsAll first) old mid × AllZip (HearsAll later) mid new
   all_parts [] [] [] a b h = (tt, tt)
   all_parts [] [] (n ∷ new) a b h = absurd b
@@ -163,7 +134,7 @@ told_more first later all_first all_later old mid new a b = record {
 
 pub told_is_heard : ToldIsHeard
 told_is_heard report all_heard old new same told = record {
-  each = each_some (heard_of report.dry_run report.tasks) old new told.each;
+  each = told.each;
   refused = (
     λ none. told.whole.0 (not_false all_heard (sym same ∙ none)),
     λ all. same ∙ ap not (told.whole.1 all),
@@ -173,9 +144,3 @@ told_is_heard report all_heard old new same told = record {
     not_false : (b : Bool) → not b ≡ false → b ≡ true
     not_false true e = refl
     not_false false e = sym e
-
-    each_some : (all : List Heard) (olds news : List Ear) → AllZip (HasBeenTold all) olds news → AllZip (HearsSome all) olds news
-    each_some all [] [] h = tt
-    each_some all [] (n ∷ news) h = h
-    each_some all (o ∷ olds) [] h = h
-    each_some all (o ∷ olds) (n ∷ news) h = (h.0.some, each_some all olds news h.1)

@@ -1,12 +1,11 @@
 -- What a call leaves of what listeners have heard.
-use Rattle.std.specs.Prelude.{ℕ, ◌≡◌, ◌≤◌, ◌↔◌, Bool, true, not, ◌&&◌, List, ◌++◌, Option, None, Some}
+use Rattle.std.specs.Prelude.{ℕ, ◌≡◌, ◌↔◌, Bool, true, not, ◌&&◌, List, ◌++◌, Option, None, Some}
 use Rattle.std.specs.List.{AllZip}
 use Rattle.gb_report.specs.declared.report.Heard.{Heard}
 use Rattle.gb_report.specs.declared.report.Heard.TheVariants as heard
-use Rattle.gb_folder.specs.Files.{HasRisen}
 use Rattle.gb_report.specs.declared.report.Report.{Report}
 use Rattle.gb_meaning.specs.Turn.{heard_of}
-use Rattle.gb_meaning.specs.Headline.{Ear, HaveHeard, HearsAll, HearsSome}
+use Rattle.gb_meaning.specs.Headline.{Ear, HaveHeard, HearsAll, HearsSome, counted}
 use Rattle.std.specs.Borrow.{Bor}
 use Rattle.gb_report.specs.declared.report.Outcome.{Outcome}
 
@@ -15,19 +14,13 @@ abbrev pub told_of : List ℕ → Option (Bor Outcome) → Heard
 told_of task None = heard.Start task
 told_of task (Some outcome) = heard.End task outcome.now
 
--- it has refused what it was told: its own count rose, and it has heard no more
-pub record Refuses (old new : Ear) : Type 0 where
-  pub same : new.0 ≡ old.0
-  pub rose : HasRisen old.1 new.1
-
--- one listener has heard all or some of what it was told, and its count of refusals has not fallen
-pub record HasBeenTold (told : List Heard) (old new : Ear) : Type 0 where
-  pub count : old.1 ≤ new.1
-  pub some : HearsSome told old new
+-- it has refused what it was told: it counts one refusal more, and has heard no more
+abbrev pub Refuses : Ear → Ear → Type 0
+Refuses old new = new ≡ (old.0, counted old.1 1)
 
 -- All listeners were told; and it is known whether each has heard it all.
 pub record AllTold (told : List Heard) (all_heard : Bool) (old new : List Ear) : Type 0 where
-  pub each : AllZip (HasBeenTold told) old new
+  pub each : AllZip (HearsSome told) old new
   pub whole : (all_heard ≡ true) ↔ AllZip (HearsAll told) old new
 
 -- ---- What tellings come to

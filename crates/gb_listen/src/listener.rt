@@ -1,5 +1,5 @@
 //! What a listener is, and one that keeps what it hears.
-ghost use Rattle.std.specs.Prelude.{◌≡◌, ◌≤◌, ◌++◌, [], ◌∷◌, OnOk, OnErr};
+ghost use Rattle.std.specs.Prelude.{◌≡◌, ◌++◌, [], ◌∷◌, OnOk, OnErr};
 ghost use Rattle.gb_report.specs.declared.report.Heard.TheVariants.{Start, End};
 ghost use Rattle.gb_meaning.specs.Headline.{HearsAll};
 ghost use Rattle.gb_listen.specs.Telling.{Refuses};
@@ -9,16 +9,16 @@ use gb_report::report::{Heard, Outcome};
 use std::alloc::{AllocError, Global};
 use std::marker::Model;
 
-/// One who is told of each task that starts. A call that is refused for memory leaves what was heard.
+/// One who is told of each task that starts. A call that is refused for memory leaves what was heard, and is
+/// counted.
 pub trait TaskListener: Drop {
     ghost use Rattle.gb_meaning.specs.Headline.{Ear};
 
-    /// What it has heard, and how often it has refused a call.
+    /// What it has heard, and how many calls it has refused: one more for each, up to the last value.
     ghost ear: { Self → Ear };
 
     /// The task's turn has come.
     fn before_execute(&mut self, alloc: Global, task: &TaskPath) -> Result<(), AllocError>
-        ensures count { (ear self.old).1 ≤ (ear self.new).1 }
         ensures ok { OnOk result (HearsAll (Start task.now ∷ []) (ear self.old) (ear self.new)) }
         ensures err { OnErr result (Refuses (ear self.old) (ear self.new)) };
 
@@ -29,7 +29,6 @@ pub trait TaskListener: Drop {
         task: &TaskPath,
         outcome: &Outcome,
     ) -> Result<(), AllocError>
-        ensures count { (ear self.old).1 ≤ (ear self.new).1 }
         ensures ok { OnOk result (HearsAll (End task.now outcome.now ∷ []) (ear self.old) (ear self.new)) }
         ensures err { OnErr result (Refuses (ear self.old) (ear self.new)) };
 
@@ -97,7 +96,6 @@ impl Recorder {
     }
 
     fn count(&mut self, kept: &Result<(), AllocError>)
-        ensures count { self.old.1 ≤ self.new.1 }
         ensures ok { OnOk kept.now (self.new ≡ self.old) }
         ensures err { OnErr kept.now (Refuses self.old self.new) }
     {

@@ -1,5 +1,5 @@
 //! Telling all listeners.
-ghost use Rattle.std.specs.Prelude.{◌≡◌, ◌≤◌, ◌∷◌, [], map, true, false};
+ghost use Rattle.std.specs.Prelude.{◌≡◌, ◌∷◌, [], map, true, false};
 ghost use Rattle.gb_meaning.specs.Headline.{HearsAll};
 ghost use Rattle.gb_listen.specs.Telling.{AllTold, Refuses, told_of};
 
@@ -15,7 +15,6 @@ fn tell_one<L: TaskListener>(
     task: &TaskPath,
     ended: Option<&Outcome>,
 ) -> bool
-    ensures count { (L.ear listener.old).1 ≤ (L.ear listener.new).1 }
     ensures heard { result ≡ true → HearsAll (told_of task.now ended.entry ∷ []) (L.ear listener.old)
         (L.ear listener.new) }
     ensures refused { result ≡ false → Refuses (L.ear listener.old) (L.ear listener.new) }

@@ -18,3 +18,5 @@ pub mod Outlined
 pub mod Alone
 pub mod Seen
 pub mod Sessions
+pub mod Current
+pub mod Agreeing

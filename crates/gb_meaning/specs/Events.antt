@@ -182,11 +182,11 @@ is_read_first options place =
 
 -- An invocation is refused for the first fault of the scripts, of the words, or of the plan; or for memory,
 -- or where the device failed, up to this count, as they or records were read.
-abbrev pub IsNotBuilt : Setting → State → Invocation → Fault → ℕ → Type 0
-IsNotBuilt setting old invocation fault after =
-    setting.registers (outside old.contents).files invocation.properties (Err fault)
-    ⊎ ((registry : Registry)
-    × setting.registers (outside old.contents).files invocation.properties (Ok registry)
+abbrev pub IsNotBuilt : (Files → List (Name × Text) → Result Registry Fault → Type 0) → Shown → Invocation
+    → Fault → ℕ → Type 0
+IsNotBuilt registers old invocation fault after =
+    registers (outside old.contents).files invocation.properties (Err fault)
+    ⊎ ((registry : Registry) × registers (outside old.contents).files invocation.properties (Ok registry)
     × IsRefusedBy registry invocation fault)
     ⊎ (fault ≡ faults.OutOfMemory)
     ⊎ ((place : Place) × IsTrue (is_read_first invocation.options place)
@@ -214,7 +214,7 @@ abbrev pub InvokeStep : Setting → Guard → List Bytes → State → Invocatio
 InvokeStep setting granted seen old invocation (answers.Built report) new =
     IsBuild setting granted seen old invocation report new
 InvokeStep setting granted seen old invocation (answers.NotBuilt fault) new =
-    IsNotBuilt setting old invocation fault new.failures × (new.contents ≡ old.contents)
+    IsNotBuilt setting.registers (shown_in old) invocation fault new.failures × (new.contents ≡ old.contents)
     × (new.remembered ≡ old.remembered)
 InvokeStep setting granted seen old invocation answers.Edited new = ⊥
 InvokeStep setting granted seen old invocation (answers.Refused fault) new = ⊥

@@ -1,5 +1,5 @@
 -- What a build promises, and a run of many.
-use Rattle.std.specs.Prelude.{is_some, map, ℕ, ◌≡◌, ◌≤◌, ◌+◌, ◌-◌, ◌^◌, ◌↔◌, Bool, true, false, not, cond, ◌⊎◌, ◌||◌, Some, None, List, [], ◌∷◌, ◌++◌, length, bytes_eq, Option, Result, Ok, Err, IsTrue, ⊤}
+use Rattle.std.specs.Prelude.{is_some, map, ℕ, ◌≡◌, ◌≤◌, ◌+◌, ◌-◌, ◌^◌, ◌↔◌, Bool, true, false, not, cond, ◌⊎◌, ◌||◌, Some, None, List, [], ◌∷◌, ◌++◌, length, bytes_eq, Option, Result, Ok, Err, IsTrue, ⊤, min}
 use Rattle.std.specs.List.{AllByRecursion, list_any, count_by, items_where_true, AllZip}
 use Rattle.gb_report.specs.declared.fault.Fault.{Fault}
 use Rattle.gb_report.specs.declared.fault.Fault.TheVariants as faults
@@ -12,7 +12,7 @@ use Rattle.gb_meaning.specs.declared.events.Event.TheVariants as events
 use Rattle.gb_meaning.specs.declared.events.Answer.{Answer}
 use Rattle.gb_meaning.specs.declared.events.Answer.TheVariants as answers
 use Rattle.gb_meaning.specs.declared.events.Invocation.{Invocation}
-use Rattle.gb_folder.specs.Files.{Tearing, is_empty, Place, Bytes, Files, Contents, files_where, with_file, is_own, DiffersOnlyAt, HasRisen}
+use Rattle.gb_folder.specs.Files.{Tearing, is_empty, Place, Bytes, Files, Contents, files_where, with_file, is_own, DiffersOnlyAt}
 use Rattle.gb_core.specs.Place.{is_under}
 use Rattle.gb_plan.specs.Task.{Text, Path}
 use Rattle.gb_meaning.specs.Kinds.{Name, Kind, Kinds}
@@ -197,17 +197,22 @@ InvocationHolds setting old invocation result end =
 abbrev pub Ear : Type 0
 Ear = List Heard × ℕ
 
-abbrev pub HearsAll : List Heard → Ear → Ear → Type 0
-HearsAll told old new = new.0 ≡ old.0 ++ told
+-- the count of refusals after so many more: it goes up to its last value
+abbrev pub counted : ℕ → ℕ → ℕ
+counted before times = before + min times (2 ^ 64 - 1 - before)
 
--- It has heard all that was told, in its order; or it has refused some of it, and heard the rest.
+-- It has heard all that was told, in its order, and refused none of it.
+abbrev pub HearsAll : List Heard → Ear → Ear → Type 0
+HearsAll told old new = new ≡ (old.0 ++ told, old.1)
+
+-- It has heard what was told, in its order, but for the calls that it refused, and has counted each of those.
 abbrev pub HearsSome : List Heard → Ear → Ear → Type 0
 HearsSome told old new =
-    HearsAll told old new
-    ⊎ (HasRisen old.1 new.1 × (kept : List Bool) × (length kept ≡ length told)
-    × (new.0 ≡ old.0 ++ items_where_true kept told))
+    (kept : List Bool) × (length kept ≡ length told)
+    × (new ≡ (old.0 ++ items_where_true kept told, counted old.1 (count_by not kept)))
 
--- Each listener has heard the build, without the calls that it refused, and the report says whether one was.
+-- Each listener has heard the build, without the calls that it refused; and the report tells of a refusal
+-- exactly where one of them refused a call.
 pub record HaveHeard (report : Report) (old new : List Ear) : Type 0 where
   pub each : AllZip (HearsSome (heard_of report.dry_run report.tasks)) old new
   pub refused : report.listener_refused ≡ false

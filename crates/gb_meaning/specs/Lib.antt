@@ -14,3 +14,4 @@ pub mod Run
 pub mod Outline
 pub mod Every
 pub mod Sessions
+pub mod Granted

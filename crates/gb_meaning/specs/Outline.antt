@@ -85,14 +85,18 @@ Outlines options plan reports =
     (IsTrue options.dry_run × (reports ≡ dry_reports plan))
     ⊎ ((options.dry_run ≡ false) × AreOutlines options plan [] plan reports)
 
--- What holds of a report where the folder does not tell what its scripts say: it is that of a build of what
--- was asked of some registry.
-pub record IsOutlined (invocation : Invocation) (report : Report) : Type 0 where
-  pub registry : Registry
-  pub is_registry : IsRegistry registry
+-- What holds of a report whatever the folder is: it is that of a build of the plan of what was asked of this
+-- registry.
+pub record IsOutlinedBy (registry : Registry) (invocation : Invocation) (report : Report) : Type 0 where
   pub request : Request
   pub asked : request_of registry invocation.requested invocation.excluded ≡ Ok request
   pub plan : Plan
   pub planned : IsPlan request plan
   pub dry_run : report.dry_run ≡ invocation.options.dry_run
   pub outlines : Outlines invocation.options plan report.tasks
+
+-- The same where the folder does not tell what its scripts say: they register something.
+pub record IsOutlined (invocation : Invocation) (report : Report) : Type 0 where
+  pub registry : Registry
+  pub is_registry : IsRegistry registry
+  pub outlined : IsOutlinedBy registry invocation report

@@ -1,15 +1,20 @@
 -- What success means, as a law of the definitions.
-use Rattle.std.specs.Prelude.{ℕ, ◌≡◌, false, List, Some, IsTrue, ⊤, ◌++◌}
+use Rattle.std.specs.Prelude.{ℕ, ◌≡◌, false, List, Some, Ok, IsTrue, ⊤, ◌++◌}
 use Rattle.std.specs.List.{list_any, list_all, AllByRecursion}
 use Rattle.gb_report.specs.declared.report.Options.{Options}
+use Rattle.gb_report.specs.declared.report.Outcome.TheVariants as outcomes
 use Rattle.gb_report.specs.declared.report.TaskReport.{TaskReport}
-use Rattle.gb_folder.specs.Files.{Bytes, IsFolder}
+use Rattle.gb_folder.specs.Files.{Bytes, IsFolder, is_empty}
 use Rattle.gb_meaning.specs.Kinds.{Kinds}
-use Rattle.gb_meaning.specs.Memory.{folder_contents}
+use Rattle.gb_meaning.specs.Memory.{folder_contents, output_files}
 use Rattle.gb_plan.specs.Graph.{Request, Plan, IsPlan, IsSound}
 use Rattle.gb_plan.specs.Task.{IsShaped}
+use Rattle.gb_plan.specs.declared.task.TaskDeclaration.{TaskDeclaration as Task}
 use Rattle.gb_report.specs.Outcome.{is_failed, is_started}
-use Rattle.gb_meaning.specs.Turn.{May, Rules, Standing, Builds}
+use Rattle.gb_meaning.specs.Turn.{May, Rules, Standing, StartedTurn, Builds}
+use Rattle.gb_meaning.specs.Label.{Moment}
+use Rattle.gb_meaning.specs.Made.{made_of}
+use Rattle.gb_meaning.specs.Tree.{trees_of}
 use Rattle.gb_meaning.specs.Scratch.{from_scratch}
 use Rattle.gb_meaning.specs.TrueRecord.{IsMade, AreApart}
 
@@ -45,3 +50,16 @@ TruthIsKept =
     → AreApart digest (seen ++ folder_contents old.world ++ folder_contents new.world)
     → Builds (any_rules kinds options plan) (AreApart digest) seen old reports new
     → AllByRecursion (λ entry. IsMade kinds entry.1) new.world.memory
+
+-- Whatever else failed in a build: a task with actions that is up to date changes nothing, and at its outputs
+-- stands what its actions make of the inputs that it found, if what is remembered is true.
+abbrev pub UpToDateIsMade : Type 0
+UpToDateIsMade =
+    (kinds : Kinds) (options : Options) (plan : Plan) (moment : Moment) (task : Task) (report : TaskReport)
+    (new : Standing)
+    → AllByRecursion (λ entry. IsMade kinds entry.1) moment.world.memory → is_empty task.actions ≡ false
+    → report.outcome ≡ outcomes.UpToDate
+    → StartedTurn (any_rules kinds options plan) moment task report new
+    → (new.world ≡ moment.world)
+    × (made_of kinds task.actions task.values (trees_of task moment.world.folder.files) task.outputs
+    ≡ Ok (output_files task new.world.folder.files))

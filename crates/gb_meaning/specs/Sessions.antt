@@ -1,18 +1,18 @@
 -- The tool is called again and again; in between anybody may edit the folder, but no record is written by
 -- others.
-use Rattle.std.specs.Prelude.{◌≡◌, ◌⊎◌, List, [], ◌∷◌, None, IsTrue, is_some, ⊤}
+use Rattle.std.specs.Prelude.{ℕ, suc, ◌≡◌, ◌⊎◌, List, [], ◌∷◌, length, None, IsTrue, is_some, ⊤}
 use Rattle.std.specs.FinMap.Entries.{where_key}
 use Rattle.gb_core.specs.Lists.{byte_order}
 use Rattle.gb_core.specs.Path.{is_task_path}
-use Rattle.gb_folder.specs.Files.{Contents, IsFolder, file_at}
+use Rattle.gb_folder.specs.Files.{Contents, IsFolder, Tearing, file_at}
 use Rattle.gb_plan.specs.Task.{Path}
 use Rattle.gb_meaning.specs.declared.events.Event.{Event}
 use Rattle.gb_meaning.specs.declared.events.Answer.{Answer}
 use Rattle.gb_meaning.specs.Memory.{Memory}
 use Rattle.gb_meaning.specs.Edits.{Shown}
 use Rattle.gb_meaning.specs.Events.{Setting, State}
-use Rattle.gb_meaning.specs.Headline.{EventsHold, Stands, state_of}
-use Rattle.gb_meaning.specs.Every.{AllApart, AllSucceed, PlainRun}
+use Rattle.gb_meaning.specs.Headline.{EventsHold, Registering, Stands, state_of}
+use Rattle.gb_meaning.specs.Every.{AllApart, AllSucceed, PlainRun, contents_after}
 
 -- One use of the tool: the folder that it found, what was asked and answered, and the folder that it left.
 pub record Session : Type 0 where
@@ -27,14 +27,6 @@ pub record IsEdited (setting : Setting) (old new : Contents) : Type 0 where
   pub records : (path : Path) → IsTrue (is_task_path path)
       → (file_at new.files (setting.record_place path) ≡ file_at old.files (setting.record_place path))
       ⊎ (file_at new.files (setting.record_place path) ≡ None)
-
--- one session after another, each over the folder that was left, as it has been edited since
-abbrev pub SessionsHold : Setting → Contents → List Session → Type 0
-SessionsHold setting left [] = ⊤
-SessionsHold setting left (session ∷ rest) =
-    IsEdited setting left session.start.contents
-    × EventsHold setting session.start session.events session.answers session.end
-    × SessionsHold setting session.end.contents rest
 
 -- what is remembered of the tasks whose records still stand
 abbrev pub still_remembered : Setting → Contents → Memory → Memory
@@ -51,19 +43,35 @@ abbrev pub remembered_after : Memory → List State → Memory
 remembered_after remembered [] = remembered
 remembered_after remembered (state ∷ states) = remembered_after state.remembered states
 
--- Each session is a plain run in which each success is from scratch, if no two contents that stood in it, or
--- that the records speak of which it found, have one digest; and then so are those after it.
-abbrev pub AllHold : Setting → Memory → List Session → Type 0
-AllHold setting remembered [] = ⊤
-AllHold setting remembered (session ∷ rest) =
-    (states : List State)
-    × (AllApart setting (begins setting session remembered) states
-    → PlainRun setting (begins setting session remembered) states session.events session.answers session.end
-    × AllSucceed setting (begins setting session remembered) states session.events session.answers session.end
-    × AllHold setting (remembered_after (begins setting session remembered).remembered states) rest)
+-- Each session may have tables of its own, and so a meaning of scripts, and a device of its own.
+module _ (setting : Setting) (registers : ℕ → Registering) (may_leave : ℕ → Tearing) where
+  -- what the session of this number is about
+  abbrev pub setting_at : ℕ → Setting
+  setting_at number = record setting { registers = registers number; may_leave = may_leave number }
 
--- what all sessions of the tool promise, from a folder that holds true records on
-abbrev pub HeadlineOfSessions : Setting → Type 0
-HeadlineOfSessions setting =
-    (left : Contents) (sessions : List Session) → SessionsHold setting left sessions →
-    (remembered : Memory) → Stands setting left remembered → AllHold setting remembered sessions
+  -- one session after another, each over the folder that was left, as it has been edited since
+  abbrev pub SessionsHold : ℕ → Contents → List Session → Type 0
+  SessionsHold number left [] = ⊤
+  SessionsHold number left (session ∷ rest) =
+      IsEdited setting left session.start.contents
+      × EventsHold (setting_at number) session.start session.events session.answers session.end
+      × SessionsHold (suc number) session.end.contents rest
+
+  -- Each session is a plain run in which each success is from scratch, if no two contents that stood in it, or
+  -- that the records speak of which it found, have one digest; and then so are those after it.
+  abbrev pub AllHold : ℕ → Memory → List Session → Type 0
+  AllHold number remembered [] = ⊤
+  AllHold number remembered (session ∷ rest) =
+      let start = begins setting session remembered in
+      (states : List State) × (length states ≡ length session.events)
+      × (contents_after session.start.contents states ≡ session.end.contents)
+      × (AllApart setting start states
+      → PlainRun (setting_at number) start states session.events session.answers session.end
+      × AllSucceed (setting_at number) start states session.events session.answers session.end
+      × AllHold (suc number) (remembered_after start.remembered states) rest)
+
+  -- what all sessions of the tool promise, from a folder that holds true records on
+  abbrev pub HeadlineOfSessions : Type 0
+  HeadlineOfSessions =
+      (left : Contents) (sessions : List Session) → SessionsHold 0 left sessions →
+      (remembered : Memory) → Stands setting left remembered → AllHold 0 remembered sessions

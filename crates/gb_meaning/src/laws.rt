@@ -1,8 +1,11 @@
 //! Laws of the definitions, each the contract of a function that does nothing.
 ghost use Rattle.gb_meaning.specs.Every.{ClearRunIsPlain, EverySuccessIsFromScratch, Headline};
-ghost use Rattle.gb_meaning.specs.Promise.{SuccessIsFromScratch, TruthIsKept};
+ghost use Rattle.gb_meaning.specs.Granted.{MemoryGrants, SomeKindsAgree};
+ghost use Rattle.gb_meaning.specs.Promise.{SuccessIsFromScratch, TruthIsKept, UpToDateIsMade};
 ghost use Rattle.gb_meaning.specs.Run.{EndedIsMade};
 ghost use Rattle.gb_meaning.specs.Sessions.{HeadlineOfSessions};
+
+use gb_action::actions::Actions;
 
 /// What runs of events stand on.
 pub trait Grounds {
@@ -26,6 +29,11 @@ pub fn truth_is_kept()
     ensures { TruthIsKept }
 {}
 
+/// A task that is up to date has left what its actions make of the inputs that it found.
+pub fn up_to_date_is_made()
+    ensures { UpToDateIsMade }
+{}
+
 /// Over every list of events, each build in which no task failed is from scratch.
 pub fn every_success_is_from_scratch<G: Grounds>()
     ensures { EverySuccessIsFromScratch G.setting }
@@ -41,7 +49,33 @@ pub fn headline<G: Grounds>()
     ensures { Headline G.setting }
 {}
 
-/// The same of all sessions of the tool, one after another, with edits by anybody in between.
-pub fn headline_of_sessions<G: Grounds>()
-    ensures { HeadlineOfSessions G.setting }
+/// What sessions of the tool stand on: what they share, and by the number of each what its scripts mean and
+/// what its device may leave.
+pub trait ManyGrounds {
+    ghost use Rattle.std.specs.Prelude.{ℕ};
+    ghost use Rattle.gb_folder.specs.Files.{Tearing};
+    ghost use Rattle.gb_meaning.specs.Events.{Setting};
+    ghost use Rattle.gb_meaning.specs.Headline.{Registering};
+
+    ghost shared: { Setting };
+
+    ghost registers: { ℕ → Registering };
+
+    ghost may_leave: { ℕ → Tearing };
+}
+
+/// The same of all sessions of the tool, one after another, with edits by anybody in between. Each may have
+/// other tables and another device than the one before it.
+pub fn headline_of_sessions<G: ManyGrounds>()
+    ensures { HeadlineOfSessions G.shared G.registers G.may_leave }
+{}
+
+/// Some kinds agree with each table in which no name stands twice.
+pub fn some_kinds_agree<A: Actions>()
+    ensures { SomeKindsAgree A.meanings }
+{}
+
+/// An empty folder in memory grants what a run asks of the folder and of the device.
+pub fn memory_grants<G: Grounds>()
+    ensures { MemoryGrants G.setting }
 {}

@@ -56,6 +56,7 @@ fn answer<F: Folder>(
         "list" => told(alloc, folder.list(alloc, place)?.as_slice()),
         "read" => folder.read(alloc, place, 5),
         "read4" => folder.read(alloc, place, 4),
+        "read9" => folder.read(alloc, place, 9),
         "part" => folder.read_part(alloc, place, 3, 9),
         "far" => folder.read_part(alloc, place, u64::MAX, u64::MAX),
         _ => wrote(alloc, write(folder, word, place)),
@@ -280,7 +281,7 @@ fn odd_folders_are_answered(rt: HostRuntime) -> Result<(), Fail> {
 /// What makes a folder that is changed: a file of five bytes and an empty one.
 const BEFORE: [&str; 3] = ["!make d/e", "!put d/e/a hello", "!put d/e/z"];
 
-const CHANGES: [Row<'static>; 17] = [
+const CHANGES: [Row<'static>; 22] = [
     // Folders above the file were met.
     (
         "list d;read d/e/a;!clear d;read d/e/a;list d/e;write d/e/a;read d/e/a",
@@ -290,15 +291,30 @@ const CHANGES: [Row<'static>; 17] = [
         "list d;read d/e/a;!clear d;!link d nowhere;list d/e;read d/e/a;remove d/e/a",
         "d/e/a d/e/z ;hello;14;10;10;",
     ),
-    // It was listed just before: it is read as long as it was, once.
+    // It was listed just before: it is read as long as it was, once; where it is shorter, the device fails.
     (
         "list d/e/a;!put d/e/a hello world;read d/e/a;read d/e/a;part d/e/a",
         "d/e/a ;hello;13;lo world;",
     ),
     (
         "list d/e/a;!put d/e/a he;read d/e/a;read d/e/a",
-        "d/e/a ;he;he;",
+        "d/e/a ;10;he;",
     ),
+    (
+        "list d/e/a;!put d/e/a hell;part d/e/a;part d/e/a",
+        "d/e/a ;10;l;",
+    ),
+    // No byte of it was told: it is read to its end.
+    (
+        "list d/e/z;!put d/e/z hello;read d/e/z;list d/e/z",
+        "d/e/z ;hello;d/e/z ;",
+    ),
+    ("list d/e/z;!put d/e/z hello world;read d/e/z", "d/e/z ;13;"),
+    (
+        "list d/e/z;!put d/e/z hello world;part d/e/z",
+        "d/e/z ;lo world;",
+    ),
+    ("read d/e/z;part d/e/z;far d/e/z", ";;;"),
     (
         "list d/e/a;!unlink d/e/a;read d/e/a;write d/e/a",
         "d/e/a ;11;ok;",
@@ -395,7 +411,7 @@ fn places_have_at_most_1_024_bytes(rt: HostRuntime) -> Result<(), Fail> {
 }
 
 /// Paths of folders that are not made, steps, and what is answered to them.
-const PATHS: [(&str, &str, &str); 2] = [
+const PATHS: [(&str, &str, &str); 3] = [
     // No device is opened.
     (
         "/dev",
@@ -403,6 +419,12 @@ const PATHS: [(&str, &str, &str); 2] = [
         "14;10;10;10;",
     ),
     ("no_such_folder", "list a;read a;write a", ";11;10;"),
+    // Of such a file the system tells no byte.
+    (
+        "/proc/sys/kernel",
+        "list ostype;read9 ostype;part ostype;far ostype;read ostype",
+        "ostype ;Linux\n;ux\n;;13;",
+    ),
 ];
 
 #[test]

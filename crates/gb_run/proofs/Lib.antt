@@ -11,3 +11,7 @@ pub mod Running
 pub mod Invented
 pub mod FailedRuns
 pub mod CutEmptying
+pub mod Digested
+pub mod ByPlace
+pub mod Keeping
+pub mod Standing

@@ -73,6 +73,14 @@ module _ (course : Course) where
           printed = running.printed ∙ ap (lines_by course) (sym same);
         }
 
+    -- memory ran out behind the last action
+    pub fails_late : IsRunning course [] taken folder lines → (may_leave : Tearing) (before : ℕ) (fault : Fault) (after : ℕ) → fault ≡ faults.OutOfMemory → Fails course may_leave before fault lines after folder
+    fails_late running may_leave before fault after is = record {
+      moment = record { done = running.done; left = []; all = running.all; no_fault = running.no_fault; front = []; behind = []; at_hand = refl };
+      printed = running.printed;
+      why = inr (inl (is, running.held.files));
+    }
+
     module _ (action : Action) (left : List Action) (running : IsRunning course (action ∷ left) taken folder lines) where
       -- the next action ends
       pub goes_further : (taken_now new : Files) (lines_now : List Text)

@@ -48,6 +48,10 @@ module _ (files : List (Place × Bor Bytes)) (i : ℕ) (file : Place × Bor Byte
       sym (shown-append (take i files) (file ∷ [])) ∙ ap (λ f. shown (take i files ++ f ∷ [])) is
       ∙ ap shown (sym (take_more files i file within))
 
+  -- one file more is put
+  pub over_more : (held : Files) → put_over (put_over held (shown (take i files))) (here ∷ []) ≡ put_over held (shown (take (i + 1) files))
+  over_more held = sym (put_over-append held (shown (take i files)) (here ∷ [])) ∙ ap (put_over held) front_more
+
   -- one file more is written
   pub put_more : (old now new : Contents) → now ≡ with_all old (shown (take i files)) → new ≡ with_all now (here ∷ []) → new ≡ with_all old (shown (take (i + 1) files))
   put_more old now new before after =

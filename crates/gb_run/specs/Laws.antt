@@ -1,9 +1,12 @@
 -- What follows for a task's turn from how the run of its actions ends.
-use Rattle.std.specs.Prelude.{ℕ, ◌≡◌, ◌⊎◌, false, true, List, Some, Ok, take}
+use Rattle.std.specs.Prelude.{ℕ, ◌≡◌, ◌⊎◌, false, true, List, Some, Ok, IsTrue, take}
+use Rattle.std.specs.FinMap.Entries.{is_sorted}
+use Rattle.gb_core.specs.Lists.{byte_order}
 use Rattle.gb_folder.specs.Files.{Place, Bytes, Contents, Files, file_at}
 use Rattle.gb_report.specs.declared.fault.Fault.{Fault}
 use Rattle.gb_report.specs.declared.fault.Fault.TheVariants as faults
 use Rattle.gb_action.specs.Changes.{Changes}
+use Rattle.gb_action.specs.Files.{Trees}
 use Rattle.gb_plan.specs.Task.{Text, is_output_of}
 use Rattle.gb_plan.specs.declared.task.TaskDeclaration.{TaskDeclaration as Task}
 use Rattle.gb_meaning.specs.Kinds.{Kinds}
@@ -13,6 +16,7 @@ use Rattle.gb_meaning.specs.Label.{run_of}
 use Rattle.gb_meaning.specs.Turn.{IsWritten, lines_of}
 use Rattle.gb_meaning.specs.Events.{IsTornInRun, Setting, StandsInRun}
 use Rattle.gb_run.specs.Course.{Course, EndsWell, Fails, course_of}
+use Rattle.gb_run.specs.Digests.{prints_at}
 use Rattle.gb_run.specs.Emptying.{CannotEmpty}
 
 -- the course of a task's run over these files, once those at its outputs are gone
@@ -26,6 +30,15 @@ EndedRunsAreMade =
     → EndsWell (course_in kinds task changes old) lines new →
     (files : Files) × (made_of kinds task.actions task.values (trees_of task old) task.outputs ≡ Ok files)
     × (new ≡ with_outputs task old files)
+
+-- Its digests are those of what stands at the outputs then.
+abbrev pub MadeStands : Type 0
+MadeStands =
+    (kinds : Kinds) (task : Task) (trees : Trees) (changes : List Changes) (old : Files)
+    (lines : List Text) (new held : Files) → IsTrue (is_sorted byte_order old)
+    → EndsWell (course_of kinds task trees changes (rest_of task old)) lines new
+    → made_of kinds task.actions task.values trees task.outputs ≡ Ok held →
+    prints_at task.outputs new ≡ prints_at task.outputs held
 
 -- How a task's run fails.
 pub record Failure (setting : Setting) (task : Task) (changes : List Changes) (old : Files) (fault : Fault)

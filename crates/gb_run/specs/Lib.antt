@@ -6,3 +6,4 @@ pub mod Course
 pub mod Step
 pub mod Emptying
 pub mod Laws
+pub mod Digests

@@ -6,6 +6,7 @@ use Rattle.gb_folder.specs.Files.{Place, Bytes, Files, Tearing}
 use Rattle.gb_report.specs.declared.fault.Fault.{Fault}
 use Rattle.gb_report.specs.declared.fault.Fault.TheVariants as faults
 use Rattle.gb_action.specs.declared.reply.Written.{Written}
+use Rattle.gb_tree.specs.Prints.{digests_of}
 use Rattle.gb_plan.specs.Task.{Text}
 use Rattle.gb_plan.specs.declared.task.Output.{Output}
 use Rattle.gb_meaning.specs.Made.{put_over}
@@ -19,6 +20,12 @@ pub record IsHeld (rest held taken folder : Files) : Type 0 where
   pub in_order : IsTrue (is_sorted byte_order held)
   pub places : taken ≡ blank held
   pub files : folder ≡ put_over rest held
+
+-- The places of the task's files are taken, and these are their digests.
+pub record IsKept (held taken digests : Files) : Type 0 where
+  pub in_order : IsTrue (is_sorted byte_order held)
+  pub places : taken ≡ blank held
+  pub prints : digests ≡ digests_of held
 
 -- An action stops, by itself or by the machine; some first ones of its files stand.
 pub record StopsIn (outputs : List Output) (rest held : Files) (made : Result (List Written) Text)

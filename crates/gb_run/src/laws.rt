@@ -1,11 +1,16 @@
 //! What follows for a task's turn from how the run of its actions ends.
-ghost use Rattle.gb_run.specs.Laws.{CutEmptyingsInventNothing, EndedRunsAreMade, FailedRunsInventNothing, FailedRunsPrintFronts, TornPlacesAreOfTheEmptying, TornPlacesAreOfTheRun};
+ghost use Rattle.gb_run.specs.Laws.{CutEmptyingsInventNothing, EndedRunsAreMade, FailedRunsInventNothing, FailedRunsPrintFronts, MadeStands, TornPlacesAreOfTheEmptying, TornPlacesAreOfTheRun};
 
 use gb_meaning::laws::Grounds;
 
 /// A run that ended well leaves what the actions make.
 pub fn ended_runs_are_made()
     ensures { EndedRunsAreMade }
+{}
+
+/// The digests of what a run made are those of what stands at the outputs once it has ended well.
+pub fn made_stands()
+    ensures { MadeStands }
 {}
 
 /// A run that failed prints the lines of some first actions of those that end.

@@ -7,8 +7,10 @@
 #![tactic(auto)]
 
 mod asking;
+pub mod digests;
 pub mod emptying;
 pub mod laws;
+mod path;
 mod placing;
 pub mod run;
 mod writing;

@@ -1,8 +1,9 @@
 -- A run by changes, from what its calls answer to the task's turn.
-use Rattle.std.specs.Prelude.{ℕ, ◌≡◌, ◌≤◌, ◌⊎◌, Bool, false, true, List, [], None, Result, Ok, Err, OnErr, IfErr, map}
+use Rattle.gb_history.specs.Text.{record_text}
+use Rattle.std.specs.Prelude.{ℕ, ◌≡◌, ◌≤◌, ◌⊎◌, Bool, false, true, List, [], None, Result, Ok, Err, OnErr, IfErr, map, Some, ◌||◌}
 use Rattle.std.specs.FinMap.Entries.{is_sorted}
-use Rattle.std.specs.List.{AllByRecursion, flat_map, list_any}
-use Rattle.std.proofs.Common.{refl, sym, ap, subst, ◌∙◌, inl, inr, arith}
+use Rattle.std.specs.List.{AllByRecursion, list_any}
+use Rattle.std.proofs.Common.{refl, sym, subst, ◌∙◌, inl, inr, arith}
 use Rattle.gb_action.specs.Changes.{Changes}
 use Rattle.gb_action.specs.Files.{Trees}
 use Rattle.gb_action.specs.declared.output.OutputFiles.{OutputFiles}
@@ -16,7 +17,7 @@ use Rattle.gb_meaning.specs.Kinds.{Kinds}
 use Rattle.gb_meaning.specs.Label.{Moment}
 use Rattle.gb_meaning.specs.Made.{rest_of}
 use Rattle.gb_meaning.specs.Memory.{Entry, Memory, World, forget}
-use Rattle.gb_meaning.specs.Tree.{input_faults, trees_of}
+use Rattle.gb_meaning.specs.Tree.{trees_of}
 use Rattle.gb_meaning.specs.TrueRecord.{outside}
 use Rattle.gb_plan.specs.Graph.{Plan, reads_output_of, some_overlap}
 use Rattle.gb_plan.specs.Task.{Text, is_output_of, output_places}
@@ -30,19 +31,16 @@ use Rattle.gb_report.specs.declared.report.Options.{Options}
 use Rattle.gb_run.specs.Course.{Course, EndsWell, course_of}
 use Rattle.gb_run.specs.Laws.{course_in}
 use Rattle.gb_store.specs.Changes.{ChangesOnly, is_at}
-use Rattle.gb_store.specs.Faults.{BlamesOnly}
-use Rattle.gb_turn.specs.Reading.{CannotRead, digests_in, is_input_of, print_faults}
-use Rattle.gb_case.specs.Case.{MadeIsNotGrown}
+use Rattle.gb_store.specs.Faults.{IsOfMachine}
+use Rattle.gb_turn.specs.Reading.{digests_in, is_input_of}
 use Rattle.gb_incremental.specs.Asking.{GoesOn, IsFitting, seen_of}
 use Rattle.gb_incremental.specs.Changing.{Fails, FailsByItself, FailsByMachine}
-use Rattle.gb_task.specs.Keeping.{CannotRemember, IsForgotten, IsRemembered, IsUnwritten, run_now}
+use Rattle.gb_task.specs.Keeping.{IsForgotten, IsRemembered, IsUnwritten, run_now}
 use Rattle.gb_task.specs.Turned.{ComesAt, HasTurned, IsDueByChanges, Registering, is_of_turn, report_of, setting_with}
 use Rattle.gb_task.proofs.Cleared.{records_stay}
 use Rattle.gb_task.proofs.Outside.{kept, trees_outside}
-use Rattle.gb_task.proofs.Own.{is_kept, kept_at}
-use Rattle.gb_task.proofs.Parts.{narrowed}
 use Rattle.gb_task.proofs.Since.{goes_on_since}
-use Rattle.gb_task.proofs.Steps.{entry_made_then, kept_record, none_odd, on_course, run_by_changes_failed, run_ended, said_then, unread, unread_outputs, unrecorded}
+use Rattle.gb_task.proofs.Steps.{entry_made_then, kept_record, on_course, run_by_changes_failed, run_ended, said_then, unread, unrecorded}
 use Rattle.gb_task.proofs.Turning.{IsRun}
 use Rattle.gb_task.proofs.Whole.{as_found}
 
@@ -103,25 +101,11 @@ module _ (kinds : Kinds) (registry_of : Registering) (may_leave : Tearing) (opti
   silent : (result : Result (Unit {0}) Fault) (lines : List Text) (after : ℕ) (new : Contents) → lines ≡ [] → Then result [] after new → Turns result lines after new
   silent result lines after new none turned = found result lines after new (subst (λ (ls : List Text). Then result ls after new) (sym none) turned)
 
-  pub reading_failed : (fault : Fault) (lines : List Text) (after : ℕ) (new : Contents) → lines ≡ [] → new ≡ old → CannotRead before after (input_faults task old) fault
-      → ((place : Place) → fault ≡ faults.Device place → is_input_of task place ≡ true) → Turns (Err fault) lines after new
+  pub reading_failed : (fault : Fault) (lines : List Text) (after : ℕ) (new : Contents) → lines ≡ [] → new ≡ old → IsOfMachine before after fault
+      → ((place : Place) → fault ≡ faults.Device place → (is_input_of task place || is_output_of task place) ≡ true) → Turns (Err fault) lines after new
   reading_failed fault lines after new none same why blamed =
       silent (Err fault) lines after new none
       (unread kinds registry_of may_leave options plan task was_read memory moment.outcomes before old out apart at.read at.records told due_then fault after new same why blamed)
-
-  -- what stands at the outputs was left by a run that ended well
-  readable_outputs : MadeIsNotGrown → flat_map (print_faults old) task.outputs ≡ []
-  readable_outputs law =
-      law kinds task old since_then.since.entry since_then.is_made since_then.since.same_outputs
-      (since_then.since.same_files ∙ narrowed (is_output_of task) is_kept (λ q at_output. kept_at task.outputs out q at_output) old.files)
-      (none_odd kinds registry_of may_leave options plan task was_read memory moment.outcomes before old out apart at.read at.records told due_then old refl)
-
-  pub outputs_failed : MadeIsNotGrown → (fault : Fault) (lines : List Text) (between after : ℕ) (read new : Contents) → lines ≡ [] → read ≡ old → new ≡ read → before ≤ between → between ≤ after
-      → CannotRead between after (flat_map (print_faults read) task.outputs) fault → ((place : Place) → fault ≡ faults.Device place → is_output_of task place ≡ true) → Turns (Err fault) lines after new
-  outputs_failed law fault lines between after read new none was same le more why blamed =
-      silent (Err fault) lines after new none
-      (unread_outputs kinds registry_of may_leave options plan task was_read memory moment.outcomes before old out apart at.read at.records told due_then fault between after new (same ∙ was) le more
-      (readable_outputs law) (subst (λ (c : Contents). CannotRead between after (flat_map (print_faults c) task.outputs) fault) was why) blamed)
 
   pub forgetting_failed : (fault : Fault) (lines : List Text) (between after : ℕ) (stood new : Contents) → lines ≡ [] → stood ≡ old → before ≤ between → between ≤ after
       → was_read ≡ true → IsUnwritten task.path None stood.files between after fault → ChangesOnly (is_at (record_place task.path)) stood new
@@ -166,25 +150,26 @@ module _ (kinds : Kinds) (registry_of : Registering) (may_leave : Tearing) (opti
           entry_made_then kinds registry_of may_leave options plan task was_read memory moment.outcomes before old out apart at.read at.records told due_then taken gone
           lines ran sorted well_so
 
-      module _ (law : MadeIsNotGrown) (inputs : List Prints) (mid after : ℕ) (new : Contents)
+      module _ (inputs : List Prints) (mid after : ℕ) (new : Contents)
           (are_inputs : inputs ≡ digests_in (trees_of task old.files)) (more : between ≤ mid) (late : mid ≤ after) (changes : ChangesOnly (is_of_turn task) old new) (same : kept new.files ≡ kept ran.files) where
         said : IsSaidOf (run_now task inputs ran.files) entry
         said =
             said_then kinds registry_of may_leave options plan task was_read memory moment.outcomes before old out apart at.read at.records told due_then taken gone
             lines ran sorted well_so inputs are_inputs
 
-        pub remembering : (result : Result (Unit {0}) Fault) → IfErr result (CannotRemember task inputs ran mid after) → OnErr result (is_empty task.outputs ≡ false) → BlamesOnly (is_output_of task) result
+        pub remembering : (result : Result (Unit {0}) Fault)
+            → IfErr result (IsUnwritten task.path (Some (record_text task.path (run_now task inputs ran.files))) ran.files mid after) → OnErr result (is_empty task.outputs ≡ false)
             → ((m : Memory) (e : Entry) → Standing ran.files m → IsSaidOf (run_now task inputs ran.files) e → IsRemembered task e m result new.files)
             → Turns result lines after new
-        remembering (Ok done) cannot outputs blamed stands =
+        remembering (Ok done) cannot outputs stands =
             found (Ok done) lines after new
             (run_ended kinds registry_of may_leave options plan task was_read memory moment.outcomes before old out apart at.read at.records told due_then taken gone
             lines ran sorted well_so after new changes same (stands (forget memory task.path) entry records_then said))
-        remembering (Err fault) cannot outputs blamed stands =
+        remembering (Err fault) cannot outputs stands =
             found (Err fault) lines after new
             (unrecorded kinds registry_of may_leave options plan task was_read memory moment.outcomes before old out apart at.read at.records told due_then taken gone
-            lines ran sorted well_so after new changes same inputs are_inputs mid after (le_chain before between mid le more) late (refl_le after) changed outputs law fault cannot
-            (λ place e. blamed place (ap Err e)) (stands (forget memory task.path) entry records_then said))
+            lines ran sorted well_so after new changes same inputs are_inputs mid after (le_chain before between mid le more) late (refl_le after) changed outputs fault cannot
+            (stands (forget memory task.path) entry records_then said))
 
   -- what the run goes on from
   module _ (names : HasNamesInOrder task) (is_path : is_task_path task.path ≡ true) (distinct : some_overlap (output_places task) ≡ false) (taken : Contents)

@@ -9,7 +9,7 @@ use Rattle.gb_folder.specs.Files.{Place, Bytes, Contents, Files, HasRisen, file_
 use Rattle.gb_history.specs.Remembered.{Remembered}
 use Rattle.gb_history.specs.declared.decide.Decision.TheVariants as decisions
 use Rattle.gb_label.specs.Looking.{IsHindered}
-use Rattle.gb_label.specs.Preparing.{IsPrepared, MayPrepare}
+use Rattle.gb_label.specs.Preparing.{IsPrepared, IsRead, IsSeen, MayPrepare}
 use Rattle.gb_label.specs.declared.prepare.Prepared.{Prepared}
 use Rattle.gb_label.specs.declared.prepare.Prepared.TheVariants as prepared
 use Rattle.gb_meaning.specs.Events.{Setting, StandsInRun, is_touched_by, may_come, own_files, rules_in}
@@ -32,7 +32,7 @@ use Rattle.gb_turn.specs.Reading.{is_input_of}
 use Rattle.gb_task.specs.Settled.{AnswersAlone, IsOfTask, SettlesTurn, idle_outcome, settled_as, silent_report}
 use Rattle.gb_task.proofs.Outside.{inputs_outside, source_outside}
 
-early_outside : (task : Task) (folder : Contents) → early_case task (outside folder) ≡ early_case task folder
+pub early_outside : (task : Task) (folder : Contents) → early_case task (outside folder) ≡ early_case task folder
 early_outside task folder =
     ap₂ (λ (hindrances : List Fault) (dry : Bool). if not task.runs then Some Skips
     else if is_empty task.actions then Some HasNoActions
@@ -128,28 +128,28 @@ module _ (setting : Setting) (options : Options) (plan : Plan) (task : Task) (pa
       fails_unread setting (own_files old) options plan task path moment after fault cannot.0
       (ap (early_case task) folder ∙ early_outside task old ∙ cannot.1) cannot.2
 
-  pub settles : (result : Result Prepared Fault) → IfOk result (IsPrepared options task old read) → IfErr result (IsHindered task old before after)
+  pub settles : (result : Result Prepared Fault) → IfOk result (IsPrepared options task old read) → IfOk result (IsSeen task old.files) → IfErr result (IsHindered task old before after)
       → OnErr result ((task.runs ≡ true) × (is_empty task.actions ≡ false))
       → ((place : Place) → result ≡ Err (faults.Device place) → (is_input_of task place || is_output_of task place) ≡ true)
       → SettlesTurn setting options plan task moment old after (settled_as task path result need)
-  settles (Err fault) prepared_so cannot goes blamed = hindered fault cannot goes (λ place e. blamed place (ap Err e))
-  settles (Ok prepared.Skips) prepared_so cannot goes blamed =
+  settles (Err fault) prepared_so stands_so cannot goes blamed = hindered fault cannot goes (λ place e. blamed place (ap Err e))
+  settles (Ok prepared.Skips) prepared_so stands_so cannot goes blamed =
       idle_started setting (own_files old) options plan task path moment after outcomes.Skipped
       (are_turns setting.kinds options plan task moment prepared.Skips outcomes.Skipped (case_of prepared.Skips prepared_so) refl)
-  settles (Ok prepared.HasNoActions) prepared_so cannot goes blamed =
+  settles (Ok prepared.HasNoActions) prepared_so stands_so cannot goes blamed =
       idle_started setting (own_files old) options plan task path moment after (idle_outcome need)
       (are_turns setting.kinds options plan task moment prepared.HasNoActions (idle_outcome need) (case_of prepared.HasNoActions prepared_so)
       (same_outcome need ∙ ap (λ (b : Bool). if b then outcomes.Executed else outcomes.UpToDate) (sym needed)))
-  settles (Ok prepared.HasNoSource) prepared_so cannot goes blamed = case_of prepared.HasNoSource prepared_so
-  settles (Ok (prepared.Decided decisions.UpToDate)) prepared_so cannot goes blamed =
+  settles (Ok prepared.HasNoSource) prepared_so stands_so cannot goes blamed = case_of prepared.HasNoSource prepared_so
+  settles (Ok (prepared.Decided decisions.UpToDate seen)) prepared_so stands_so cannot goes blamed =
       idle_started setting (own_files old) options plan task path moment after outcomes.UpToDate
-      (are_turns setting.kinds options plan task moment (prepared.Decided decisions.UpToDate) outcomes.UpToDate (case_of (prepared.Decided decisions.UpToDate) prepared_so) refl)
-  settles (Ok (prepared.Decided (decisions.Incremental changes))) prepared_so cannot goes blamed =
-      let case = case_of (prepared.Decided (decisions.Incremental changes)) prepared_so in
-      (case.0, case.1, are_runs setting.kinds options task moment.world (decisions.Incremental changes) (λ e. absurd (let d = e in (cc))) case.1)
-  settles (Ok (prepared.Decided decisions.Full)) prepared_so cannot goes blamed =
-      let case = case_of (prepared.Decided decisions.Full) prepared_so in
-      (case.0, case.1, are_runs setting.kinds options task moment.world decisions.Full (λ e. absurd (let d = e in (cc))) case.1)
+      (are_turns setting.kinds options plan task moment (prepared.Decided decisions.UpToDate seen) outcomes.UpToDate (case_of (prepared.Decided decisions.UpToDate seen) prepared_so) refl)
+  settles (Ok (prepared.Decided (decisions.Incremental changes) seen)) prepared_so stands_so cannot goes blamed =
+      let case = case_of (prepared.Decided (decisions.Incremental changes) seen) prepared_so in
+      (case.0, case.1, are_runs setting.kinds options task moment.world (decisions.Incremental changes) (λ e. absurd (let d = e in (cc))) case.1, stands_so)
+  settles (Ok (prepared.Decided decisions.Full seen)) prepared_so stands_so cannot goes blamed =
+      let case = case_of (prepared.Decided decisions.Full seen) prepared_so in
+      (case.0, case.1, are_runs setting.kinds options task moment.world decisions.Full (λ e. absurd (let d = e in (cc))) case.1, stands_so)
 
 -- ---- over any folder
 
@@ -169,18 +169,18 @@ module _ (task : Task) (path : Path) (is_path : path ≡ task.path) (before afte
   same_fault : (one other : Fault) → outcomes.Failed one ≡ outcomes.Failed other → one ≡ other
   same_fault one other e = cc
 
-  pub of_task : (result : Result Prepared Fault) → IfOk result (MayPrepare task)
+  pub of_task : (result : Result Prepared Fault) → IfOk result (MayPrepare task) → IfOk result (IsRead task)
       → ((place : Place) → result ≡ Err (faults.Device place) → HasRisen before after)
       → ((place : Place) → result ≡ Err (faults.Device place) → (is_input_of task place || is_output_of task place) ≡ true)
       → IsOfTask task before after (settled_as task path result need)
-  of_task (Err fault) may rises blamed =
+  of_task (Err fault) may read_so rises blamed =
       (is_path, refl, refl, λ place is. (rises place (ap Err (same_fault fault (faults.Device place) is)), blamed place (ap Err (same_fault fault (faults.Device place) is))), refl)
-  of_task (Ok prepared.Skips) may rises blamed = (is_path, refl, refl, silent outcomes.Skipped refl, refl)
-  of_task (Ok prepared.HasNoActions) may rises blamed = (is_path, refl, refl, silent (idle_outcome need) (failed_idly need), started_idly need)
-  of_task (Ok prepared.HasNoSource) may rises blamed = (is_path, may.2)
-  of_task (Ok (prepared.Decided decisions.UpToDate)) may rises blamed = (is_path, refl, refl, silent outcomes.UpToDate refl, refl)
-  of_task (Ok (prepared.Decided (decisions.Incremental changes))) may rises blamed = (is_path, λ e. absurd (let d = e in (cc)))
-  of_task (Ok (prepared.Decided decisions.Full)) may rises blamed = (is_path, λ e. absurd (let d = e in (cc)))
+  of_task (Ok prepared.Skips) may read_so rises blamed = (is_path, refl, refl, silent outcomes.Skipped refl, refl)
+  of_task (Ok prepared.HasNoActions) may read_so rises blamed = (is_path, refl, refl, silent (idle_outcome need) (failed_idly need), started_idly need)
+  of_task (Ok prepared.HasNoSource) may read_so rises blamed = (is_path, may.2)
+  of_task (Ok (prepared.Decided decisions.UpToDate seen)) may read_so rises blamed = (is_path, refl, refl, silent outcomes.UpToDate refl, refl)
+  of_task (Ok (prepared.Decided (decisions.Incremental changes) seen)) may read_so rises blamed = (is_path, (λ e. absurd (let d = e in (cc))), read_so)
+  of_task (Ok (prepared.Decided decisions.Full seen)) may read_so rises blamed = (is_path, (λ e. absurd (let d = e in (cc))), read_so)
 
   pub alone : (result : Result Prepared Fault) → IfOk result (MayPrepare task) → OnErr result ((task.runs ≡ true) × (is_empty task.actions ≡ false))
       → AnswersAlone task.runs (is_empty task.actions) need (settled_as task path result need)
@@ -196,9 +196,9 @@ module _ (task : Task) (path : Path) (is_path : path ≡ task.path) (before afte
           acts_none (Ok prepared.Skips) may goes = not_true (sym may ∙ r)
           acts_none (Ok prepared.HasNoActions) may goes = refl
           acts_none (Ok prepared.HasNoSource) may goes = not_true (sym may.1 ∙ a)
-          acts_none (Ok (prepared.Decided decisions.UpToDate)) may goes = not_true (sym may.1 ∙ a)
-          acts_none (Ok (prepared.Decided (decisions.Incremental changes))) may goes = not_true (sym may.1 ∙ a)
-          acts_none (Ok (prepared.Decided decisions.Full)) may goes = not_true (sym may.1 ∙ a)
+          acts_none (Ok (prepared.Decided decisions.UpToDate seen)) may goes = not_true (sym may.1 ∙ a)
+          acts_none (Ok (prepared.Decided (decisions.Incremental changes) seen)) may goes = not_true (sym may.1 ∙ a)
+          acts_none (Ok (prepared.Decided decisions.Full seen)) may goes = not_true (sym may.1 ∙ a)
       by false idle r a = skips result may goes
         where
           skips : (p : Result Prepared Fault) → IfOk p (MayPrepare task) → OnErr p ((task.runs ≡ true) × (is_empty task.actions ≡ false))
@@ -207,6 +207,6 @@ module _ (task : Task) (path : Path) (is_path : path ≡ task.path) (before afte
           skips (Ok prepared.Skips) may goes = refl
           skips (Ok prepared.HasNoActions) may goes = not_true (sym r ∙ may.0)
           skips (Ok prepared.HasNoSource) may goes = not_true (sym r ∙ may.0)
-          skips (Ok (prepared.Decided decisions.UpToDate)) may goes = not_true (sym r ∙ may.0)
-          skips (Ok (prepared.Decided (decisions.Incremental changes))) may goes = not_true (sym r ∙ may.0)
-          skips (Ok (prepared.Decided decisions.Full)) may goes = not_true (sym r ∙ may.0)
+          skips (Ok (prepared.Decided decisions.UpToDate seen)) may goes = not_true (sym r ∙ may.0)
+          skips (Ok (prepared.Decided (decisions.Incremental changes) seen)) may goes = not_true (sym r ∙ may.0)
+          skips (Ok (prepared.Decided decisions.Full seen)) may goes = not_true (sym r ∙ may.0)

@@ -1,5 +1,5 @@
 -- A turn that is settled first: what holds from the moment at which it was settled holds from the one before.
-use Rattle.std.specs.Prelude.{ℕ, ◌≡◌, ◌≤◌, ◌⊎◌, Bool, true, false, is_some, List, Option, None, Some, Result, Ok, Err, IsTrue}
+use Rattle.std.specs.Prelude.{ℕ, ◌≡◌, ◌≢◌, ◌≤◌, ◌⊎◌, Bool, true, false, is_some, List, Option, None, Some, Result, Ok, Err, IsTrue}
 use Rattle.std.specs.Borrow.{Bor}
 use Rattle.std.specs.Option.{option_copied}
 use Rattle.std.proofs.Common.{refl, sym, ap, subst, ◌∙◌, inl, inr}
@@ -7,13 +7,15 @@ use Rattle.gb_folder.specs.Files.{Contents, Files, HasRisen, Place, Bytes, SameT
 use Rattle.gb_folder.proofs.Changes.{HasRisen-before}
 use Rattle.gb_action.specs.Changes.{Changes}
 use Rattle.gb_case.specs.Case.{IsCaseFor, IsKnown}
-use Rattle.gb_case.specs.Turns.{IsRunFor}
+use Rattle.gb_case.specs.Turns.{IsRunFor, goes_by_changes}
 use Rattle.gb_history.specs.Remembered.{Remembered}
 use Rattle.gb_history.specs.declared.decide.Decision.{Decision}
 use Rattle.gb_history.specs.declared.decide.Decision.TheVariants as decisions
+use Rattle.gb_label.specs.Preparing.{IsReadFor, IsSeenFor}
+use Rattle.gb_label.specs.declared.prepare.Seen.{Seen}
 use Rattle.gb_meaning.specs.Events.{IsTornInRun, StandsInRun, is_record_shut_out, is_record_too_long, may_come, own_files, rules_in}
 use Rattle.gb_meaning.specs.Kinds.{Kinds}
-use Rattle.gb_meaning.specs.Label.{IsLabel, Moment, early_case, has_one_writer}
+use Rattle.gb_meaning.specs.Label.{IsLabel, Moment, changes_from, early_case}
 use Rattle.gb_meaning.specs.Memory.{Entry, World, recalled}
 use Rattle.gb_meaning.specs.TrueRecord.{IsMade, outside}
 use Rattle.gb_meaning.specs.Turn.{IsOfMachine, Standing as Stands, StartedTurn}
@@ -27,28 +29,30 @@ use Rattle.gb_report.specs.declared.fault.Fault.TheVariants as faults
 use Rattle.gb_report.specs.declared.report.Options.{Options}
 use Rattle.gb_report.specs.declared.report.Outcome.{Outcome}
 use Rattle.gb_report.specs.declared.report.TaskReport.{TaskReport}
+use Rattle.gb_turn.specs.Reading.{AreInputs, AreInputsSeen, AreOutputs, AreOutputsSeen}
 use Rattle.gb_task.specs.Settled.{AnswersAlone, IsAnsweredAlone}
-use Rattle.gb_task.specs.Turned.{ComesAt, HasTurned, IsDue, IsDueByChanges, IsToldOf, Registering, cleared_outcome, outcome_of, setting_with}
+use Rattle.gb_task.specs.Turned.{ComesAt, HasTurned, IsDue, IsDueByChanges, IsToGoOn, IsToldOf, Registering, cleared_outcome, outcome_of, setting_with}
 use Rattle.gb_task.specs.declared.settle.Settled.TheVariants as settled
 
 -- ---- which run is due
 
 pub due_in_full : (kinds : Kinds) (options : Options) (task : Task) (world : World) (decision : Decision) → early_case task world.folder ≡ None → IsRunFor kinds options task world decision
-    → ((changes : List Changes) → decision ≡ decisions.Incremental changes → has_one_writer kinds task.actions ≡ false) → IsDue kinds options task world
-due_in_full kinds options task world decisions.UpToDate case runs none = record { case = case; not_current = runs.not_current; not_incremental = runs.full refl }
-due_in_full kinds options task world (decisions.Incremental changes) case runs none = record { case = case; not_current = runs.not_current; not_incremental = runs.full (none changes refl) }
-due_in_full kinds options task world decisions.Full case runs none = record { case = case; not_current = runs.not_current; not_incremental = runs.full refl }
+    → goes_by_changes kinds task decision ≡ false → IsDue kinds options task world
+due_in_full kinds options task world decision case runs none = record { case = case; not_current = runs.not_current; not_incremental = runs.full none }
 
-pub due_by_changes : (kinds : Kinds) (options : Options) (task : Task) (world : World) (decision : Decision) (changes : List Changes) → decision ≡ decisions.Incremental changes
-    → early_case task world.folder ≡ None → IsCaseFor kinds options task world decision → has_one_writer kinds task.actions ≡ true
-    → ((entry : Entry) → recalled world.memory task.path ≡ Some entry → IsMade kinds entry) → IsDueByChanges kinds options task world changes
-due_by_changes kinds options task world decision changes is case case_for one made =
-    by (subst (IsCaseFor kinds options task world) is case_for)
+-- of what nothing is known no run goes on
+pub due_anew : (kinds : Kinds) (options : Options) (task : Task) (world : World) (decision : Decision) → early_case task world.folder ≡ None → IsRunFor kinds options task world decision
+    → IsKnown kinds task world None → IsDue kinds options task world
+due_anew kinds options task world decision case runs known = record { case = case; not_current = runs.not_current; not_incremental = λ since. none_some (sym known ∙ since.remembered) }
+
+pub due_to_go_on : (kinds : Kinds) (options : Options) (task : Task) (world : World) (decision : Decision) (changes : List Changes) (last : Remembered) → decision ≡ decisions.Incremental changes
+    → early_case task world.folder ≡ None → IsCaseFor kinds options task world decision → goes_by_changes kinds task decision ≡ true
+    → IsKnown kinds task world (Some last) → IsToGoOn kinds options task world last
+due_to_go_on kinds options task world decision changes last is case case_for one known =
+    by (subst (IsCaseFor kinds options task world) is case_for) (ap (goes_by_changes kinds task) (sym is) ∙ one)
   where
-    by : IsCaseFor kinds options task world (decisions.Incremental changes) → IsDueByChanges kinds options task world changes
-    by so =
-        let since = so.1 one in
-        record { case = case; not_current = so.0; since = since.0; is_made = made since.0.entry since.0.remembered; are_changes = since.1 }
+    by : IsCaseFor kinds options task world (decisions.Incremental changes) → goes_by_changes kinds task (decisions.Incremental changes) ≡ true → IsToGoOn kinds options task world last
+    by so goes = record { case = case; not_current = so.0; since = (so.1 goes).0; known = known }
 
 -- what is known of a task is true
 pub known_made : (kinds : Kinds) (task : Task) (world : World) (read : Option Remembered) → IsKnown kinds task world read → (entry : Entry) → recalled world.memory task.path ≡ Some entry → IsMade kinds entry
@@ -57,6 +61,47 @@ known_made kinds task world (Some run) known entry is = subst (IsMade kinds) (sa
   where
     same : (one other : Entry) → Some one ≡ Some other → one ≡ other
     same one other e = cc
+
+pub none_known : (kinds : Kinds) (task : Task) (world : World) (read : Option (Bor Remembered)) → ((run : Bor Remembered) → read ≡ Some run → ⊥) → IsKnown kinds task world (option_copied read)
+    → IsKnown kinds task world None
+none_known kinds task world None none known = known
+none_known kinds task world (Some run) none known = absurd (none run refl)
+
+-- a task that is to go on is due by the changes since its record
+pub due_since : (kinds : Kinds) (options : Options) (task : Task) (world : World) (last : Remembered) (goes : IsToGoOn kinds options task world last)
+    → IsDueByChanges kinds options task world (changes_from task goes.since.entry.inputs world.folder.files)
+due_since kinds options task world last goes = record {
+  case = goes.case;
+  not_current = goes.not_current;
+  since = goes.since;
+  is_made = known_made kinds task world (Some last) goes.known goes.since.entry goes.since.remembered;
+  are_changes = refl;
+}
+
+-- ---- what was read
+
+pub inputs_read : (task : Task) (seen : Seen) (decision : Decision) → decision ≢ decisions.UpToDate → IsReadFor task seen decision → AreInputs task seen.inputs.items
+inputs_read task seen decisions.UpToDate due read = absurd (due refl)
+inputs_read task seen (decisions.Incremental changes) due read = read.0
+inputs_read task seen decisions.Full due read = read
+
+pub inputs_stand : (task : Task) (files : Files) (seen : Seen) (decision : Decision) → decision ≢ decisions.UpToDate → IsSeenFor task files seen decision → AreInputsSeen task files seen.inputs.items
+inputs_stand task files seen decisions.UpToDate due stands = absurd (due refl)
+inputs_stand task files seen (decisions.Incremental changes) due stands = stands.0
+inputs_stand task files seen decisions.Full due stands = stands
+
+pub outputs_read : (task : Task) (seen : Seen) (decision : Decision) (changes : List Changes) → decision ≡ decisions.Incremental changes → IsReadFor task seen decision → AreOutputs task seen.outputs.items
+outputs_read task seen decision changes is read = by (subst (IsReadFor task seen) is read)
+  where
+    by : IsReadFor task seen (decisions.Incremental changes) → AreOutputs task seen.outputs.items
+    by so = so.1
+
+pub outputs_stand : (task : Task) (files : Files) (seen : Seen) (decision : Decision) (changes : List Changes) → decision ≡ decisions.Incremental changes → IsSeenFor task files seen decision
+    → AreOutputsSeen task files seen.outputs.items
+outputs_stand task files seen decision changes is stands = by (subst (IsSeenFor task files seen) is stands)
+  where
+    by : IsSeenFor task files seen (decisions.Incremental changes) → AreOutputsSeen task files seen.outputs.items
+    by so = so.1
 
 -- ---- over any folder
 
@@ -70,10 +115,11 @@ sourceless_alone false idle need path outcome so = absurd so
 sourceless_alone true true need path outcome so = absurd so
 sourceless_alone true false need path outcome so = tt
 
-pub due_alone : (runs idle need : Bool) (path : List ℕ) (decision : Decision) (outcome : Outcome) → AnswersAlone runs idle need (settled.Due path decision) → IsAnsweredAlone runs idle need outcome
-due_alone false idle need path decision outcome so = absurd so
-due_alone true true need path decision outcome so = absurd so
-due_alone true false need path decision outcome so = tt
+pub due_alone : (runs idle need : Bool) (path : List ℕ) (decision : Decision) (seen : Seen) (outcome : Outcome) → AnswersAlone runs idle need (settled.Due path decision seen)
+    → IsAnsweredAlone runs idle need outcome
+due_alone false idle need path decision seen outcome so = absurd so
+due_alone true true need path decision seen outcome so = absurd so
+due_alone true false need path decision seen outcome so = tt
 
 -- what ended was started
 pub run_started : (outcome : Outcome) → IsToldOf outcome_of outcome → is_started outcome ≡ true

@@ -20,3 +20,5 @@ mod Later
 mod Emptied
 mod Idle
 mod Answering
+mod Cut
+mod Settling

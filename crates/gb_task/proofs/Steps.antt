@@ -1,7 +1,7 @@
 -- A run step by step: how it ended is the task's turn, wherever it ended.
 use Rattle.std.specs.Prelude.{ℕ, ◌≡◌, ◌≢◌, ◌≤◌, ◌⊎◌, ◌||◌, ◌&&◌, Bool, true, false, not, cond, List, [], ◌∷◌, length, take, map, if◌then◌else◌, is_some, nat_lt, Option, None, Some, Result, Ok, Err, IsTrue}
 use Rattle.std.specs.FinMap.Entries.{is_sorted}
-use Rattle.std.specs.List.{AllByRecursion, flat_map, list_any}
+use Rattle.std.specs.List.{AllByRecursion, list_any}
 use Rattle.std.proofs.Common.{refl, sym, ap, ap₂, subst, ◌∙◌, inl, inr}
 use Rattle.sha2.specs.Sha256.{sha256}
 use Rattle.gb_action.specs.Changes.{Changes}
@@ -19,7 +19,7 @@ use Rattle.gb_meaning.specs.Label.{Early, Moment, early_case, has_one_writer, ru
 use Rattle.gb_meaning.specs.Made.{made, made_of, rest_of, with_outputs}
 use Rattle.gb_meaning.specs.Memory.{Entry, Memory, World, entry_of, forget, recalled, remember}
 use Rattle.gb_meaning.specs.Run.{Ended}
-use Rattle.gb_meaning.specs.Tree.{has_no_source, input_faults, listing_faults, told_of_tree, trees_of}
+use Rattle.gb_meaning.specs.Tree.{has_no_source, listing_faults, told_of_tree, trees_of}
 use Rattle.gb_meaning.specs.TrueRecord.{Record, outside, record_of}
 use Rattle.gb_meaning.specs.Turn.{ByMachine, HasEnded, InventsNothing, IsWritten, KeepsRightFiles, Standing as Stands, TouchesRecordIn, cause_of, lines_of, memory_after}
 use Rattle.gb_meaning.proofs.Common.{none_some}
@@ -47,19 +47,18 @@ use Rattle.gb_run.proofs.FailedRuns.{ended_runs_are_made, failed_runs_invent_not
 use Rattle.gb_store.specs.Changes.{ChangesOnly, is_at}
 use Rattle.gb_store.specs.Faults.{IsOfMachine}
 use Rattle.gb_tree.specs.Tree.{odd_roots}
-use Rattle.gb_turn.specs.Reading.{CannotRead, digests_in, is_input_of, print_faults}
-use Rattle.gb_case.specs.Case.{MadeIsNotGrown}
+use Rattle.gb_turn.specs.Reading.{digests_in, is_input_of}
 use Rattle.gb_incremental.specs.Asking.{IsFitting}
 use Rattle.gb_incremental.specs.Changing.{Fails as FailsByChanges, FailsByItself as ItselfByChanges, FailsByMachine as MachineByChanges}
 use Rattle.gb_incremental.specs.Laws.{Failure as FailureByChanges}
 use Rattle.gb_incremental.proofs.Failing.{failed_runs_invent_nothing as runs_by_changes_invent_nothing, failed_runs_keep_right_files as runs_by_changes_keep_right_files, failed_runs_print_fronts as runs_by_changes_print_fronts, torn_places_are_of_the_run as torn_places_are_of_runs_by_changes}
 use Rattle.gb_task.specs.Clearing.{IsKept}
-use Rattle.gb_task.specs.Keeping.{CannotRemember, IsForgotten, IsRemembered, IsUnwritten, run_now}
+use Rattle.gb_task.specs.Keeping.{IsForgotten, IsRemembered, IsUnwritten, run_now}
 use Rattle.gb_task.specs.Turned.{HasTurned, Registering, is_of_turn, report_of, setting_with}
 use Rattle.gb_task.proofs.Beside.{run_outside, torn_outside}
-use Rattle.gb_task.proofs.Ended.{files_entry, leaves_outside, made_entry, makes_outside, said_entry}
+use Rattle.gb_task.proofs.Ended.{leaves_outside, makes_outside, said_entry}
 use Rattle.gb_task.proofs.Memories.{forget-forget, remember-forget}
-use Rattle.gb_task.proofs.Outside.{inputs_outside, kept, source_outside, trees_outside}
+use Rattle.gb_task.proofs.Outside.{kept, source_outside, trees_outside}
 use Rattle.gb_task.proofs.Own.{is_kept}
 use Rattle.gb_task.proofs.Parts.{blocked_by_own, differs_outside, in_way_before, outside_same}
 use Rattle.gb_task.proofs.Taken.{found_at, taken_kept, taken_left, taken_stood, taken_written}
@@ -98,9 +97,6 @@ module _ (kinds : Kinds) (registry_of : Registering) (may_leave : Tearing) (opti
     touched : (place : Place) → (list_any (is_under place) (roots_of task) || is_output_of task place) ≡ true → is_touched_by task place ≡ true
     touched place e = λ i. (goes_on.runs i && not (goes_on.acts i)) && e i
 
-    touched_in : (place : Place) → is_input_of task place ≡ true → is_touched_by task place ≡ true
-    touched_in place e = touched place (ap (λ b. b || is_output_of task place) e)
-
     touched_out : (place : Place) → is_output_of task place ≡ true → is_touched_by task place ≡ true
     touched_out place e = touched place (or_right (list_any (is_under place) (roots_of task)) (is_output_of task place) e)
 
@@ -120,33 +116,15 @@ module _ (kinds : Kinds) (registry_of : Registering) (may_leave : Tearing) (opti
 
     -- ---- reading
 
-    pub unread : (fault : Fault) (after : ℕ) (new : Contents) → new ≡ old → CannotRead before after (input_faults task old) fault
-        → ((place : Place) → fault ≡ faults.Device place → is_input_of task place ≡ true) → Turned (Err fault) [] after new
-    unread fault after new same (inr first) blamed =
-        none_some (ap first_of (sym (sym (inputs_outside task old) ∙ goes_on.readable)) ∙ first)
-    unread fault after new same (inl (inl memory_out)) blamed =
+    pub unread : (fault : Fault) (after : ℕ) (new : Contents) → new ≡ old → IsOfMachine before after fault
+        → ((place : Place) → fault ≡ faults.Device place → (is_input_of task place || is_output_of task place) ≡ true) → Turned (Err fault) [] after new
+    unread fault after new same (inl memory_out) blamed =
         subst (λ (f : Fault). Turned (Err f) [] after new) (sym memory_out)
         (still faults.OutOfMemory after new refl tt (ap outside same) (subst (λ (c : Contents). Standing c.files memory) (sym same) stood))
-    unread fault after new same (inl (inr device)) blamed =
+    unread fault after new same (inr device) blamed =
         subst (λ (f : Fault). Turned (Err f) [] after new) (sym device.1)
         (still (faults.Device device.0) after new refl
-        (device.2, touched_in device.0 (blamed device.0 device.1), inl (stands_still (kept old.files) device.0 (file_at (kept new.files) device.0) (ap (λ (c : Contents). file_at (kept c.files) device.0) same)))
-        (ap outside same) (subst (λ (c : Contents). Standing c.files memory) (sym same) stood))
-
-    -- nothing hinders the reading of outputs that stand as they were left
-    pub unread_outputs : (fault : Fault) (between after : ℕ) (new : Contents) → new ≡ old → before ≤ between → between ≤ after → flat_map (print_faults old) task.outputs ≡ []
-        → CannotRead between after (flat_map (print_faults old) task.outputs) fault → ((place : Place) → fault ≡ faults.Device place → is_output_of task place ≡ true) → Turned (Err fault) [] after new
-    unread_outputs fault between after new same le more none (inr first) blamed = none_some (ap first_of (sym none) ∙ first)
-    unread_outputs fault between after new same le more none (inl (inl memory_out)) blamed =
-        subst (λ (f : Fault). Turned (Err f) [] after new) (sym memory_out)
-        (still faults.OutOfMemory after new refl tt (ap outside same) (subst (λ (c : Contents). Standing c.files memory) (sym same) stood))
-    unread_outputs fault between after new same le more none (inl (inr device)) blamed =
-        subst (λ (f : Fault). Turned (Err f) [] after new) (sym device.1)
-        (still (faults.Device device.0) after new refl (
-          HasRisen-before before between after le more device.2,
-          touched_out device.0 (blamed device.0 device.1),
-          inl (stands_still (kept old.files) device.0 (file_at (kept new.files) device.0) (ap (λ (c : Contents). file_at (kept c.files) device.0) same)),
-        )
+        (device.2, touched device.0 (blamed device.0 device.1), inl (stands_still (kept old.files) device.0 (file_at (kept new.files) device.0) (ap (λ (c : Contents). file_at (kept c.files) device.0) same)))
         (ap outside same) (subst (λ (c : Contents). Standing c.files memory) (sym same) stood))
 
     -- ---- giving up
@@ -534,14 +512,6 @@ module _ (kinds : Kinds) (registry_of : Registering) (may_leave : Tearing) (opti
                 by_law (inr (inl written)) = inr written
                 by_law (inr (inr device)) = absurd (let z = device in (cc))
 
-            stands_then : (records : Standing new.files (forget memory task.path)) (place : Place) → is_output_of task place ≡ true
-                → StandsInRun kinds task (kept old.files) place (file_at (kept new.files) place)
-            stands_then records place output = by (file_at (kept new.files) place) refl
-              where
-                by : (left : Option Bytes) → file_at (kept new.files) place ≡ left → StandsInRun kinds task (kept old.files) place left
-                by None e = tt
-                by (Some bytes) e = stands_of records place bytes output e
-
             front_then : (records : Standing new.files (forget memory task.path))
                 → (count : ℕ) × (lines ≡ lines_in kinds task told (kept old.files) (take count (run_of kinds task (kept old.files)).done))
             front_then records = front faults.OutOfMemory lines between mid after ran new early rises late changes (λ p d. absurd (let z = d in (cc))) records same (as_cut between mid)
@@ -599,31 +569,14 @@ module _ (kinds : Kinds) (registry_of : Registering) (may_leave : Tearing) (opti
             may_fail_then (inl (inr long)) now = (touches (inl has_outputs), inr (inr (too_long long)))
             may_fail_then (inr risen) now = (touches (inl has_outputs), inl (HasRisen-after before mid after (HasRisen-before before between mid early rises risen) late))
 
-            pub unrecorded : MadeIsNotGrown → (fault : Fault) → CannotRemember task inputs ran between mid fault
-                → ((place : Place) → fault ≡ faults.Device place → is_output_of task place ≡ true)
+            pub unrecorded : (fault : Fault) → IsUnwritten task.path (Some text_then) ran.files between mid fault
                 → IsRemembered task entry_made_then (forget memory task.path) (Err fault) new.files → Turned (Err fault) lines after new
-            unrecorded law fault why at stands = by why
+            unrecorded fault why stands = by why
               where
-                Stood : Fault → Type 0
-                Stood f = IsRemembered task entry_made_then (forget memory task.path) (Err f) new.files
-
                 for_memory : fault ≡ faults.OutOfMemory → Turned (Err fault) lines after new
                 for_memory is =
                     subst (λ (f : Fault). Turned (Err f) lines after new) (sym is)
                     (given faults.OutOfMemory refl tt (λ p d. absurd (let z = d in (cc))) (subst (λ (f : Fault). IsRemembered task entry_made_then (forget memory task.path) (Err f) new.files) is stands))
-
-                for_device : (place : Place) → fault ≡ faults.Device place → HasRisen between mid → Turned (Err fault) lines after new
-                for_device place is risen =
-                    let records : Standing new.files (forget memory task.path) = subst (λ (f : Fault). IsRemembered task entry_made_then (forget memory task.path) (Err f) new.files) is stands in
-                    subst (λ (f : Fault). Turned (Err f) lines after new) (sym is)
-                    (given (faults.Device place) refl
-                    (HasRisen-after before mid after (HasRisen-before before between mid early rises risen) late, touched_out place (at place is), inl (stands_then records place (at place is)))
-                    (λ p d. at p (is ∙ d)) records)
-
-                none_hinders : flat_map (print_faults ran) task.outputs ≡ []
-                none_hinders =
-                    law kinds task ran entry_made_then (made_entry kinds task out apart old.files taken.files sorted files_kept files_made makes ran.files leaves) refl
-                    (files_entry kinds task out apart old.files taken.files sorted files_kept files_made makes ran.files leaves) (none_odd ran before_record.odd)
 
                 for_record : (CannotStand ran.files task.path (Some text_then) ⊎ HasRisen between mid)
                     → IsRemembered task entry_made_then (forget memory task.path) (Err faults.HistoryNotWritten) new.files → Turned (Err faults.HistoryNotWritten) lines after new
@@ -646,11 +599,8 @@ module _ (kinds : Kinds) (registry_of : Registering) (may_leave : Tearing) (opti
                     given faults.HistoryNotWritten refl (may_fail_then unwritten (forget memory task.path)) (λ p d. absurd (let z = d in (cc)))
                     (subst (Standing new.files) (forget-forget memory task.path stood.in_order) gone)
 
-                by : CannotRemember task inputs ran between mid fault → Turned (Err fault) lines after new
-                by (inl (inl (inl is))) = for_memory is
-                by (inl (inl (inr device))) = for_device device.0 device.1 device.2
-                by (inl (inr first)) = none_some (ap first_of (sym none_hinders) ∙ first)
-                by (inr (inl is)) = for_memory is
-                by (inr (inr unwritten)) =
+                by : IsUnwritten task.path (Some text_then) ran.files between mid fault → Turned (Err fault) lines after new
+                by (inl is) = for_memory is
+                by (inr unwritten) =
                     subst (λ (f : Fault). Turned (Err f) lines after new) (sym unwritten.0)
                     (for_record unwritten.1 (subst (λ (f : Fault). IsRemembered task entry_made_then (forget memory task.path) (Err f) new.files) unwritten.0 stands))

@@ -1,8 +1,9 @@
 -- A full run, from what its calls answer to the task's turn.
-use Rattle.std.specs.Prelude.{ℕ, ◌≡◌, ◌≤◌, ◌⊎◌, Bool, false, true, List, [], Result, Ok, Err, OnErr, IfErr}
+use Rattle.gb_history.specs.Text.{record_text}
+use Rattle.std.specs.Prelude.{ℕ, ◌≡◌, ◌≤◌, ◌⊎◌, Bool, false, true, List, [], Result, Ok, Err, OnErr, IfErr, Some, ◌||◌}
 use Rattle.std.specs.FinMap.Entries.{is_sorted}
 use Rattle.std.specs.List.{list_any}
-use Rattle.std.proofs.Common.{refl, sym, ap, subst, ◌∙◌, inl, inr, arith}
+use Rattle.std.proofs.Common.{refl, sym, subst, ◌∙◌, inl, inr, arith}
 use Rattle.gb_action.specs.Changes.{Changes}
 use Rattle.gb_action.specs.Files.{Trees}
 use Rattle.gb_core.specs.Lists.{byte_order}
@@ -11,7 +12,7 @@ use Rattle.gb_history.specs.Remembered.{Prints}
 use Rattle.gb_meaning.specs.Kinds.{Kinds}
 use Rattle.gb_meaning.specs.Label.{Moment, changes_from}
 use Rattle.gb_meaning.specs.Memory.{Entry, Memory, forget}
-use Rattle.gb_meaning.specs.Tree.{input_faults, trees_of}
+use Rattle.gb_meaning.specs.Tree.{trees_of}
 use Rattle.gb_meaning.specs.TrueRecord.{outside}
 use Rattle.gb_plan.specs.Graph.{Plan, reads_output_of}
 use Rattle.gb_plan.specs.Task.{Text, is_output_of}
@@ -25,11 +26,10 @@ use Rattle.gb_report.specs.declared.report.Options.{Options}
 use Rattle.gb_run.specs.Course.{Course, EndsWell, Fails, FailsByItself, FailsByMachine, course_of}
 use Rattle.gb_run.specs.Laws.{course_in}
 use Rattle.gb_store.specs.Changes.{ChangesOnly}
-use Rattle.gb_store.specs.Faults.{BlamesOnly}
-use Rattle.gb_turn.specs.Reading.{CannotRead, digests_in, is_input_of}
-use Rattle.gb_case.specs.Case.{MadeIsNotGrown}
+use Rattle.gb_store.specs.Faults.{IsOfMachine}
+use Rattle.gb_turn.specs.Reading.{digests_in, is_input_of}
 use Rattle.gb_task.specs.Clearing.{HasCleared, IsCleared}
-use Rattle.gb_task.specs.Keeping.{CannotRemember, IsRemembered, run_now}
+use Rattle.gb_task.specs.Keeping.{IsRemembered, run_now, IsUnwritten}
 use Rattle.gb_task.specs.Turned.{ComesAt, HasTurned, IsDue, Registering, is_of_turn, report_of, setting_with}
 use Rattle.gb_task.proofs.Cleared.{empty_before, records_stay}
 use Rattle.gb_task.proofs.Outside.{changes_outside, kept}
@@ -99,8 +99,8 @@ module _ (kinds : Kinds) (registry_of : Registering) (may_leave : Tearing) (opti
   silent : (result : Result (Unit {0}) Fault) (lines : List Text) (after : ℕ) (new : Contents) → lines ≡ [] → Then result [] after new → Turns result lines after new
   silent result lines after new none turned = found result lines after new (subst (λ (ls : List Text). Then result ls after new) (sym none) turned)
 
-  pub reading_failed : (fault : Fault) (lines : List Text) (after : ℕ) (new : Contents) → lines ≡ [] → new ≡ old → CannotRead before after (input_faults task old) fault
-      → ((place : Place) → fault ≡ faults.Device place → is_input_of task place ≡ true) → Turns (Err fault) lines after new
+  pub reading_failed : (fault : Fault) (lines : List Text) (after : ℕ) (new : Contents) → lines ≡ [] → new ≡ old → IsOfMachine before after fault
+      → ((place : Place) → fault ≡ faults.Device place → (is_input_of task place || is_output_of task place) ≡ true) → Turns (Err fault) lines after new
   reading_failed fault lines after new none same why blamed =
       silent (Err fault) lines after new none
       (unread kinds registry_of may_leave options plan task was_read memory moment.outcomes before old out apart at.read at.records told_then due_then fault after new same why blamed)
@@ -153,22 +153,23 @@ module _ (kinds : Kinds) (registry_of : Registering) (may_leave : Tearing) (opti
           entry_made_then kinds registry_of may_leave options plan task was_read memory moment.outcomes before old out apart at.read at.records told_then due_then is_cleared.taken is_cleared.out
           lines ran sorted well_so
 
-      module _ (law : MadeIsNotGrown) (inputs : List Prints) (mid after : ℕ) (new : Contents)
+      module _ (inputs : List Prints) (mid after : ℕ) (new : Contents)
           (are_inputs : inputs ≡ digests_in (trees_of task old.files)) (more : between ≤ mid) (late : mid ≤ after) (changes : ChangesOnly (is_of_turn task) old new) (same : kept new.files ≡ kept ran.files) where
         said : IsSaidOf (run_now task inputs ran.files) entry
         said =
             said_then kinds registry_of may_leave options plan task was_read memory moment.outcomes before old out apart at.read at.records told_then due_then is_cleared.taken is_cleared.out
             lines ran sorted well_so inputs are_inputs
 
-        pub remembering : (result : Result (Unit {0}) Fault) → IfErr result (CannotRemember task inputs ran mid after) → OnErr result (is_empty task.outputs ≡ false) → BlamesOnly (is_output_of task) result
+        pub remembering : (result : Result (Unit {0}) Fault)
+            → IfErr result (IsUnwritten task.path (Some (record_text task.path (run_now task inputs ran.files))) ran.files mid after) → OnErr result (is_empty task.outputs ≡ false)
             → ((m : Memory) (e : Entry) → Standing ran.files m → IsSaidOf (run_now task inputs ran.files) e → IsRemembered task e m result new.files)
             → Turns result lines after new
-        remembering (Ok done) cannot outputs blamed stands =
+        remembering (Ok done) cannot outputs stands =
             found (Ok done) lines after new
             (run_ended kinds registry_of may_leave options plan task was_read memory moment.outcomes before old out apart at.read at.records told_then due_then is_cleared.taken is_cleared.out
             lines ran sorted well_so after new changes same (stands (forget memory task.path) entry records_then said))
-        remembering (Err fault) cannot outputs blamed stands =
+        remembering (Err fault) cannot outputs stands =
             found (Err fault) lines after new
             (unrecorded kinds registry_of may_leave options plan task was_read memory moment.outcomes before old out apart at.read at.records told_then due_then is_cleared.taken is_cleared.out
-            lines ran sorted well_so after new changes same inputs are_inputs mid after (le_chain before between mid le more) late (refl_le after) changed outputs law fault cannot
-            (λ place e. blamed place (ap Err e)) (stands (forget memory task.path) entry records_then said))
+            lines ran sorted well_so after new changes same inputs are_inputs mid after (le_chain before between mid le more) late (refl_le after) changed outputs fault cannot
+            (stands (forget memory task.path) entry records_then said))

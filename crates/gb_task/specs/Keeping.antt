@@ -1,16 +1,17 @@
 -- What becomes of a task's record.
-use Rattle.std.specs.Prelude.{ℕ, ◌≡◌, ◌⊎◌, List, Option, Some, Result, Ok, Err, map, if◌then◌else◌}
-use Rattle.std.specs.List.{flat_map}
-use Rattle.gb_folder.specs.Files.{Bytes, Contents, Files, HasRisen, is_empty}
+use Rattle.std.specs.Prelude.{ℕ, ◌≡◌, ◌⊎◌, List, Option, Result, Ok, Err, map, if◌then◌else◌}
+use Rattle.gb_action.specs.Files.{Trees}
+use Rattle.gb_folder.specs.Files.{Bytes, Files, HasRisen, is_empty}
 use Rattle.gb_history.specs.Remembered.{Prints, Remembered}
-use Rattle.gb_history.specs.Text.{record_text}
+use Rattle.gb_meaning.specs.Kinds.{Kinds}
+use Rattle.gb_meaning.specs.Made.{made_of}
 use Rattle.gb_meaning.specs.Memory.{Entry, Memory, forget, remember}
 use Rattle.gb_plan.specs.Task.{Path}
 use Rattle.gb_plan.specs.declared.task.TaskDeclaration.{TaskDeclaration as Task}
 use Rattle.gb_records.specs.Standing.{CannotStand, Standing}
 use Rattle.gb_report.specs.declared.fault.Fault.{Fault}
 use Rattle.gb_report.specs.declared.fault.Fault.TheVariants as faults
-use Rattle.gb_turn.specs.Reading.{CannotRead, print_faults, recorded_of}
+use Rattle.gb_turn.specs.Reading.{digests_in, recorded_of}
 
 -- a run of the task with these input digests, whose outputs are those of these files
 abbrev pub run_now : Task → List Prints → Files → Remembered
@@ -27,12 +28,11 @@ IsUnwritten path next files before after fault =
     (fault ≡ faults.OutOfMemory)
     ⊎ ((fault ≡ faults.HistoryNotWritten) × (CannotStand files path next ⊎ HasRisen before after))
 
--- Why a run's record was not put in: its outputs could not be read, or it was not written.
-abbrev pub CannotRemember : Task → List Prints → Contents → ℕ → ℕ → Fault → Type 0
-CannotRemember task inputs folder before after fault =
-    CannotRead before after (flat_map (print_faults folder) task.outputs) fault
-    ⊎ IsUnwritten task.path (Some (record_text task.path (run_now task inputs folder.files))) folder.files
-    before after fault
+-- The record is that of a run of the task on these trees, whose outputs are what its actions make of them.
+abbrev pub IsRecordOf : Kinds → Task → Trees → Remembered → Type 0
+IsRecordOf kinds task trees run =
+    (files : Files) × (made_of kinds task.actions task.values trees task.outputs ≡ Ok files)
+    × (run ≡ run_now task (digests_in trees) files)
 
 -- which records stand once a task's was taken out, or that failed
 abbrev pub IsForgotten : Path → Memory → Result (Unit {0}) Fault → Files → Type 0

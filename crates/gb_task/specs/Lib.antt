@@ -3,3 +3,4 @@ pub mod Keeping
 pub mod Clearing
 pub mod Turned
 pub mod Settled
+pub mod Anew

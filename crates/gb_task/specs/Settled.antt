@@ -5,6 +5,7 @@ use Rattle.gb_case.specs.Case.{IsCaseFor}
 use Rattle.gb_case.specs.Turns.{IsRunFor}
 use Rattle.gb_folder.specs.Files.{Contents, HasRisen, Place, is_empty}
 use Rattle.gb_history.specs.declared.decide.Decision.TheVariants as decisions
+use Rattle.gb_label.specs.Preparing.{IsReadFor, IsSeenFor}
 use Rattle.gb_label.specs.declared.prepare.Prepared.{Prepared}
 use Rattle.gb_label.specs.declared.prepare.Prepared.TheVariants as prepared
 use Rattle.gb_meaning.specs.Events.{Setting, own_files, rules_in}
@@ -42,9 +43,9 @@ settled_as task path (Ok prepared.Skips) need = settled.Told (silent_report task
 settled_as task path (Ok prepared.HasNoActions) need =
     settled.Told (silent_report task path (idle_outcome need))
 settled_as task path (Ok prepared.HasNoSource) need = settled.Sourceless path
-settled_as task path (Ok (prepared.Decided decisions.UpToDate)) need =
+settled_as task path (Ok (prepared.Decided decisions.UpToDate seen)) need =
     settled.Told (silent_report task path outcomes.UpToDate)
-settled_as task path (Ok (prepared.Decided decision)) need = settled.Due path decision
+settled_as task path (Ok (prepared.Decided decision seen)) need = settled.Due path decision seen
 
 -- What is told is of the task, without a line, tells that it was started, and blames the device only where it
 -- failed in the turn; what has no source has a property that skips it; and what is due is not up to date.
@@ -56,7 +57,8 @@ IsOfTask task before after (settled.Told report) =
     × IsTrue (is_started report.outcome)
 IsOfTask task before after (settled.Sourceless path) =
     (path ≡ task.path) × (list_any (λ property. property.skip_when_empty) task.files ≡ true)
-IsOfTask task before after (settled.Due path decision) = (path ≡ task.path) × (decision ≢ decisions.UpToDate)
+IsOfTask task before after (settled.Due path decision seen) =
+    (path ≡ task.path) × (decision ≢ decisions.UpToDate) × IsReadFor task seen decision
 
 -- all is told, with this outcome
 abbrev pub IsToldAs : Outcome → Settled → Type 0
@@ -93,6 +95,6 @@ SettlesTurn setting options plan task moment old after (settled.Told report) =
     (record { world = moment.world; failures = after })
 SettlesTurn setting options plan task moment old after (settled.Sourceless path) =
     early_case task moment.world.folder ≡ Some HasNoSource
-SettlesTurn setting options plan task moment old after (settled.Due path decision) =
+SettlesTurn setting options plan task moment old after (settled.Due path decision seen) =
     (early_case task moment.world.folder ≡ None) × IsCaseFor setting.kinds options task moment.world decision
-    × IsRunFor setting.kinds options task moment.world decision
+    × IsRunFor setting.kinds options task moment.world decision × IsSeenFor task old.files seen decision

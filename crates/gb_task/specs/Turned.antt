@@ -1,9 +1,11 @@
 -- A task's turn, over a folder that tells what it holds.
-use Rattle.std.specs.Prelude.{ℕ, ◌≡◌, not, Bool, ◌||◌, List, Result, Ok, Err, None, is_some}
+use Rattle.std.specs.Prelude.{ℕ, ◌≡◌, not, Bool, ◌||◌, List, Result, Ok, Err, None, Some, is_some}
 use Rattle.sha2.specs.Sha256.{sha256}
 use Rattle.gb_action.specs.Changes.{Changes}
 use Rattle.gb_folder.specs.Files.{Contents, Files, Place, Tearing, is_empty}
+use Rattle.gb_case.specs.Case.{IsKnown}
 use Rattle.gb_history.specs.Places.{record_place}
+use Rattle.gb_history.specs.Remembered.{Remembered}
 use Rattle.gb_meaning.specs.Events.{Setting, own_files, rules_in}
 use Rattle.gb_meaning.specs.Kinds.{Kinds, Name}
 use Rattle.gb_meaning.specs.Label.{IsCurrent, IsIncremental, Moment, changes_from, early_case}
@@ -68,6 +70,15 @@ pub record IsDueByChanges (kinds : Kinds) (options : Options) (task : Task) (wor
   pub since : IsIncremental kinds options task world
   pub is_made : IsMade kinds since.entry
   pub are_changes : changes ≡ changes_from task since.entry.inputs world.folder.files
+
+-- The task goes on from what its record says: no case settles the turn before, the task is not current, and
+-- what is remembered, of which this is the record, differs from what it has in incremental properties alone.
+pub record IsToGoOn (kinds : Kinds) (options : Options) (task : Task) (world : World)
+    (last : Remembered) : Type 0 where
+  pub case : early_case task world.folder ≡ None
+  pub not_current : ¬ IsCurrent options task world
+  pub since : IsIncremental kinds options task world
+  pub known : IsKnown kinds task world (Some last)
 
 -- ---- After the turn
 

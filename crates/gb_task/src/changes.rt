@@ -1,5 +1,5 @@
-//! A run of a task by changes.
-ghost use Rattle.std.specs.Prelude.{◌≡◌, ◌≤◌, ◌||◌, [], ℕ, List, false, not, IsTrue};
+//! The turn of a task that may go on from what its last run left.
+ghost use Rattle.std.specs.Prelude.{◌≡◌, ◌≤◌, ◌||◌, [], ℕ, List, false, true, not, IsTrue};
 ghost use Rattle.std.specs.List.{AllByRecursion, list_any};
 ghost use Rattle.gb_folder.specs.Files.{HasRisen, SameTearing, is_empty, is_own};
 ghost use Rattle.gb_history.specs.Places.{record_place};
@@ -12,40 +12,38 @@ ghost use Rattle.gb_plan.specs.Graph.{Plan, reads_output_of, some_overlap};
 ghost use Rattle.gb_plan.specs.Ready.{IsReady};
 ghost use Rattle.gb_plan.specs.Task.{is_output_of, output_places};
 ghost use Rattle.gb_records.specs.Said.{IsText};
-ghost use Rattle.gb_report.specs.declared.report.Options.{Options};
 ghost use Rattle.gb_report.specs.declared.report.Outcome.TheVariants.{Failed};
 ghost use Rattle.gb_store.specs.Changes.{ChangesOnly};
 ghost use Rattle.gb_store.specs.Faults.{Blames, BlamesOnly};
-ghost use Rattle.gb_task.specs.Turned.{ComesAt, HasTurned, IsDueByChanges, IsToldOf, Registering, is_of_turn, outcome_of, report_of, setting_with};
-ghost use Rattle.gb_turn.specs.Reading.{is_input_of};
+ghost use Rattle.gb_task.specs.Turned.{ComesAt, HasTurned, IsToGoOn, IsToldOf, Registering, is_of_turn, outcome_of, report_of, setting_with};
+ghost use Rattle.gb_turn.specs.Reading.{AreInputs, AreInputsSeen, AreOutputs, AreOutputsSeen, is_input_of};
 
-use crate::full::outcome_of;
-use crate::inputs::{Inputs, read_all};
-use crate::keeping::{forget, remember};
-use crate::outputs::read_outputs;
+use crate::anew::{Anew, settle_anew};
+use crate::full::{outcome_of, run_on};
+use crate::going::go_by;
 use gb_action::actions::Actions;
-use gb_action::change::ChangeLists;
 use gb_action::table::ActionTable;
-use gb_case::laws::made_is_not_grown;
 use gb_core::path::TaskPath;
 use gb_core::text::Texts;
 use gb_folder::folder::Folder;
-use gb_incremental::run::run_by_changes;
+use gb_history::record::Record;
+use gb_label::prepare::Seen;
 use gb_plan::task::TaskDeclaration;
 use gb_report::fault::Fault;
-use gb_report::report::TaskReport;
+use gb_report::report::{Options, TaskReport};
 use std::alloc::Global;
 
-/// Takes the turn of a task that is to go on by these changes from what its last run left, whose record was
-/// read where `was_read` says so. The path is the task's own, so that a report needs no memory.
+/// Takes the turn of a task that may go on from what its last run left, whose record this is: on its inputs
+/// and outputs as they were read. The path is the task's own, so that a report needs no memory.
 pub fn take_turn_by_changes<A: Actions, F: Folder>(
     alloc: Global,
     folder: &mut F,
     task: &TaskDeclaration,
     path: TaskPath,
     table: &ActionTable<A::Stored>,
-    changes: ChangeLists,
-    was_read: bool,
+    options: Options,
+    last: &Record,
+    seen: Seen,
 ) -> TaskReport
     requires ready { IsReady A.meanings table.now task.now }
     requires able { AllByRecursion (CanGoOn A.meanings table.now) task.now.actions }
@@ -54,6 +52,8 @@ pub fn take_turn_by_changes<A: Actions, F: Folder>(
     requires apart { reads_output_of task.now task.now ≡ false }
     requires outputs_apart { some_overlap (output_places task.now) ≡ false }
     requires path { path ≡ task.now.path }
+    requires inputs { AreInputs task.now seen.inputs.items }
+    requires outputs { AreOutputs task.now seen.outputs.items }
     ensures path { result.path ≡ task.now.path }
     ensures has_actions { result.has_actions ≡ not (is_empty task.now.actions) }
     ensures outcome { IsToldOf outcome_of result.outcome }
@@ -65,18 +65,20 @@ pub fn take_turn_by_changes<A: Actions, F: Folder>(
     ensures tearing { SameTearing (F.may_leave folder.old) (F.may_leave folder.new) }
     ensures changes { IsTrue F.tells
         → ChangesOnly (is_of_turn task.now) (F.contents folder.old) (F.contents folder.new) }
-    // Where the run by these changes is due, this is the task's turn.
-    ensures turn { IsTrue F.tells → (kinds : Kinds) (registry_of : Registering) (options : Options)
+    // Where the task goes on from what its record says, this is its turn.
+    ensures turn { IsTrue F.tells → (kinds : Kinds) (registry_of : Registering)
         (plan : Plan) (moment : Moment) → Agrees A.meanings table.now kinds
         → TearsAreSeen IsText record_place (F.may_leave folder.old)
-        → ComesAt task.now was_read (F.contents folder.old) (F.failures folder.old) moment
-        → IsDueByChanges kinds options task.now moment.world changes
+        → ComesAt task.now true (F.contents folder.old) (F.failures folder.old) moment
+        → AreInputsSeen task.now (F.contents folder.old).files seen.inputs.items
+        → AreOutputsSeen task.now (F.contents folder.old).files seen.outputs.items
+        → IsToGoOn kinds options task.now moment.world last.now
         → HasTurned (setting_with kinds registry_of (F.may_leave folder.old)) options plan task.now moment
         result (F.contents folder.old) (F.failures folder.new) (F.contents folder.new) }
 {
     let has_actions = !task.actions.is_empty();
     let mut lines = Texts::new(alloc);
-    let ended = go_on::<A, F>(alloc, folder, task, table, changes, was_read, &mut lines);
+    let ended = go_on::<A, F>(alloc, folder, task, table, options, last, seen, &mut lines);
     TaskReport {
         path,
         outcome: outcome_of(ended),
@@ -85,15 +87,15 @@ pub fn take_turn_by_changes<A: Actions, F: Folder>(
     }
 }
 
-/// Reads the inputs and the outputs, takes the record out, runs the actions by the changes, and puts the new
-/// record in.
+/// Reads what is left, decides once more, and runs as that says.
 fn go_on<A: Actions, F: Folder>(
     alloc: Global,
     folder: &mut F,
     task: &TaskDeclaration,
     table: &ActionTable<A::Stored>,
-    changes: ChangeLists,
-    was_read: bool,
+    options: Options,
+    last: &Record,
+    seen: Seen,
     lines: &mut Texts,
 ) -> Result<(), Fault>
     requires ready { IsReady A.meanings table.now task.now }
@@ -102,6 +104,8 @@ fn go_on<A: Actions, F: Folder>(
     requires not_own { list_any (λ output. is_own output.place) task.now.outputs ≡ false }
     requires apart { reads_output_of task.now task.now ≡ false }
     requires outputs_apart { some_overlap (output_places task.now) ≡ false }
+    requires inputs { AreInputs task.now seen.inputs.items }
+    requires outputs { AreOutputs task.now seen.outputs.items }
     requires no_lines { lines.old ≡ [] }
     ensures count { F.failures folder.old ≤ F.failures folder.new }
     ensures blame { Blames result (F.failures folder.old) (F.failures folder.new) }
@@ -109,22 +113,21 @@ fn go_on<A: Actions, F: Folder>(
     ensures tearing { SameTearing (F.may_leave folder.old) (F.may_leave folder.new) }
     ensures changes { IsTrue F.tells
         → ChangesOnly (is_of_turn task.now) (F.contents folder.old) (F.contents folder.new) }
-    ensures turn { IsTrue F.tells → (kinds : Kinds) (registry_of : Registering) (options : Options)
+    ensures turn { IsTrue F.tells → (kinds : Kinds) (registry_of : Registering)
         (plan : Plan) (moment : Moment) → Agrees A.meanings table.now kinds
         → TearsAreSeen IsText record_place (F.may_leave folder.old)
-        → ComesAt task.now was_read (F.contents folder.old) (F.failures folder.old) moment
-        → IsDueByChanges kinds options task.now moment.world changes
+        → ComesAt task.now true (F.contents folder.old) (F.failures folder.old) moment
+        → AreInputsSeen task.now (F.contents folder.old).files seen.inputs.items
+        → AreOutputsSeen task.now (F.contents folder.old).files seen.outputs.items
+        → IsToGoOn kinds options task.now moment.world last.now
         → HasTurned (setting_with kinds registry_of (F.may_leave folder.old)) options plan task.now moment
         (report_of task.now result lines.new)
         (F.contents folder.old) (F.failures folder.new) (F.contents folder.new) }
 {
-    made_is_not_grown();
-    // Of paths of tasks alone records stand, which this shows to be one.
-    let _path = task.path.as_str();
-    let inputs = read_all(alloc, folder, task)?;
-    let outputs = read_outputs(alloc, folder, task)?;
-    forget(alloc, folder, &task.path, was_read)?;
-    let Inputs { trees, prints, .. } = inputs;
-    run_by_changes::<A, F>(alloc, folder, task, table, trees, outputs, changes, lines)?;
-    remember(alloc, folder, task, prints)
+    match settle_anew(alloc, folder, task, options, last, seen)? {
+        Anew::ByChanges(inputs, outputs, changes) => {
+            go_by::<A, F>(alloc, folder, task, table, inputs, outputs, changes, lines)
+        }
+        Anew::InFull(inputs) => run_on::<A, F>(alloc, folder, task, table, inputs, true, lines),
+    }
 }

@@ -1,26 +1,21 @@
 //! The record of a task, taken out as its run begins and put in as it ends.
-ghost use Rattle.std.specs.Prelude.{◌≡◌, ◌≢◌, ◌≤◌, ◌⊎◌, ℕ, List, None, Some, Err, false, true, IsTrue, IfErr, OnErr, map};
+ghost use Rattle.std.specs.Prelude.{◌≡◌, ◌≢◌, ◌≤◌, ℕ, List, None, Some, Err, false, true, IsTrue, IfErr, OnErr};
 ghost use Rattle.gb_folder.specs.Files.{SameTearing, is_empty};
 ghost use Rattle.gb_history.specs.Places.{record_place};
 ghost use Rattle.gb_history.specs.Text.{record_text};
-ghost use Rattle.gb_label.specs.Deciding.{HasNamesInOrder};
 ghost use Rattle.gb_meaning.specs.Headline.{TearsAreSeen};
 ghost use Rattle.gb_meaning.specs.Memory.{Entry, Memory, recalled};
-ghost use Rattle.gb_plan.specs.Task.{is_output_of};
 ghost use Rattle.gb_records.specs.Said.{IsSaidOf, IsText};
 ghost use Rattle.gb_records.specs.Standing.{Standing};
 ghost use Rattle.gb_store.specs.Changes.{ChangesOnly, is_at};
-ghost use Rattle.gb_store.specs.Faults.{Blames, BlamesOnly};
-ghost use Rattle.gb_task.specs.Keeping.{CannotRemember, IsForgotten, IsRemembered, IsUnwritten, run_now};
+ghost use Rattle.gb_task.specs.Keeping.{IsForgotten, IsRemembered, IsUnwritten};
 
-use crate::recording::record_of;
 use gb_core::path::TaskPath;
 use gb_folder::folder::Folder;
+use gb_history::record::Record;
 use gb_plan::task::TaskDeclaration;
 use gb_records::keeping::{put_in, take_out};
 use gb_report::fault::Fault;
-use gb_tree::prints::Prints;
-use gb_turn::outputs::print_outputs;
 use std::alloc::Global;
 
 /// Takes the record of a task out, where one was read.
@@ -55,37 +50,30 @@ pub fn forget<F: Folder>(
     }
 }
 
-/// Puts the record of a run that ended well in, of a task with outputs. These are read again: nothing else of
-/// the folder is.
+/// Puts the record of a run that ended well in, of a task with outputs. Nothing is read.
 pub fn remember<F: Folder>(
     alloc: Global,
     folder: &mut F,
     task: &TaskDeclaration,
-    inputs: Vec<Prints>,
+    run: &Record,
 ) -> Result<(), Fault>
-    requires in_order { HasNamesInOrder task.now }
-    requires inputs { map (λ found. found.0) inputs.items ≡ map (λ property. property.name) task.now.files }
     ensures count { F.failures folder.old ≤ F.failures folder.new }
-    ensures blame { Blames result (F.failures folder.old) (F.failures folder.new) }
-    ensures blamed { BlamesOnly (is_output_of task.now) result }
+    ensures blame { (place : List ℕ) → result ≢ Err (Fault.Device place) }
     ensures tearing { SameTearing (F.may_leave folder.old) (F.may_leave folder.new) }
     ensures changes { IsTrue F.tells
         → ChangesOnly (is_at (record_place task.now.path)) (F.contents folder.old) (F.contents folder.new) }
     ensures err { IsTrue F.tells → IfErr result
-        (CannotRemember task.now inputs.items (F.contents folder.old) (F.failures folder.old)
-        (F.failures folder.new)) }
+        (IsUnwritten task.now.path (Some (record_text task.now.path run.now)) (F.contents folder.old).files
+        (F.failures folder.old) (F.failures folder.new)) }
     ensures outputs { OnErr result (is_empty task.now.outputs ≡ false) }
     ensures stands { IsTrue F.tells → TearsAreSeen IsText record_place (F.may_leave folder.old)
         → (memory : Memory) (entry : Entry) → Standing (F.contents folder.old).files memory
-        → IsSaidOf (run_now task.now inputs.items (F.contents folder.old).files) entry
-        → IsRemembered task.now entry memory result (F.contents folder.new).files }
+        → IsSaidOf run.now entry → IsRemembered task.now entry memory result (F.contents folder.new).files }
 {
     if task.outputs.as_slice().is_empty() {
         return Ok(());
     }
-    let outputs = print_outputs(alloc, folder, task)?;
-    let run = record_of(alloc, task, inputs, outputs)?;
-    match put_in(alloc, folder, &task.path, &run) {
+    match put_in(alloc, folder, &task.path, run) {
         Ok(()) => Ok(()),
         Err(unwritten) => Err(unwritten.fault()),
     }

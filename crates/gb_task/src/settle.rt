@@ -18,7 +18,7 @@ use gb_core::text::Texts;
 use gb_folder::folder::Folder;
 use gb_history::decide::Decision;
 use gb_history::record::Record;
-use gb_label::prepare::{Prepared, prepare};
+use gb_label::prepare::{Prepared, Seen, prepare};
 use gb_plan::task::TaskDeclaration;
 use gb_report::fault::Fault;
 use gb_report::report::{Options, Outcome, TaskReport};
@@ -31,8 +31,8 @@ pub enum Settled {
     Told(TaskReport),
     /// The task has no source.
     Sourceless(TaskPath),
-    /// It is to run, as was decided: by changes or in full.
-    Due(TaskPath, Decision),
+    /// It is to run, as was decided on what was read of it: by changes or in full.
+    Due(TaskPath, Decision, Seen),
 }
 
 /// Finds what a started task's turn comes to, and tells of it where nothing is to be done. Nothing is
@@ -89,8 +89,8 @@ fn settled_by(
         Ok(Prepared::Skips) => told(alloc, task, path, Outcome::Skipped),
         Ok(Prepared::HasNoActions) => told(alloc, task, path, idle_outcome(has_executed_need)),
         Ok(Prepared::HasNoSource) => Settled::Sourceless(path),
-        Ok(Prepared::Decided(Decision::UpToDate)) => told(alloc, task, path, Outcome::UpToDate),
-        Ok(Prepared::Decided(decision)) => Settled::Due(path, decision),
+        Ok(Prepared::Decided(Decision::UpToDate, _)) => told(alloc, task, path, Outcome::UpToDate),
+        Ok(Prepared::Decided(decision, seen)) => Settled::Due(path, decision, seen),
         Err(fault) => told(alloc, task, path, Outcome::Failed(fault)),
     }
 }

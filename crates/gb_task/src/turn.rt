@@ -1,16 +1,17 @@
 //! A started task's turn.
-ghost use Rattle.std.specs.Prelude.{◌≡◌, ◌≤◌, ◌||◌, ℕ, List, None, Some, false, not, is_some, IsTrue, option_copied};
-ghost use Rattle.std.specs.List.{list_any};
+ghost use Rattle.std.specs.Prelude.{◌≡◌, ◌≢◌, ◌≤◌, ◌||◌, ℕ, List, None, false, not, is_some, IsTrue, option_copied};
+ghost use Rattle.std.specs.List.{AllByRecursion, list_any};
+ghost use Rattle.gb_action.specs.Changes.{Changes};
 ghost use Rattle.gb_case.specs.Case.{IsCaseFor, IsKnown};
-ghost use Rattle.gb_case.specs.Turns.{IsRunFor};
+ghost use Rattle.gb_case.specs.Turns.{IsRunFor, goes_by_changes};
 ghost use Rattle.gb_folder.specs.Files.{HasRisen, SameTearing, is_empty, is_own};
 ghost use Rattle.gb_history.specs.Places.{record_place};
+ghost use Rattle.gb_incremental.specs.Asking.{CanGoOn};
 ghost use Rattle.gb_label.specs.Deciding.{HasNamesInOrder};
+ghost use Rattle.gb_label.specs.Preparing.{IsReadFor, IsSeenFor};
 ghost use Rattle.gb_meaning.specs.Headline.{Agrees, TearsAreSeen};
 ghost use Rattle.gb_meaning.specs.Kinds.{Kinds};
 ghost use Rattle.gb_meaning.specs.Label.{Moment, early_case, some_outcome};
-ghost use Rattle.gb_meaning.specs.Memory.{Entry, recalled};
-ghost use Rattle.gb_meaning.specs.TrueRecord.{IsMade};
 ghost use Rattle.gb_plan.specs.Graph.{Plan, needs_in, reads_output_of, some_overlap};
 ghost use Rattle.gb_plan.specs.Ready.{IsReady};
 ghost use Rattle.gb_plan.specs.Task.{is_output_of, output_places};
@@ -34,6 +35,7 @@ use gb_folder::folder::Folder;
 use gb_history::decide::Decision;
 use gb_history::record::Record;
 use gb_incremental::asking::has_one_writer;
+use gb_label::prepare::Seen;
 use gb_plan::task::TaskDeclaration;
 use gb_report::fault::Fault;
 use gb_report::report::{Options, TaskReport};
@@ -85,26 +87,28 @@ pub fn take_turn<A: Actions, F: Folder>(
         → HasTurned (setting_with kinds registry_of (F.may_leave folder.old)) options plan task.now moment
         result (F.contents folder.old) (F.failures folder.new) (F.contents folder.new) }
 {
-    let was_read = last.is_some();
     match settle(alloc, folder, task, path, options, last, has_executed_need) {
         Settled::Told(report) => report,
-        Settled::Sourceless(path) => take_turn_without_source(alloc, folder, task, path, was_read),
-        Settled::Due(path, decision) => {
-            run::<A, F>(alloc, folder, task, path, table, decision, was_read)
+        Settled::Sourceless(path) => {
+            take_turn_without_source(alloc, folder, task, path, last.is_some())
         }
+        Settled::Due(path, decision, seen) => run::<A, F>(
+            alloc, folder, task, path, table, options, last, decision, seen,
+        ),
     }
 }
 
-/// Runs a task that is due: by the changes that were decided, where one action writes and can answer them, or
-/// else in full.
+/// Runs a task that is due: from what its record says, where it goes on by changes, or else in full.
 fn run<A: Actions, F: Folder>(
     alloc: Global,
     folder: &mut F,
     task: &TaskDeclaration,
     path: TaskPath,
     table: &ActionTable<A::Stored>,
+    options: Options,
+    last: Option<&Record>,
     decision: Decision,
-    was_read: bool,
+    seen: Seen,
 ) -> TaskReport
     requires ready { IsReady A.meanings table.now task.now }
     requires in_order { HasNamesInOrder task.now }
@@ -112,6 +116,8 @@ fn run<A: Actions, F: Folder>(
     requires apart { reads_output_of task.now task.now ≡ false }
     requires outputs_apart { some_overlap (output_places task.now) ≡ false }
     requires path { path ≡ task.now.path }
+    requires due { decision ≢ Decision.UpToDate }
+    requires read { IsReadFor task.now seen decision }
     ensures path { result.path ≡ task.now.path }
     ensures has_actions { result.has_actions ≡ not (is_empty task.now.actions) }
     ensures outcome { IsToldOf outcome_of result.outcome }
@@ -123,23 +129,51 @@ fn run<A: Actions, F: Folder>(
     ensures tearing { SameTearing (F.may_leave folder.old) (F.may_leave folder.new) }
     ensures changes { IsTrue F.tells
         → ChangesOnly (is_of_turn task.now) (F.contents folder.old) (F.contents folder.new) }
-    ensures turn { IsTrue F.tells → (kinds : Kinds) (registry_of : Registering) (options : Options)
+    ensures turn { IsTrue F.tells → (kinds : Kinds) (registry_of : Registering)
         (plan : Plan) (moment : Moment) → Agrees A.meanings table.now kinds
         → TearsAreSeen IsText record_place (F.may_leave folder.old)
-        → ComesAt task.now was_read (F.contents folder.old) (F.failures folder.old) moment
+        → ComesAt task.now (is_some (option_copied last.entry)) (F.contents folder.old)
+        (F.failures folder.old) moment
         → early_case task.now moment.world.folder ≡ None
         → IsCaseFor kinds options task.now moment.world decision
         → IsRunFor kinds options task.now moment.world decision
-        → ((entry : Entry) → recalled moment.world.memory task.now.path ≡ Some entry → IsMade kinds entry)
+        → IsSeenFor task.now (F.contents folder.old).files seen decision
+        → IsKnown kinds task.now moment.world (option_copied last.entry)
         → HasTurned (setting_with kinds registry_of (F.may_leave folder.old)) options plan task.now moment
         result (F.contents folder.old) (F.failures folder.new) (F.contents folder.new) }
 {
-    if let Decision::Incremental(changes) = decision {
-        if has_one_writer::<A>(table, task) {
+    if let Some(record) = last {
+        if goes_by_changes::<A>(table, task, &decision) {
             return take_turn_by_changes::<A, F>(
-                alloc, folder, task, path, table, changes, was_read,
+                alloc, folder, task, path, table, options, record, seen,
             );
         }
     }
-    take_full_turn::<A, F>(alloc, folder, task, path, table, was_read)
+    take_full_turn::<A, F>(
+        alloc,
+        folder,
+        task,
+        path,
+        table,
+        seen.inputs,
+        last.is_some(),
+    )
+}
+
+/// Whether a run goes on by changes: where that was decided, and one action writes that can answer them.
+fn goes_by_changes<A: Actions>(
+    table: &ActionTable<A::Stored>,
+    task: &TaskDeclaration,
+    decision: &Decision,
+) -> bool
+    requires { IsReady A.meanings table.now task.now }
+    ensures agreed { (kinds : Kinds) → Agrees A.meanings table.now kinds
+        → goes_by_changes kinds task.now decision.now ≡ result }
+    ensures able { IsTrue result → AllByRecursion (CanGoOn A.meanings table.now) task.now.actions }
+    ensures decided { IsTrue result → (changes : List Changes) × (decision.now ≡ Decision.Incremental changes) }
+{
+    match decision {
+        Decision::Incremental(_) => has_one_writer::<A>(table, task),
+        Decision::UpToDate | Decision::Full => false,
+    }
 }

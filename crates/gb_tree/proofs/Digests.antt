@@ -29,7 +29,7 @@ in_order_digests : (es : Tree) → digests_of (in_order es) ≡ in_order (digest
 in_order_digests [] = refl
 in_order_digests (e ∷ es) = put_digest e.0 e.1 (in_order es) ∙ ap (put byte_order e.0 (sha256 e.1)) (in_order_digests es)
 
-digests_append : (old new : Tree) → digests_of (old ++ new) ≡ digests_of old ++ digests_of new
+pub digests_append : (old new : Tree) → digests_of (old ++ new) ≡ digests_of old ++ digests_of new
 digests_append [] new = refl
 digests_append (e ∷ old) new = ap (λ ds. (e.0, sha256 e.1) ∷ ds) (digests_append old new)
 

@@ -21,7 +21,7 @@ use Rattle.gb_core.proofs.Found.{same_tied}
 use Rattle.gb_tree.specs.Tree.{Entries, bytes_at, contents_at, entries_from, path_from}
 use Rattle.gb_tree.proofs.Under.{IsUnder, under_parts}
 
-reversed : (x y : List ℕ) (o : Ordering) → byte_order x y ≡ o → byte_order y x ≡ ordering_reverse o
+pub reversed : (x y : List ℕ) (o : Ordering) → byte_order x y ≡ o → byte_order y x ≡ ordering_reverse o
 reversed x y o p = nat_list_cmp_total.antisymm y x ∙ ap ordering_reverse p
 
 one_tied : (c : ℕ) → nat_cmp c c ≡ Equal
@@ -100,7 +100,7 @@ entries_ordered root (p ∷ places) sorted under placed =
 
 -- ---- One entry more
 
-is_less : (o : Ordering) → is_lt o ≡ true → o ≡ Less
+pub is_less : (o : Ordering) → is_lt o ≡ true → o ≡ Less
 is_less Less h = refl
 is_less Equal h = absurd (cc)
 is_less Greater h = absurd (cc)

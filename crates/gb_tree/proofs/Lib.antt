@@ -15,3 +15,4 @@ pub mod Blame
 pub mod Holding
 pub mod Listing
 pub mod Rest
+pub mod Seen

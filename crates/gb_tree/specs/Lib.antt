@@ -6,3 +6,4 @@ pub mod Merge
 pub mod Tree
 pub mod Property
 pub mod Rising
+pub mod Reading

@@ -7,6 +7,11 @@
 //! patterns let in. Their paths are sorted and compared before any content is read, in steps that
 //! grow as n log n. [`outputs`](output::outputs) reads the files at a place.
 //!
+//! [`reading_of`](property::reading_of) and [`output_reading`](output::output_reading) read such
+//! files once: they take the digests, and keep the bytes as far as there is room for them. From such
+//! a [`Reading`](kept::Reading) a run gets the contents by [`completed`](kept::Reading::completed),
+//! with the digests of these very contents.
+//!
 //! Of such files the digests are remembered: [`prints`](digest::prints) takes them from contents,
 //! [`prints_of`](property::prints_of) and [`output_prints`](output::output_prints) from the folder,
 //! of which they hold 65,536 bytes at a time. [`compare`](changes::compare) tells what was added,
@@ -17,9 +22,11 @@
 #![tactic(auto)]
 
 pub mod changes;
+mod completing;
 pub mod digest;
 mod entries;
 pub mod fault;
+pub mod kept;
 mod matching;
 pub mod output;
 mod path;
@@ -27,3 +34,4 @@ pub mod pattern;
 pub mod prints;
 pub mod property;
 mod reading;
+mod seeing;

@@ -8,11 +8,14 @@ ghost use Rattle.gb_core.specs.Lists.{byte_order};
 ghost use Rattle.gb_folder.specs.Files.{SameTearing, places_under};
 ghost use Rattle.gb_tree.specs.Tree.{Blames, IsRefused, entries_from, files_from, listing_faults, output_entries, output_faults, output_listing_faults};
 ghost use Rattle.gb_tree.specs.Prints.{digests_of};
+ghost use Rattle.gb_tree.specs.Reading.{AreSeen, digests_seen};
 
 use crate::fault::TreeFault;
+use crate::kept::Reading;
 use crate::path::path_from;
 use crate::prints::Prints;
 use crate::reading::{digest_all, listed, read_all};
+use crate::seeing::see_all;
 use gb_action::snapshot::Snapshot;
 use gb_core::name::Name;
 use gb_core::place::{Place, RelPath};
@@ -73,6 +76,38 @@ pub fn output_prints<F: Folder>(
     let entries = entries_at(alloc, folder, name, place)?;
     let digests = digest_all(alloc, folder, entries.as_slice())?;
     Ok(Prints::new(name.copy()?, digests))
+}
+
+/// The files that [`outputs`] answers as they are read once, refused as it refuses. Their bytes are
+/// kept as far as there is `room` for them, which they lessen.
+pub fn output_reading<F: Folder>(
+    alloc: Global,
+    folder: &mut F,
+    name: &Name,
+    place: &Place,
+    room: &mut u64,
+) -> Result<Reading, TreeFault>
+    ensures count { F.failures folder.old ≤ F.failures folder.new }
+    ensures blame { Blames (λ at. IsTrue (is_under at place.now))
+        (F.failures folder.old) (F.failures folder.new) result }
+    ensures tearing { SameTearing (F.may_leave folder.old) (F.may_leave folder.new) }
+    ensures same { IsTrue F.tells → F.contents folder.new ≡ F.contents folder.old }
+    ensures named { IfOk result (λ reading. reading.0 ≡ name.now) }
+    ensures under { IfOk result
+        (λ reading. AllByRecursion (λ seen. IsTrue (is_under seen.place place.now)) reading.1) }
+    ensures digests { IsTrue F.tells → IfOk result (λ reading.
+        digests_seen reading.1 ≡ digests_of (files_from (F.contents folder.old).files place.now)) }
+    ensures seen { IsTrue F.tells → IfOk result (λ reading. AreSeen (F.contents folder.old).files
+        (output_entries (F.contents folder.old).files place.now) reading.1) }
+    ensures fit { IsTrue F.tells → OnOk result
+        (output_faults name.now place.now (F.contents folder.old) ≡ []) }
+    ensures err { IsTrue F.tells → IfErr result (λ fault.
+        IsRefused (F.failures folder.old) (F.failures folder.new)
+        (output_faults name.now place.now (F.contents folder.old)) fault) }
+{
+    let entries = entries_at(alloc, folder, name, place)?;
+    let seen = see_all(alloc, folder, entries.as_slice(), room)?;
+    Ok(Reading::new(name.copy()?, seen))
 }
 
 /// The places of the output's files, by their paths from its place.

@@ -1,15 +1,19 @@
 //! The files of a file property.
 ghost use Rattle.std.specs.Prelude.{◌≡◌, ◌≤◌, [], IsTrue, IfOk, IfErr, OnOk};
+ghost use Rattle.std.specs.List.{AllByRecursion};
 ghost use Rattle.gb_folder.specs.Files.{SameTearing};
 ghost use Rattle.gb_tree.specs.Tree.{Blames, IsRefused};
 ghost use Rattle.gb_tree.specs.Prints.{digests_of};
-ghost use Rattle.gb_tree.specs.Property.{is_under_any, tree_faults, tree_of};
+ghost use Rattle.gb_tree.specs.Property.{entries_of, is_under_any, tree_faults, tree_of};
+ghost use Rattle.gb_tree.specs.Reading.{AreSeen, digests_seen};
 
 use crate::entries::entries_of;
 use crate::fault::TreeFault;
+use crate::kept::Reading;
 use crate::pattern::Pattern;
 use crate::prints::Prints;
 use crate::reading::{digest_all, read_all};
+use crate::seeing::see_all;
 use gb_action::snapshot::Snapshot;
 use gb_core::name::Name;
 use gb_core::place::Place;
@@ -92,4 +96,39 @@ pub fn prints_of<F: Folder>(
     let entries = entries_of(alloc, folder, name, naming, roots, include, exclude)?;
     let digests = digest_all(alloc, folder, entries.as_slice())?;
     Ok(Prints::new(name.copy()?, digests))
+}
+
+/// The files that [`snapshot`] answers as they are read once, refused as it refuses. Their bytes are
+/// kept as far as there is `room` for them, which they lessen.
+pub fn reading_of<F: Folder>(
+    alloc: Global,
+    folder: &mut F,
+    name: &Name,
+    naming: Naming,
+    roots: &[Place],
+    include: &[Pattern],
+    exclude: &[Pattern],
+    room: &mut u64,
+) -> Result<Reading, TreeFault>
+    ensures count { F.failures folder.old ≤ F.failures folder.new }
+    ensures blame { Blames (λ at. IsTrue (is_under_any roots.now at))
+        (F.failures folder.old) (F.failures folder.new) result }
+    ensures tearing { SameTearing (F.may_leave folder.old) (F.may_leave folder.new) }
+    ensures same { IsTrue F.tells → F.contents folder.new ≡ F.contents folder.old }
+    ensures named { IfOk result (λ reading. reading.0 ≡ name.now) }
+    ensures under { IfOk result
+        (λ reading. AllByRecursion (λ seen. IsTrue (is_under_any roots.now seen.place)) reading.1) }
+    ensures digests { IsTrue F.tells → IfOk result (λ reading. digests_seen reading.1
+        ≡ digests_of (tree_of naming roots.now include.now exclude.now (F.contents folder.old).files)) }
+    ensures seen { IsTrue F.tells → IfOk result (λ reading. AreSeen (F.contents folder.old).files
+        (entries_of naming roots.now include.now exclude.now (F.contents folder.old).files) reading.1) }
+    ensures fit { IsTrue F.tells → OnOk result
+        (tree_faults name.now naming roots.now include.now exclude.now (F.contents folder.old) ≡ []) }
+    ensures err { IsTrue F.tells → IfErr result (λ fault.
+        IsRefused (F.failures folder.old) (F.failures folder.new)
+        (tree_faults name.now naming roots.now include.now exclude.now (F.contents folder.old)) fault) }
+{
+    let entries = entries_of(alloc, folder, name, naming, roots, include, exclude)?;
+    let seen = see_all(alloc, folder, entries.as_slice(), room)?;
+    Ok(Reading::new(name.copy()?, seen))
 }

@@ -20,10 +20,10 @@ use sha2::{Digest, Sha256};
 use std::alloc::Global;
 
 /// The bytes of a piece of a file that is digested.
-const PIECE: u64 = 65_536;
+pub(crate) const PIECE: u64 = 65_536;
 
 /// How many of them make up the largest file.
-const PIECES: u64 = 128;
+pub(crate) const PIECES: u64 = 128;
 
 /// The places of the files at or beneath one place.
 pub(crate) fn listed<F: Folder>(
@@ -53,7 +53,11 @@ pub(crate) fn listed<F: Folder>(
 }
 
 /// The bytes of one file.
-fn read_file<F: Folder>(alloc: Global, folder: &mut F, place: &Place) -> Result<Bytes, TreeFault>
+pub(crate) fn read_file<F: Folder>(
+    alloc: Global,
+    folder: &mut F,
+    place: &Place,
+) -> Result<Bytes, TreeFault>
     ensures count { F.failures folder.old ≤ F.failures folder.new }
     ensures blame { Blames (λ at. at ≡ place.now)
         (F.failures folder.old) (F.failures folder.new) result }
@@ -104,7 +108,7 @@ pub(crate) fn read_all<F: Folder>(
 }
 
 /// A piece of one file.
-fn read_piece<F: Folder>(
+pub(crate) fn read_piece<F: Folder>(
     alloc: Global,
     folder: &mut F,
     place: &Place,
@@ -119,6 +123,8 @@ fn read_piece<F: Folder>(
     ensures within { IfOk result (λ piece. length piece.items ≤ len) }
     ensures read { IsTrue F.tells → IfOk result
         (λ piece. piece.items ≡ take len (drop at (bytes_at (F.contents folder.old).files place.now))) }
+    ensures stands { IsTrue F.tells → OnOk result
+        (IsSome (file_at (F.contents folder.old).files place.now)) }
     ensures err { IsTrue F.tells → IsSome (file_at (F.contents folder.old).files place.now)
         → IfErr result (λ fault. IsTreeFaultOfMachine (F.failures folder.old) (F.failures folder.new) fault) }
 {

@@ -1,11 +1,13 @@
 -- A tree's fault that is told of the device is of the device.
-use Rattle.std.specs.Prelude.{◌≡◌, Option, None, Some, Result, Ok, Err}
-use Rattle.std.proofs.Common.{sym, ap, ◌∙◌}
+use Rattle.std.specs.Prelude.{ℕ, ◌≡◌, Option, None, Some, Result, Ok, Err}
+use Rattle.std.proofs.Common.{sym, ap, ◌∙◌, inl, inr}
 use Rattle.gb_folder.specs.Files.{Place}
 use Rattle.gb_report.specs.declared.fault.Fault.{Fault}
 use Rattle.gb_report.specs.declared.fault.Fault.TheVariants as faults
 use Rattle.gb_tree.specs.declared.fault.TreeFault.{TreeFault}
 use Rattle.gb_tree.specs.declared.fault.TreeFault.TheVariants as trees
+use Rattle.gb_tree.specs.Tree.{IsTreeFaultOfMachine}
+use Rattle.gb_store.specs.Faults.{IsOfMachine}
 use Rattle.gb_meaning.specs.Tree.{told_of_tree}
 use Rattle.gb_meaning.proofs.Common.{none_some, some_same}
 
@@ -31,3 +33,8 @@ err_is {E = E} r y w a b = ap (λ o. either o y) (sym a ∙ b)
     either : {T : Type 0} → Result T E → E → E
     either (Ok x) e = e
     either (Err e) d = e
+
+-- a tree's fault that is the machine's is told as one
+pub told_machine : (before after : ℕ) (fault : TreeFault) (told : Fault) → told ≡ told_of_tree fault → IsTreeFaultOfMachine before after fault → IsOfMachine before after told
+told_machine before after fault told is (inl none) = inl (is ∙ ap told_of_tree none)
+told_machine before after fault told is (inr device) = inr (device.0, is ∙ ap told_of_tree device.1, device.2)

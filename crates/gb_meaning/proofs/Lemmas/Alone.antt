@@ -102,10 +102,12 @@ pub build_outlined : (setting : Setting) (old new : State) (invocation : Invocat
 build_outlined setting old new invocation report registries build = record {
   registry = build.planned.registry;
   is_registry = registries (outside old.contents).files invocation.properties build.planned.registry build.planned.scripts;
-  request = build.planned.request;
-  asked = build.planned.asked;
-  plan = build.plan;
-  planned = build.planned.planned;
-  dry_run = build.dry_run;
-  outlines = may_builds_outline setting (own_files old.contents) invocation.options build.plan old.failures new.failures (world_in old) (world_in new) report.tasks build.builds;
+  outlined = record {
+    request = build.planned.request;
+    asked = build.planned.asked;
+    plan = build.plan;
+    planned = build.planned.planned;
+    dry_run = build.dry_run;
+    outlines = may_builds_outline setting (own_files old.contents) invocation.options build.plan old.failures new.failures (world_in old) (world_in new) report.tasks build.builds;
+  };
 }

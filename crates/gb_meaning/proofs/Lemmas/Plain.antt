@@ -1,7 +1,7 @@
 -- Where no two contents of a run have one digest, no step of it has a premise; and success follows from what
 -- the other clauses of a build say.
-use Rattle.std.specs.Prelude.{ℕ, List, [], ◌∷◌, ◌++◌, ⊤}
-use Rattle.std.proofs.Common.{inl, inr}
+use Rattle.std.specs.Prelude.{ℕ, ◌≡◌, List, [], ◌∷◌, ◌++◌, length, ⊤}
+use Rattle.std.proofs.Common.{arith, refl, inl, inr}
 use Rattle.gb_report.specs.declared.report.Options.{Options}
 use Rattle.gb_report.specs.declared.report.TaskReport.{TaskReport}
 use Rattle.gb_meaning.proofs.Standing.{rules_of, standing}
@@ -20,7 +20,7 @@ use Rattle.gb_meaning.specs.Turn.{May, Guard, Turns, Builds, moment_after}
 use Rattle.gb_meaning.specs.Edits.{Shown}
 use Rattle.gb_meaning.specs.Events.{Setting, State, Step, may_come, own_files, world_in}
 use Rattle.gb_meaning.specs.Headline.{RunHolds, IsClear, StillClear, contents_outside, seen_with, state_of}
-use Rattle.gb_meaning.specs.Every.{PlainRun, ClearRunIsPlain, AllSucceed, Headline, contents_of_all, always}
+use Rattle.gb_meaning.specs.Every.{PlainRun, ClearRunIsPlain, AllSucceed, Headline, contents_after, contents_of_all, always}
 use Rattle.gb_meaning.proofs.Lemmas.Clear.{Among, apart_of_fewer, all_hold}
 use Rattle.gb_meaning.proofs.Lemmas.Every.{up_to_here, joined, step_succeeds}
 
@@ -79,8 +79,9 @@ module _ (setting : Setting) where
 
   run_plain : (clear : Type 0) (seen : List Bytes) (old : State) (all : List Event) (told : List Answer) (end : Shown)
       → RunHolds setting clear seen old all told end
-      → (states : List State) × (clear → AreApart setting.digest (seen ++ contents_of_all (old ∷ states)) → PlainRun setting old states all told end)
-  run_plain clear seen old [] [] end run = ([], λ _ _. run)
+      → (states : List State) × (length states ≡ length all) × (contents_after old.contents states ≡ end.contents)
+      × (clear → AreApart setting.digest (seen ++ contents_of_all (old ∷ states)) → PlainRun setting old states all told end)
+  run_plain clear seen old [] [] end run = ([], refl, run.1, λ _ _. run)
   run_plain clear seen old [] (answer ∷ others) end run = absurd run
   run_plain clear seen old (event ∷ rest) [] end run = absurd run
   run_plain clear seen old (event ∷ rest) (answer ∷ others) end run =
@@ -88,6 +89,8 @@ module _ (setting : Setting) where
       let here_seen : List Bytes = contents_outside old.contents in
       let later = run_plain (StillClear setting clear old (seen_with seen old next)) (seen ++ here_seen) next rest others end run.4 in (
         next ∷ later.0,
+        (let long = later.1 in omega (arith, long)),
+        later.2,
         λ is_clear apart.
             let here : IsClear setting old.remembered (seen_with seen old next) =
             inr (apart_of_fewer setting.digest (seen ++ contents_of_all (old ∷ next ∷ later.0)) (seen_with seen old next)
@@ -95,14 +98,14 @@ module _ (setting : Setting) where
               run.1,
               step_plain setting (StillClear setting clear old) (clear_spreads clear old) seen old next event answer (is_clear, here) run.2,
               run.3 (is_clear, here),
-              later.1 (is_clear, here) (apart_of_fewer setting.digest (seen ++ contents_of_all (old ∷ next ∷ later.0)) ((seen ++ here_seen) ++ contents_of_all (next ∷ later.0))
+              later.3 (is_clear, here) (apart_of_fewer setting.digest (seen ++ contents_of_all (old ∷ next ∷ later.0)) ((seen ++ here_seen) ++ contents_of_all (next ∷ later.0))
                   (joined seen here_seen (contents_of_all (next ∷ later.0))) apart),
             ),
       )
 
 pub plain : (setting : Setting) → ClearRunIsPlain setting
 plain setting old end all told holds remembered stands =
-    let run = run_plain setting ⊤ _ (state_of old remembered) all told end (holds remembered stands) in (run.0, run.1 tt)
+    let run = run_plain setting ⊤ _ (state_of old remembered) all told end (holds remembered stands) in (run.0, run.1, run.2, run.3 tt)
 
 -- in a plain run each success is from scratch
 plain_succeeds : (setting : Setting) (old : State) (states : List State) (all : List Event) (told : List Answer) (end : Shown)
@@ -120,4 +123,4 @@ plain_succeeds setting old (next ∷ states) (event ∷ rest) [] end run = absur
 pub headline : (setting : Setting) → Headline setting
 headline setting old end all told holds remembered stands =
     let run = plain setting old end all told holds remembered stands in
-    (run.0, λ apart. (run.1 apart, plain_succeeds setting (state_of old remembered) run.0 all told end (run.1 apart)))
+    (run.0, run.1, run.2, λ apart. (run.3 apart, plain_succeeds setting (state_of old remembered) run.0 all told end (run.3 apart)))

@@ -1,11 +1,11 @@
 -- Sessions one after another: the records that one leaves are those that the next one finds.
-use Rattle.std.specs.Prelude.{◌≡◌, Bool, true, false, cond, List, [], ◌∷◌, Option, None, Some, IsTrue, is_some}
+use Rattle.std.specs.Prelude.{ℕ, suc, ◌≡◌, Bool, true, false, cond, List, [], ◌∷◌, Option, None, Some, IsTrue, is_some}
 use Rattle.std.specs.List.{AllByRecursion}
 use Rattle.std.specs.FinMap.Entries.{find-where_key, is_sorted-where_key, where_key}
 use Rattle.std.proofs.Common.{sym, ap, subst, inl, inr}
 use Rattle.gb_core.specs.Lists.{byte_order}
 use Rattle.gb_core.specs.Path.{is_task_path}
-use Rattle.gb_folder.specs.Files.{Contents, Bytes, file_at}
+use Rattle.gb_folder.specs.Files.{Contents, Bytes, Tearing, file_at}
 use Rattle.gb_plan.specs.Task.{Path}
 use Rattle.gb_meaning.specs.declared.events.Event.{Event}
 use Rattle.gb_meaning.specs.declared.events.Answer.{Answer}
@@ -13,9 +13,9 @@ use Rattle.gb_meaning.specs.Memory.{Entry, Memory, recalled}
 use Rattle.gb_meaning.specs.TrueRecord.{Stores}
 use Rattle.gb_meaning.specs.Edits.{Shown}
 use Rattle.gb_meaning.specs.Events.{Setting, State}
-use Rattle.gb_meaning.specs.Headline.{Stands}
+use Rattle.gb_meaning.specs.Headline.{Registering, Stands}
 use Rattle.gb_meaning.specs.Every.{PlainRun}
-use Rattle.gb_meaning.specs.Sessions.{Session, IsEdited, SessionsHold, AllHold, HeadlineOfSessions, begins, remembered_after, still_remembered}
+use Rattle.gb_meaning.specs.Sessions.{Session, IsEdited, SessionsHold, AllHold, HeadlineOfSessions, begins, remembered_after, setting_at, still_remembered}
 use Rattle.gb_meaning.proofs.Common.{none_some}
 use Rattle.gb_meaning.proofs.Lemmas.Files.{tied_same, T_of, of_T}
 use Rattle.gb_meaning.proofs.Lemmas.Plain.{headline}
@@ -73,21 +73,28 @@ module _ (setting : Setting) where
   plain_end old (next ∷ states) [] (answer ∷ others) end stands run = absurd run
   plain_end old (next ∷ states) (event ∷ rest) [] end stands run = absurd run
 
-  all_hold : (left : Contents) (sessions : List Session) → SessionsHold setting left sessions → (remembered : Memory) → Stands setting left remembered → AllHold setting remembered sessions
-  all_hold left [] hold remembered stands = tt
-  all_hold left (session ∷ rest) hold remembered stands =
+module _ (setting : Setting) (registers : ℕ → Registering) (may_leave : ℕ → Tearing) where
+  abbrev at : ℕ → Setting
+  at number = setting_at setting registers may_leave number
+
+  all_hold : (number : ℕ) (left : Contents) (sessions : List Session) → SessionsHold setting registers may_leave number left sessions
+      → (remembered : Memory) → Stands setting left remembered → AllHold setting registers may_leave number remembered sessions
+  all_hold number left [] hold remembered stands = tt
+  all_hold number left (session ∷ rest) hold remembered stands =
       let first : State = begins setting session remembered in
-      let found = still_stands left session.start.contents remembered hold.0 stands in
-      let run = headline setting session.start session.end session.events session.answers hold.1 first.remembered found in (
+      let found : Stands (at number) session.start.contents first.remembered = still_stands setting left session.start.contents remembered hold.0 stands in
+      let run = headline (at number) session.start session.end session.events session.answers hold.1 first.remembered found in (
         run.0,
+        run.1,
+        run.2,
         λ apart.
-            let plain = run.1 apart in (
+            let plain = run.3 apart in (
               plain.0,
               plain.1,
-              all_hold session.end.contents rest hold.2 (remembered_after first.remembered run.0)
-                  (plain_end first run.0 session.events session.answers session.end found plain.0),
+              all_hold (suc number) session.end.contents rest hold.2 (remembered_after first.remembered run.0)
+                  (plain_end (at number) first run.0 session.events session.answers session.end found plain.0),
             ),
       )
 
-pub sessions : (setting : Setting) → HeadlineOfSessions setting
-sessions setting left all hold remembered stands = all_hold setting left all hold remembered stands
+pub sessions : (setting : Setting) (registers : ℕ → Registering) (may_leave : ℕ → Tearing) → HeadlineOfSessions setting registers may_leave
+sessions setting registers may_leave left all hold remembered stands = all_hold setting registers may_leave 0 left all hold remembered stands

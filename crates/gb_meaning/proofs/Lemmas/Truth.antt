@@ -26,7 +26,7 @@ abbrev pub AllMade : Kinds → Memory → Type 0
 AllMade kinds memory = AllByRecursion (λ (entry : Path × Entry). IsMade kinds entry.1) memory
 
 -- what is recalled is made
-recalled_made : (kinds : Kinds) (memory : Memory) (path : Path) (entry : Entry) → AllMade kinds memory → recalled memory path ≡ Some entry → IsMade kinds entry
+pub recalled_made : (kinds : Kinds) (memory : Memory) (path : Path) (entry : Entry) → AllMade kinds memory → recalled memory path ≡ Some entry → IsMade kinds entry
 recalled_made kinds [] path entry all e = none_some e
 recalled_made kinds (m ∷ memory) path entry all found =
     elim (eq_by_cmp byte_order path m.0) as (λ b. cond b (Some m.1) (recalled memory path) ≡ Some entry → IsMade kinds entry) [

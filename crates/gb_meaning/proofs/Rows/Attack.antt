@@ -1,5 +1,5 @@
 -- What the definitions refuse of losses, of folders that do not tell, and of failed tasks.
-use Rattle.std.specs.Prelude.{bytes_eq, ℕ, zero, suc, ◌≡◌, Bool, true, false, List, [], ◌∷◌, ◌++◌, codes, refl, Some, None, Result, Ok, Err, Contains, take, ◌⊎◌, cond}
+use Rattle.std.specs.Prelude.{bytes_eq, ℕ, zero, suc, ◌≡◌, Bool, true, false, List, [], ◌∷◌, ◌++◌, codes, refl, Some, None, Result, Ok, Err, Contains, take, ◌⊎◌, cond, length, not}
 use Rattle.std.proofs.Common.{inl, inr, ap, sym, arith, subst, lit≤, ◌∙◌}
 use Rattle.gb_report.specs.declared.fault.Fault.TheVariants as faults
 use Rattle.gb_report.specs.declared.report.Outcome.{Outcome}
@@ -9,8 +9,9 @@ use Rattle.gb_meaning.specs.declared.events.Answer.TheVariants as answers
 use Rattle.gb_folder.specs.Files.{is_empty, Bytes, Contents, Tearing, Files}
 use Rattle.gb_action.specs.declared.reply.Written.{Written}
 use Rattle.gb_report.specs.declared.report.Heard.{Heard}
+use Rattle.gb_report.specs.declared.report.Report.{Report}
 use Rattle.gb_report.specs.declared.report.Heard.TheVariants as heard
-use Rattle.gb_meaning.specs.Headline.{HaveHeard, is_of_device, TearsAreSeen}
+use Rattle.gb_meaning.specs.Headline.{Ear, HaveHeard, counted, is_of_device, TearsAreSeen}
 use Rattle.gb_plan.specs.declared.task.TaskDeclaration.{TaskDeclaration as Task}
 use Rattle.gb_action.specs.declared.output.Form.TheVariants.{Dir as DirForm}
 use Rattle.gb_plan.specs.Task.{Text}
@@ -32,7 +33,7 @@ use Rattle.gb_tree.specs.declared.property.Naming.TheVariants.{Relative}
 use Rattle.gb_meaning.proofs.Standing.{standing}
 use Rattle.std.specs.Result.{result_unwrap_or}
 use Rattle.gb_meaning.specs.Edits.{LossStep}
-use Rattle.std.specs.List.{list_any}
+use Rattle.std.specs.List.{count_by, items_where_true, list_any}
 use Rattle.gb_meaning.proofs.RowKinds.{row_kinds}
 use Rattle.gb_plan.proofs.Tests.{not_true, not_false}
 use Rattle.gb_meaning.proofs.Common.{none_some, some_same}
@@ -166,12 +167,41 @@ fronts_are_seen path old (Some text) left is of_tool torn = by_count torn.1 (tor
 abbrev is_silent : List Heard → Bool
 is_silent hears = is_empty hears
 
-pub second_is_told : ¬ HaveHeard (record { tasks = told gen outcomes.Executed [] ∷ []; dry_run = false; listener_refused = true })
-    (([], 0) ∷ ([], 0) ∷ []) ((heard.Start (codes ":gen") ∷ [], 1) ∷ ([], 0) ∷ [])
-second_is_told have = elim have.each.1.0 [
-  | inl all ↦ not_true (sym (ap is_silent all))
-  | inr some ↦ elim some.0 [ inl risen ↦ omega arith | inr last ↦ omega arith ]
-]
+abbrev executed : Report
+executed = record { tasks = told gen outcomes.Executed [] ∷ []; dry_run = false; listener_refused = true }
+
+abbrev one_task : List Heard
+one_task = heard.Start (codes ":gen") ∷ heard.End (codes ":gen") outcomes.Executed ∷ []
+
+both_kept : (kept : List Bool) → length kept ≡ 2 → 0 ≡ counted 0 (count_by not kept) → items_where_true kept one_task ≡ one_task
+both_kept (true ∷ true ∷ []) long none = refl
+both_kept (true ∷ false ∷ []) long none = absurd (omega (arith, none))
+both_kept (false ∷ true ∷ []) long none = absurd (omega (arith, none))
+both_kept (false ∷ false ∷ []) long none = absurd (omega (arith, none))
+both_kept [] long none = absurd (omega (arith, long))
+both_kept (a ∷ []) long none = absurd (omega (arith, long))
+both_kept (a ∷ b ∷ c ∷ more) long none = absurd (omega (arith, long))
+
+pub second_is_told : ¬ HaveHeard executed (([], 0) ∷ ([], 0) ∷ []) ((heard.Start (codes ":gen") ∷ [], 1) ∷ ([], 0) ∷ [])
+second_is_told have =
+    let some = have.each.1.0 in
+    not_false (ap (λ (ear : Ear). is_empty ear.0) some.2 ∙ ap (λ (hears : List Heard). is_empty hears) (both_kept some.0 some.1 (ap (λ (ear : Ear). ear.1) some.2)))
+
+-- ---- Who refused one call was told the others
+
+one_kept : (kept : List Bool) → length kept ≡ 2 → 1 ≡ counted 0 (count_by not kept) → is_empty (items_where_true kept one_task) ≡ false
+one_kept (true ∷ true ∷ []) long one = absurd (omega (arith, one))
+one_kept (true ∷ false ∷ []) long one = refl
+one_kept (false ∷ true ∷ []) long one = refl
+one_kept (false ∷ false ∷ []) long one = absurd (omega (arith, one))
+one_kept [] long one = absurd (omega (arith, long))
+one_kept (a ∷ []) long one = absurd (omega (arith, long))
+one_kept (a ∷ b ∷ c ∷ more) long one = absurd (omega (arith, long))
+
+pub one_refusal_frees_no_other : ¬ HaveHeard executed (([], 0) ∷ []) (([], 1) ∷ [])
+one_refusal_frees_no_other have =
+    let some = have.each.0 in
+    not_false (ap (λ (ear : Ear). is_empty ear.0) some.2 ∙ one_kept some.0 some.1 (ap (λ (ear : Ear). ear.1) some.2))
 
 -- ---- A right run that the device stopped as it wrote its file: what is torn stands at the place that is told
 
@@ -268,17 +298,17 @@ place_of (faults.Device place) = place
 place_of other = []
 
 not_read : (dry_run : Bool) (place : Bytes) (count : ℕ) → is_read_first (asks_for dry_run).options place ≡ false
-    → ¬ IsNotBuilt (with_device whole) (state_of sources) (asks_for dry_run) (faults.Device place) count
+    → ¬ IsNotBuilt (with_device whole).registers (shown_in (state_of sources)) (asks_for dry_run) (faults.Device place) count
 not_read dry_run place count is_not (inl scripts) = not_true (ap device_in scripts)
 not_read dry_run place count is_not (inr (inl refused)) = not_false (ap is_err refused.1)
 not_read dry_run place count is_not (inr (inr (inl memory))) = not_false (ap is_of_device memory)
 not_read dry_run place count is_not (inr (inr (inr device))) =
     not_true (sym is_not ∙ subst (λ (p : Bytes). is_read_first (asks_for dry_run).options p ≡ true) (sym (ap place_of device.2.1)) device.1)
 
-pub no_source_is_read_first : (count : ℕ) → ¬ IsNotBuilt (with_device whole) (state_of sources) (asks_for false) (faults.Device (codes "src/a")) count
+pub no_source_is_read_first : (count : ℕ) → ¬ IsNotBuilt (with_device whole).registers (shown_in (state_of sources)) (asks_for false) (faults.Device (codes "src/a")) count
 no_source_is_read_first count = not_read false (codes "src/a") count refl
 
-pub dry_run_reads_no_record : (count : ℕ) → ¬ IsNotBuilt (with_device whole) (state_of sources) (asks_for true) (faults.Device (codes ".gb/x")) count
+pub dry_run_reads_no_record : (count : ℕ) → ¬ IsNotBuilt (with_device whole).registers (shown_in (state_of sources)) (asks_for true) (faults.Device (codes ".gb/x")) count
 dry_run_reads_no_record count = not_read true (codes ".gb/x") count refl
 
 -- ---- A record of which the place is none cannot be written

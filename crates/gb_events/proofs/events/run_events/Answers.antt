@@ -1,18 +1,21 @@
 use Rattle.std.proofs.Common.{arith, ◌≡◌, List, [], ◌∷◌, ◌++◌, ◌+◌, map, take, sym, ap, subst, ◌∙◌}
 use Rattle.std.proofs.lemmas.List.{take_more}
+use Rattle.std.specs.List.{AllZip}
 use Rattle.gb_folder.proofs.Changes.{SameTearing-chain}
 use Rattle.gb_invocation.specs.Scripts.{registers_in}
 use Rattle.gb_invoke.proofs.Planning.{tears_alike}
+use Rattle.gb_meaning.proofs.Lemmas.Plain.{headline}
 use Rattle.gb_meaning.specs.declared.events.Answer.{Answer}
 use Rattle.gb_meaning.specs.declared.events.Event.{Event}
 use Rattle.gb_meaning.specs.Edits.{Shown}
 use Rattle.gb_meaning.specs.Headline.{AllKeepElsewhere, HasFailed, HaveHeardAll, times_blamed_in_all}
 use Rattle.gb_registry.specs.Tables.{tables_of}
+use Rattle.gb_events.specs.Answers.{AnswerIsOutlined}
 use Rattle.gb_events.proofs.Alike.{leads_alike}
 use Rattle.gb_events.proofs.Blaming.{blamed_more}
 use Rattle.gb_events.proofs.Editing.{shows}
 use Rattle.gb_invocation.proofs.Passing.{setting_by}
-use Rattle.gb_events.proofs.Running.{RunsFrom, heard_more, keeps_more, more_ahead, runs_hold, runs_nowhere, runs_on, taken_all, to_the_end}
+use Rattle.gb_events.proofs.Running.{RunsFrom, heard_more, keeps_more, more_ahead, outlined_more, runs_hold, runs_nowhere, runs_on, take_all, taken_all, to_the_end}
 use Rattle.gb_events.proofs.events.run_events.Goals as goal
 
 pub loop-event-preserved : goal.loop-event-preserved
@@ -39,6 +42,9 @@ loop-event-preserved g c =
           (blamed_more c.loop-event.answers.items c.take.result start.failures here.failures next.failures so_far.device c.take.ensures.device c.take.ensures.count);
       heard = subst (λ (told : List Answer). HaveHeardAll told (map ear c.args.listeners.now.items) (map ear c.take.new.listeners.items)) (sym items)
           (heard_more c.loop-event.answers.items c.take.result _ _ _ so_far.heard c.take.ensures.heard);
+      outlined = subst (λ (told : List Answer). AllZip AnswerIsOutlined (take (index + 1) c.args.events.now) told) (sym items)
+          (subst (λ (events : List Event). AllZip AnswerIsOutlined events (c.loop-event.answers.items ++ c.take.result ∷ [])) taken_here
+          (outlined_more (take index c.args.events.now) c.loop-event.answers.items c.event-item.result c.take.result so_far.outlined c.take.ensures.outlined));
       elsewhere = λ tells.
           subst (λ (told : List Answer). AllKeepElsewhere registers (take (index + 1) c.args.events.now) told start.contents next.contents) (sym items)
           (subst (λ (events : List Event). AllKeepElsewhere registers events (c.loop-event.answers.items ++ c.take.result ∷ []) start.contents next.contents) taken_here
@@ -66,3 +72,16 @@ returns-clause-holds g c = λ tells kinds agrees tears.
     runs_hold setting start end c.args.events.now c.loop-event.answers.items
     (to_the_end setting start end c.loop-event.event-index c.args.events.now c.loop-event.answers.items c.loop-event-test.false
     (so_far.holds tells kinds agrees tears [] [] end (runs_nowhere setting end)))
+
+pub returns-clause-outlined : goal.returns-clause-outlined
+returns-clause-outlined g c =
+    subst (λ (events : List Event). AllZip AnswerIsOutlined events c.loop-event.answers.items) (take_all c.loop-event.event-index c.args.events.now c.loop-event-test.false)
+    c.loop-event.invariant.outlined
+
+pub returns-clause-promise : goal.returns-clause-promise
+returns-clause-promise g c = λ tells kinds agrees tears.
+    let F = g.F.Folder in
+    let registers = registers_in (tables_of g.T.Transforms.meanings g.A.Actions.meanings c.args.tables.now) in
+    headline (setting_by kinds registers (F.may_leave c.args.folder.now)) (shows (F.contents c.args.folder.now) (F.failures c.args.folder.now))
+    (shows (F.contents c.loop-event.folder) (F.failures c.loop-event.folder)) c.args.events.now c.loop-event.answers.items
+    (returns-clause-holds g c tells kinds agrees tears)

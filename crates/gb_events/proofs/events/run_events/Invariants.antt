@@ -1,4 +1,5 @@
 use Rattle.std.proofs.Common.{◌≡◌, ◌≤◌, ◌++◌, List, IsTrue, length, map, take, vec_len}
+use Rattle.std.specs.List.{AllZip}
 use Rattle.std.specs.Vec.{vec_capacity}
 use Rattle.gb_folder.specs.Files.{SameTearing}
 use Rattle.gb_history.specs.Places.{record_place}
@@ -10,6 +11,7 @@ use Rattle.gb_meaning.specs.Headline.{Agrees, AllKeepElsewhere, HasFailed, HaveH
 use Rattle.gb_meaning.specs.Kinds.{Kinds}
 use Rattle.gb_records.specs.Said.{IsText}
 use Rattle.gb_registry.specs.Tables.{tables_of}
+use Rattle.gb_events.specs.Answers.{AnswerIsOutlined}
 use Rattle.gb_events.proofs.Editing.{shows}
 use Rattle.gb_invocation.proofs.Passing.{setting_by}
 use Rattle.gb_events.proofs.Running.{RunsFrom}
@@ -27,6 +29,7 @@ invariant-loop-event g l =
       tearing : SameTearing (F.may_leave l.fn.folder) (F.may_leave l.folder);
       device : HasFailed (times_blamed_in_all l.answers.items) (F.failures l.fn.folder) (F.failures l.folder);
       heard : HaveHeardAll l.answers.items (map g.L.TaskListener.ear l.fn.listeners.items) (map g.L.TaskListener.ear l.listeners.items);
+      outlined : AllZip AnswerIsOutlined (take l.event-index l.events) l.answers.items;
       elsewhere : IsTrue F.tells → AllKeepElsewhere (registers_in tables) (take l.event-index l.events) l.answers.items (F.contents l.fn.folder) (F.contents l.folder);
       -- whatever run goes on from here, these events and it are one run
       holds : IsTrue F.tells → (kinds : Kinds) → Agrees g.A.Actions.meanings l.tables.actions kinds → TearsAreSeen IsText record_place (F.may_leave l.fn.folder)

@@ -7,13 +7,14 @@ use Rattle.gb_meaning.specs.declared.events.Event.TheVariants as events
 use Rattle.gb_meaning.specs.Edits.{Shown}
 use Rattle.gb_meaning.specs.Headline.{EventKeeps, HasFailed, times_blamed}
 use Rattle.gb_registry.specs.Tables.{tables_of}
-use Rattle.gb_events.specs.Answers.{edit_answer}
+use Rattle.gb_events.specs.Answers.{AnswerIsOutlined, edit_answer}
 use Rattle.gb_events.proofs.Blaming.{edit_blames}
 use Rattle.gb_events.proofs.Editing.{shows}
 use Rattle.gb_events.proofs.Kept.{put_keeps, remove_keeps}
 use Rattle.gb_events.proofs.Losing.{loss_leads}
 use Rattle.gb_events.proofs.Outside.{put_leads, remove_leads}
 use Rattle.gb_invocation.proofs.Passing.{setting_by}
+use Rattle.gb_events.proofs.Running.{edit_outlined, report_outlined}
 use Rattle.gb_events.proofs.events.take.Goals as goal
 
 pub returns-in-Put-clause-keeps : goal.returns-in-Put-clause-keeps
@@ -86,3 +87,21 @@ returns-in-Lost-clause-device g c =
     let F = g.F.Folder in
     subst (λ (answer : Answer). HasFailed (times_blamed answer) (F.failures c.args.folder.now) (F.failures c.lose.new.folder)) (sym c.edited-in-Lost.ensures)
     (edit_blames c.lose.result (F.failures c.args.folder.now) (F.failures c.lose.new.folder) c.lose.ensures.count c.lose.ensures.blame)
+
+pub returns-in-Put-clause-outlined : goal.returns-in-Put-clause-outlined
+returns-in-Put-clause-outlined g c =
+    subst (λ (answer : Answer). AnswerIsOutlined c.args.event.now answer) (sym c.edited.ensures) (edit_outlined c.args.event.now c.put.result)
+
+pub returns-in-Remove-clause-outlined : goal.returns-in-Remove-clause-outlined
+returns-in-Remove-clause-outlined g c =
+    subst (λ (answer : Answer). AnswerIsOutlined c.args.event.now answer) (sym c.edited-in-Remove.ensures) (edit_outlined c.args.event.now c.remove.result)
+
+pub returns-in-Lost-clause-outlined : goal.returns-in-Lost-clause-outlined
+returns-in-Lost-clause-outlined g c =
+    subst (λ (answer : Answer). AnswerIsOutlined c.args.event.now answer) (sym c.edited-in-Lost.ensures) (edit_outlined c.args.event.now c.lose.result)
+
+pub returns-in-Invoke-clause-outlined : goal.returns-in-Invoke-clause-outlined
+returns-in-Invoke-clause-outlined g c =
+    subst (λ (event : Event). AnswerIsOutlined event c.built.result) (sym c.in-Invoke.is)
+    (subst (λ (answer : Answer). AnswerIsOutlined (events.Invoke c.in-Invoke.invocation) answer) (sym c.built.ensures)
+    (report_outlined c.in-Invoke.invocation c.invoke.result c.invoke.ensures.outlined))

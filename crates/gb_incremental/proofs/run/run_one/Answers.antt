@@ -1,4 +1,4 @@
-use Rattle.std.proofs.Common.{[], ◌≡◌, Bool, true≢false, sym, ◌∙◌}
+use Rattle.std.proofs.Common.{[], ◌≡◌, Bool, true≢false, refl, sym, ◌∙◌}
 use Rattle.std.proofs.lemmas.Result.{IfErr-weaker, on_ok_weaker}
 use Rattle.gb_action.specs.Meanings.{Meanings}
 use Rattle.gb_plan.specs.Ready.{IsReadyAction, Rows}
@@ -43,3 +43,20 @@ returns-else-is_writer-clause-unwritten g c = λ tells.
     IfErr-weaker c.run_reader.result _ _ (λ fault _. λ kinds agrees turn.
     absurd (true≢false (sym (fits_writer kinds task task.actions c.args.action.now [] turn.fitting turn.writes).0
     ∙ found_writes g.A.Actions.meanings kinds c.args.table.now task c.args.action.now ready c.is_writer.result agrees (c.is_writer.ensures ready.stored ready.found) ∙ c.if-is_writer.false))) c.run_reader.ensures.err
+
+pub returns-then-is_writer-clause-kept : goal.returns-then-is_writer-clause-kept
+returns-then-is_writer-clause-kept g c =
+    let ready = c.requires.ready in
+    on_ok_weaker c.run_writer.result (λ _. λ kinds agrees fits quiet.
+    absurd (true≢false (sym (found_writes g.A.Actions.meanings kinds c.args.table.now c.args.task.now c.args.action.now ready c.is_writer.result agrees (c.is_writer.ensures ready.stored ready.found) ∙ c.if-is_writer.true) ∙ quiet))) c.run_writer.ensures.full
+
+pub returns-else-is_writer-clause-kept : goal.returns-else-is_writer-clause-kept
+returns-else-is_writer-clause-kept g c = on_ok_weaker c.run_reader.result (λ made. λ kinds agrees fits quiet. (made kinds agrees fits quiet, refl)) c.run_reader.ensures.made
+
+pub returns-else-is_writer-clause-makes : goal.returns-else-is_writer-clause-makes
+returns-else-is_writer-clause-makes g c =
+    let ready = c.requires.ready in
+    let task = c.args.task.now in
+    on_ok_weaker c.run_reader.result (λ _. λ kinds agrees standing sorted good turn is.
+    absurd (true≢false (sym (fits_writer kinds task task.actions c.args.action.now [] turn.fitting turn.writes).0
+    ∙ found_writes g.A.Actions.meanings kinds c.args.table.now task c.args.action.now ready c.is_writer.result agrees (c.is_writer.ensures ready.stored ready.found) ∙ c.if-is_writer.false))) c.run_reader.ensures.full

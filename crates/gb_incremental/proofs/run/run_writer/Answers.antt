@@ -6,10 +6,12 @@ use Rattle.gb_report.specs.declared.fault.Fault.{Fault}
 use Rattle.gb_report.specs.declared.fault.Fault.TheVariants as faults
 use Rattle.gb_action.specs.declared.request.Request.{Request}
 use Rattle.gb_plan.specs.Task.{is_output_of}
+use Rattle.gb_tree.specs.Prints.{digests_of}
 use Rattle.gb_store.specs.Changes.{ChangesOnly}
 use Rattle.gb_store.proofs.Machine.{among_passes, at_err, handed_on}
 use Rattle.gb_meaning.specs.Headline.{Agrees}
 use Rattle.gb_meaning.specs.Kinds.{Kinds}
+use Rattle.gb_meaning.specs.Memory.{output_files}
 use Rattle.gb_run.proofs.AtOutputs.{placing_blames_none}
 use Rattle.gb_incremental.specs.Named.{held_after}
 use Rattle.gb_incremental.specs.Stepping.{HasRoom, IsCutShort}
@@ -18,6 +20,7 @@ use Rattle.gb_incremental.specs.Texts.{shown_steps}
 use Rattle.gb_incremental.specs.Turn.{IsItsTurn, Stops}
 use Rattle.gb_incremental.proofs.Same.{all_shown, same_held, same_steps, steps_at}
 use Rattle.gb_incremental.proofs.Stepped.{changes_after, changes_cut}
+use Rattle.gb_incremental.proofs.Telling.{makes_so}
 use Rattle.gb_incremental.proofs.Turning.{ends, stops_asked, stops_for_memory, stops_placing, stops_printing, stops_taking}
 use Rattle.gb_incremental.proofs.run.run_writer.Goals as goal
 
@@ -83,20 +86,35 @@ returns-in_err-steps-clause-err g c = λ tells.
           (c.in_ok-reply.ensures.answered kinds agrees) _ _ _ _ (ap first_of (sym held) ∙ first)
     ])
 
+pub returns-in_err-follow_steps-clause-err : goal.returns-in_err-follow_steps-clause-err
+returns-in_err-follow_steps-clause-err g c = λ tells.
+    let F = g.F.Folder in
+    let request = c.args.running.now.request in
+    let seen = c.args.running.now.seen in
+    let task = c.args.task.now in
+    let action = c.args.action.now in
+    let folder = c.args.folder.now in
+    let p = err_from_is_err_and c.from_residual-in_err-follow_steps.result c.from_residual-in_err-follow_steps.ensures.1 in
+    let IsFault : Fault → Type 0 = λ fault. (kinds : Kinds) → Agrees g.A.Actions.meanings c.args.table.now kinds
+    → IsItsTurn kinds task action request.files request.changes.lists seen (F.contents folder).files
+    → Stops kinds task action request.files (F.contents folder).files (F.may_leave folder) (F.failures folder) fault (F.failures folder) (F.contents folder).files in
+    at_err (λ r. IfErr r IsFault) c.from_residual-in_err-follow_steps.result p.0 faults.OutOfMemory p.1 p.2
+    (λ kinds agrees turn. stops_for_memory kinds task action request.files (F.contents folder).files _ _ _ _ refl)
+
 pub returns-in_err-take_steps-clause-blamed : goal.returns-in_err-take_steps-clause-blamed
 returns-in_err-take_steps-clause-blamed g c = λ place is.
     let task = c.args.task.now in
     let p = err_from_is_err_and c.from_residual-in_err-take_steps.result c.from_residual-in_err-take_steps.ensures.1 in
-    let row = c.as_slice-5.result.now in
-    let at = steps_at c.as_slice.result.now task.outputs c.as_slice-3.result.now c.as_slice-4.result.now (shown_steps row) c.as_slice.ensures (ap shown_steps c.as_slice-5.ensures.value ∙ c.in_ok-steps.ensures.steps) in
+    let row = c.as_slice-6.result.now in
+    let at = steps_at c.as_slice.result.now task.outputs c.as_slice-3.result.now c.as_slice-4.result.now (shown_steps row) c.as_slice.ensures (ap shown_steps c.as_slice-6.ensures.value ∙ c.in_ok-steps.ensures.steps) in
     among_passes (λ step. step.0) (is_output_of task) row place (all_shown (λ q. is_output_of task q ≡ true) row at)
     (c.take_steps.ensures.blamed place (handed_on c.from_residual-in_err-take_steps.result c.take_steps.result p.0 c.in_err-take_steps.field-0.0 place p.1 p.2 c.in_err-take_steps.was is))
 
 pub returns-in_err-take_steps-clause-changes : goal.returns-in_err-take_steps-clause-changes
 returns-in_err-take_steps-clause-changes g c = λ tells.
     let task = c.args.task.now in
-    let row = c.as_slice-5.result.now in
-    let at = steps_at c.as_slice.result.now task.outputs c.as_slice-3.result.now c.as_slice-4.result.now (shown_steps row) c.as_slice.ensures (ap shown_steps c.as_slice-5.ensures.value ∙ c.in_ok-steps.ensures.steps) in
+    let row = c.as_slice-6.result.now in
+    let at = steps_at c.as_slice.result.now task.outputs c.as_slice-3.result.now c.as_slice-4.result.now (shown_steps row) c.as_slice.ensures (ap shown_steps c.as_slice-6.ensures.value ∙ c.in_ok-steps.ensures.steps) in
     changes_cut (is_output_of task) _ (shown_steps row) _ _ _ at (c.in_err-take_steps.ensures.cut tells)
 
 pub returns-in_err-take_steps-clause-err : goal.returns-in_err-take_steps-clause-err
@@ -116,7 +134,7 @@ returns-in_err-take_steps-clause-err g c = λ tells.
     at_err (λ r. IfErr r IsFault) c.from_residual-in_err-take_steps.result p.0 c.in_err-take_steps.field-0.0 p.1 p.2 (λ kinds agrees turn.
     let held = same_held c.as_slice.result.now task.outputs c.as_slice-2.result.now seen c.as_slice-3.result.now reply.removes c.as_slice-4.result.now reply.writes
     c.as_slice.ensures (c.as_slice-2.ensures ∙ ap (λ (r : Request). r.outputs) c.in_ok-reply.ensures.request) c.as_slice-3.ensures c.as_slice-4.ensures in
-    let steps = ap shown_steps c.as_slice-5.ensures.value ∙ c.in_ok-steps.ensures.steps
+    let steps = ap shown_steps c.as_slice-6.ensures.value ∙ c.in_ok-steps.ensures.steps
     ∙ same_steps c.as_slice.result.now task.outputs c.as_slice-3.result.now reply.removes c.as_slice-4.result.now reply.writes c.as_slice.ensures c.as_slice-3.ensures c.as_slice-4.ensures in
     stops_taking kinds task action request.files request.changes.lists seen (F.contents folder).files (g.met.F.Folder.sound folder) (g.met.F.Folder.placed folder) turn reply
     (c.in_ok-reply.ensures.answered kinds agrees) (sym held ∙ c.in_ok-steps.ensures.ok) (F.may_leave folder) (F.failures folder) c.in_err-take_steps.field-0.0 (F.failures new) (F.contents folder) (F.contents new) refl
@@ -127,8 +145,8 @@ pub returns-in_err-append-clause-changes : goal.returns-in_err-append-clause-cha
 returns-in_err-append-clause-changes g c = λ tells.
     let F = g.F.Folder in
     let task = c.args.task.now in
-    let row = c.as_slice-5.result.now in
-    let at = steps_at c.as_slice.result.now task.outputs c.as_slice-3.result.now c.as_slice-4.result.now (shown_steps row) c.as_slice.ensures (ap shown_steps c.as_slice-5.ensures.value ∙ c.in_ok-steps.ensures.steps) in
+    let row = c.as_slice-6.result.now in
+    let at = steps_at c.as_slice.result.now task.outputs c.as_slice-3.result.now c.as_slice-4.result.now (shown_steps row) c.as_slice.ensures (ap shown_steps c.as_slice-6.ensures.value ∙ c.in_ok-steps.ensures.steps) in
     subst (λ (folder : Contents). ChangesOnly (is_output_of task) (F.contents c.args.folder.now) folder) (sym (c.in_ok-take_steps.ensures.ok tells))
     (changes_after (is_output_of task) (shown_steps row) (F.contents c.args.folder.now) at)
 
@@ -149,7 +167,7 @@ returns-in_err-append-clause-err g c = λ tells.
     at_err (λ r. IfErr r IsFault) c.from_residual-in_err-append.result p.0 faults.OutOfMemory p.1 p.2 (λ kinds agrees turn.
     let held = same_held c.as_slice.result.now task.outputs c.as_slice-2.result.now seen c.as_slice-3.result.now reply.removes c.as_slice-4.result.now reply.writes
     c.as_slice.ensures (c.as_slice-2.ensures ∙ ap (λ (r : Request). r.outputs) c.in_ok-reply.ensures.request) c.as_slice-3.ensures c.as_slice-4.ensures in
-    let steps = ap shown_steps c.as_slice-5.ensures.value ∙ c.in_ok-steps.ensures.steps
+    let steps = ap shown_steps c.as_slice-6.ensures.value ∙ c.in_ok-steps.ensures.steps
     ∙ same_steps c.as_slice.result.now task.outputs c.as_slice-3.result.now reply.removes c.as_slice-4.result.now reply.writes c.as_slice.ensures c.as_slice-3.ensures c.as_slice-4.ensures in
     stops_printing kinds task action request.files request.changes.lists seen (F.contents folder).files (g.met.F.Folder.sound folder) (g.met.F.Folder.placed folder) turn reply
     (c.in_ok-reply.ensures.answered kinds agrees) (sym held ∙ c.in_ok-steps.ensures.ok) (F.may_leave folder) (F.failures folder) faults.OutOfMemory (F.failures new) (F.contents new).files
@@ -159,8 +177,8 @@ pub returns-clause-changes : goal.returns-clause-changes
 returns-clause-changes g c = λ tells.
     let F = g.F.Folder in
     let task = c.args.task.now in
-    let row = c.as_slice-5.result.now in
-    let at = steps_at c.as_slice.result.now task.outputs c.as_slice-3.result.now c.as_slice-4.result.now (shown_steps row) c.as_slice.ensures (ap shown_steps c.as_slice-5.ensures.value ∙ c.in_ok-steps.ensures.steps) in
+    let row = c.as_slice-6.result.now in
+    let at = steps_at c.as_slice.result.now task.outputs c.as_slice-3.result.now c.as_slice-4.result.now (shown_steps row) c.as_slice.ensures (ap shown_steps c.as_slice-6.ensures.value ∙ c.in_ok-steps.ensures.steps) in
     subst (λ (folder : Contents). ChangesOnly (is_output_of task) (F.contents c.args.folder.now) folder) (sym (c.in_ok-take_steps.ensures.ok tells))
     (changes_after (is_output_of task) (shown_steps row) (F.contents c.args.folder.now) at)
 
@@ -176,9 +194,24 @@ returns-clause-ok g c = λ tells kinds agrees turn.
     let reply = c.in_ok-reply.reply in
     let held = same_held c.as_slice.result.now task.outputs c.as_slice-2.result.now seen c.as_slice-3.result.now reply.removes c.as_slice-4.result.now reply.writes
     c.as_slice.ensures (c.as_slice-2.ensures ∙ ap (λ (r : Request). r.outputs) c.in_ok-reply.ensures.request) c.as_slice-3.ensures c.as_slice-4.ensures in
-    let steps = ap shown_steps c.as_slice-5.ensures.value ∙ c.in_ok-steps.ensures.steps
+    let steps = ap shown_steps c.as_slice-6.ensures.value ∙ c.in_ok-steps.ensures.steps
     ∙ same_steps c.as_slice.result.now task.outputs c.as_slice-3.result.now reply.removes c.as_slice-4.result.now reply.writes c.as_slice.ensures c.as_slice-3.ensures c.as_slice-4.ensures in
     ends kinds task action request.files request.changes.lists seen (F.contents folder).files (g.met.F.Folder.sound folder) (g.met.F.Folder.placed folder) turn reply
     (c.in_ok-reply.ensures.answered kinds agrees) (sym held ∙ c.in_ok-steps.ensures.ok) (F.contents new).files
     (subst (λ (ss : List Step). HasRoom (F.contents folder).files ss) steps (c.in_ok-take_steps.ensures.room tells))
     (ap (λ (f : Contents). f.files) (c.in_ok-take_steps.ensures.ok tells) ∙ ap (after_steps (F.contents folder).files) steps)
+
+pub returns-clause-makes : goal.returns-clause-makes
+returns-clause-makes g c = λ kinds agrees standing sorted good turn is.
+    let request = c.args.running.now.request in
+    let seen = c.args.running.now.seen in
+    let task = c.args.task.now in
+    let action = c.args.action.now in
+    let reply = c.in_ok-reply.reply in
+    let held = same_held c.as_slice.result.now task.outputs c.as_slice-2.result.now seen c.as_slice-3.result.now reply.removes c.as_slice-4.result.now reply.writes
+    c.as_slice.ensures (c.as_slice-2.ensures ∙ ap (λ (r : Request). r.outputs) c.in_ok-reply.ensures.request) c.as_slice-3.ensures c.as_slice-4.ensures in
+    let steps = ap shown_steps c.as_slice-5.ensures.value ∙ c.in_ok-steps.ensures.steps
+    ∙ same_steps c.as_slice.result.now task.outputs c.as_slice-3.result.now reply.removes c.as_slice-4.result.now reply.writes c.as_slice.ensures c.as_slice-3.ensures c.as_slice-4.ensures in
+    makes_so kinds task action request.files request.changes.lists seen standing sorted good turn reply (c.in_ok-reply.ensures.answered kinds agrees) _ (sym held ∙ c.in_ok-steps.ensures.ok)
+    (c.go_back.ensures.digests ∙ c.in_ok-follow_steps.ensures (output_files task standing) (c.in_ok-reply.ensures.digests ∙ is)
+    ∙ ap (λ (ss : List Step). digests_of (after_steps (output_files task standing) ss)) steps)

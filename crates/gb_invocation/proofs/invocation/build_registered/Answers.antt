@@ -1,8 +1,15 @@
-use Rattle.std.proofs.Common.{◌≡◌, Ok, arith, refl, subst, sym}
+use Rattle.std.proofs.Common.{◌≡◌, ◌&&◌, ◌∙◌, ℕ, List, Ok, IsTrue, IfErr, arith, inl, not, refl, subst, sym}
+use Rattle.gb_folder.specs.Files.{is_own}
 use Rattle.std.proofs.lemmas.Result.{err_from_is_err_and}
 use Rattle.gb_invoke.specs.Asking.{AreBuildable, NoneBlameDevice}
 use Rattle.gb_meaning.specs.Edits.{Shown}
 use Rattle.gb_invoke.specs.Leading.{Leads}
+use Rattle.gb_invoke.specs.Refusing.{IsNotBegun}
+use Rattle.gb_invoke.proofs.Refusing.{refused_at}
+use Rattle.gb_meaning.specs.Outline.{IsOutlined, IsOutlinedBy}
+use Rattle.gb_report.specs.declared.fault.Fault.{Fault}
+use Rattle.gb_report.specs.declared.fault.Fault.TheVariants as faults
+use Rattle.gb_invocation.proofs.Keeping.{each_fault, each_report, of_fault}
 use Rattle.gb_meaning.specs.declared.events.Event.TheVariants as events
 use Rattle.gb_meaning.specs.Headline.{KeepsElsewhere, answer_of}
 use Rattle.gb_plan.specs.Graph.{IsRegistry, Registry}
@@ -66,3 +73,46 @@ returns-clause-device g c =
     let tables = tables_of g.T.Transforms.meanings g.A.Actions.meanings c.args.tables.now in
     let same : registry_in g.T.Transforms.meanings g.A.Actions.meanings c.in_ok-tasks.tasks.workspace ≡ registry_said tables c.args.registry.now = c.in_ok-tasks.ensures.registry in
     c.build_requested.ensures.device (subst NoneBlameDevice (sym same) (declared_blame_none tables c.args.registry.now))
+
+pub returns-in_err-tasks-clause-places : goal.returns-in_err-tasks-clause-places
+returns-in_err-tasks-clause-places g c =
+    let p = err_from_is_err_and c.from_residual.result c.from_residual.ensures.1 in
+    of_fault (λ (fault : Fault). (place : List ℕ) → fault ≡ faults.Device place → IsTrue (is_own place && not c.args.invocation.now.options.dry_run)) c.from_residual.result p.0 p.1
+    (λ place is. absurd (no_device place (sym p.2 ∙ is)))
+  where
+    no_device : (place : List ℕ) → faults.OutOfMemory ≡ faults.Device place → ⊥
+    no_device place e = cc
+
+pub returns-in_err-tasks-clause-not_begun : goal.returns-in_err-tasks-clause-not_begun
+returns-in_err-tasks-clause-not_begun g c =
+    let F = g.F.Folder in
+    let tables = tables_of g.T.Transforms.meanings g.A.Actions.meanings c.args.tables.now in
+    let p = err_from_is_err_and c.from_residual.result c.from_residual.ensures.1 in
+    of_fault (IsNotBegun (registry_said tables c.args.registry.now) c.args.invocation.now (F.failures c.args.folder.now) (F.failures c.args.folder.now)) c.from_residual.result p.0 p.1
+    (inl (inl p.2))
+
+pub returns-clause-outlined : goal.returns-clause-outlined
+returns-clause-outlined g c =
+    let declared = registry_in g.T.Transforms.meanings g.A.Actions.meanings c.in_ok-tasks.tasks.workspace in
+    each_report (IsOutlinedBy declared c.args.invocation.now) (IsOutlined c.args.invocation.now)
+    (λ report is. record { registry = declared; is_registry = c.in_ok-tasks.tasks.ordered; outlined = is })
+    c.build_requested.result c.build_requested.ensures.outlined
+
+pub returns-clause-not_begun : goal.returns-clause-not_begun
+returns-clause-not_begun g c =
+    let F = g.F.Folder in
+    let tables = tables_of g.T.Transforms.meanings g.A.Actions.meanings c.args.tables.now in
+    let same : registry_in g.T.Transforms.meanings g.A.Actions.meanings c.in_ok-tasks.tasks.workspace ≡ registry_said tables c.args.registry.now = c.in_ok-tasks.ensures.registry in
+    subst (λ (registry : Registry). IfErr c.build_requested.result
+    (IsNotBegun registry c.args.invocation.now (F.failures c.args.folder.now) (F.failures c.build_requested.new.folder))) same c.build_requested.ensures.not_begun
+
+pub returns-clause-places : goal.returns-clause-places
+returns-clause-places g c =
+    let F = g.F.Folder in
+    let tables = tables_of g.T.Transforms.meanings g.A.Actions.meanings c.args.tables.now in
+    let before = F.failures c.args.folder.now in
+    let after = F.failures c.build_requested.new.folder in
+    let registry = registry_said tables c.args.registry.now in
+    each_fault (IsNotBegun registry c.args.invocation.now before after) (λ (fault : Fault). (place : List ℕ) → fault ≡ faults.Device place → IsTrue (is_own place && not c.args.invocation.now.options.dry_run))
+    (λ fault why. refused_at registry c.args.invocation.now fault before after (declared_blame_none tables c.args.registry.now) why)
+    c.build_requested.result (returns-clause-not_begun g c)

@@ -1,19 +1,25 @@
-use Rattle.std.proofs.Common.{◌≡◌, OnErr, arith, refl, subst}
+use Rattle.std.proofs.Common.{◌≡◌, ◌&&◌, ◌∷◌, ◌∙◌, [], ℕ, List, IsTrue, OnErr, ap, arith, inl, inr, not, refl, subst, sym}
 use Rattle.std.proofs.lemmas.Result.{err_from_is_err_and}
-use Rattle.gb_folder.specs.Files.{Contents}
+use Rattle.gb_folder.specs.Files.{Contents, is_own}
 use Rattle.gb_invoke.specs.Leading.{Leads}
+use Rattle.gb_invoke.specs.Refusing.{IsNotBegun}
 use Rattle.gb_invoke.proofs.Leading.{led_holds}
 use Rattle.gb_invoke.proofs.Planning.{tears_alike}
+use Rattle.gb_invoke.proofs.Refusing.{not_built}
+use Rattle.gb_meaning.proofs.Lemmas.Plain.{headline}
 use Rattle.gb_meaning.specs.Edits.{Shown}
+use Rattle.gb_meaning.specs.Events.{IsNotBuilt, is_read_first}
 use Rattle.gb_meaning.specs.declared.events.Event.TheVariants as events
-use Rattle.gb_meaning.specs.Headline.{KeepsElsewhere, answer_of, state_of, times_blamed}
+use Rattle.gb_meaning.specs.Headline.{KeepsElsewhere, answer_of, times_blamed}
 use Rattle.gb_registry.specs.Tables.{tables_of}
+use Rattle.gb_report.specs.declared.fault.Fault.{Fault}
+use Rattle.gb_report.specs.declared.fault.Fault.TheVariants as faults
 use Rattle.gb_tasks.specs.Scripts.{registry_said}
 use Rattle.gb_invocation.specs.Scripts.{registers_in, setting_of}
 use Rattle.gb_invocation.proofs.Blamed.{failed_since, memory_blames_none, reading_fails}
-use Rattle.gb_invocation.proofs.Keeping.{invoked_keeps, refusal_keeps}
+use Rattle.gb_invocation.proofs.Keeping.{begun_before, each_fault, invoked_keeps, of_fault, refusal_keeps}
 use Rattle.gb_invocation.proofs.Passing.{always, out_of_memory, refused_leads, setting_by, shows, since_read}
-use Rattle.gb_invocation.proofs.Reading.{not_read, registered}
+use Rattle.gb_invocation.proofs.Reading.{not_read, own_is_read_first, read_first, registered}
 use Rattle.gb_invocation.proofs.invocation.invoke.Goals as goal
 
 pub returns-in_err-given-clause-leads : goal.returns-in_err-given-clause-leads
@@ -33,9 +39,9 @@ returns-in_err-registry-clause-leads g c = λ tells kinds agrees tears.
     let new : Shown = shows (F.contents c.read_registry.new.folder) (F.failures c.read_registry.new.folder) in
     let p = err_from_is_err_and c.from_residual-in_err-registry.result c.from_residual-in_err-registry.ensures.1 in
     refused_leads (setting_of tables kinds may_leave) old new c.args.invocation.now p.0
-    (λ remembered. not_read tables old.contents kinds may_leave c.args.invocation.now c.in_ok-given.given.items c.in_ok-given.ensures
+    (not_read tables old.contents c.args.invocation.now c.in_ok-given.given.items c.in_ok-given.ensures
     c.read_registry.result c.in_err-registry.field-0.0 p.0 old.failures new.failures c.in_err-registry.was p.2 c.read_registry.ensures.blamed (c.in_err-registry.ensures.said tells)
-    (state_of old remembered) refl refl)
+    old refl refl)
     (c.read_registry.ensures.same tells) c.from_residual-in_err-registry.result p.1
 
 pub returns-clause-leads : goal.returns-clause-leads
@@ -126,3 +132,91 @@ returns-clause-device g c =
     let F = g.F.Folder in
     failed_since (times_blamed (answer_of c.build_registered.result)) (F.failures c.args.folder.now) (F.failures c.read_registry.new.folder) (F.failures c.build_registered.new.folder)
     c.read_registry.ensures.count c.build_registered.ensures.device
+
+-- ---- Why it is refused
+
+pub returns-in_err-given-clause-places : goal.returns-in_err-given-clause-places
+returns-in_err-given-clause-places g c =
+    let p = err_from_is_err_and c.from_residual.result c.from_residual.ensures.1 in
+    of_fault (λ (fault : Fault). (place : List ℕ) → fault ≡ faults.Device place → IsTrue (is_read_first c.args.invocation.now.options place)) c.from_residual.result p.0 p.1
+    (λ place is. absurd (no_device place (sym p.2 ∙ is)))
+  where
+    no_device : (place : List ℕ) → faults.OutOfMemory ≡ faults.Device place → ⊥
+    no_device place e = cc
+
+pub returns-in_err-given-clause-not_built : goal.returns-in_err-given-clause-not_built
+returns-in_err-given-clause-not_built g c = λ tells.
+    let F = g.F.Folder in
+    let tables = tables_of g.T.Transforms.meanings g.A.Actions.meanings c.args.tables.now in
+    let p = err_from_is_err_and c.from_residual.result c.from_residual.ensures.1 in
+    of_fault (λ (fault : Fault). IsNotBuilt (registers_in tables) (shows (F.contents c.args.folder.now) (F.failures c.args.folder.now)) c.args.invocation.now fault (F.failures c.args.folder.now))
+    c.from_residual.result p.0 p.1 (inr (inr (inl p.2)))
+
+pub returns-in_err-registry-clause-places : goal.returns-in_err-registry-clause-places
+returns-in_err-registry-clause-places g c =
+    let p = err_from_is_err_and c.from_residual-in_err-registry.result c.from_residual-in_err-registry.ensures.1 in
+    of_fault (λ (fault : Fault). (place : List ℕ) → fault ≡ faults.Device place → IsTrue (is_read_first c.args.invocation.now.options place)) c.from_residual-in_err-registry.result p.0 p.1
+    (read_first c.args.invocation.now c.read_registry.result c.in_err-registry.field-0.0 p.0 c.in_err-registry.was p.2 c.read_registry.ensures.blamed)
+
+pub returns-in_err-registry-clause-not_built : goal.returns-in_err-registry-clause-not_built
+returns-in_err-registry-clause-not_built g c = λ tells.
+    let F = g.F.Folder in
+    let tables = tables_of g.T.Transforms.meanings g.A.Actions.meanings c.args.tables.now in
+    let old : Shown = shows (F.contents c.args.folder.now) (F.failures c.args.folder.now) in
+    let after = F.failures c.read_registry.new.folder in
+    let p = err_from_is_err_and c.from_residual-in_err-registry.result c.from_residual-in_err-registry.ensures.1 in
+    of_fault (λ (fault : Fault). IsNotBuilt (registers_in tables) old c.args.invocation.now fault after) c.from_residual-in_err-registry.result p.0 p.1
+    (not_read tables old.contents c.args.invocation.now c.in_ok-given.given.items c.in_ok-given.ensures
+    c.read_registry.result c.in_err-registry.field-0.0 p.0 old.failures after c.in_err-registry.was p.2 c.read_registry.ensures.blamed (c.in_err-registry.ensures.said tells)
+    old refl refl)
+
+pub returns-clause-places : goal.returns-clause-places
+returns-clause-places g c =
+    each_fault (λ (fault : Fault). (place : List ℕ) → fault ≡ faults.Device place → IsTrue (is_own place && not c.args.invocation.now.options.dry_run))
+    (λ (fault : Fault). (place : List ℕ) → fault ≡ faults.Device place → IsTrue (is_read_first c.args.invocation.now.options place))
+    (λ fault at place is. own_is_read_first c.args.invocation.now place (at place is))
+    c.build_registered.result c.build_registered.ensures.places
+
+pub returns-clause-not_built : goal.returns-clause-not_built
+returns-clause-not_built g c = λ tells.
+    let F = g.F.Folder in
+    let tables = tables_of g.T.Transforms.meanings g.A.Actions.meanings c.args.tables.now in
+    let source = c.in_ok-registry.registry in
+    let old : Shown = shows (F.contents c.args.folder.now) (F.failures c.args.folder.now) in
+    let later = F.failures c.read_registry.new.folder in
+    let after = F.failures c.build_registered.new.folder in
+    each_fault (IsNotBegun (registry_said tables source) c.args.invocation.now later after) (λ (fault : Fault). IsNotBuilt (registers_in tables) old c.args.invocation.now fault after)
+    (λ fault why. not_built (registers_in tables) (registry_said tables source) old c.args.invocation.now fault after
+    (registered tables old.contents c.in_ok-given.given.items c.args.invocation.now.properties c.in_ok-given.ensures source (c.in_ok-registry.ensures.said tells))
+    (begun_before (registry_said tables source) c.args.invocation.now old.failures later after c.read_registry.ensures.count c.build_registered.ensures.count fault why))
+    c.build_registered.result c.build_registered.ensures.not_begun
+
+pub returns-clause-dry : goal.returns-clause-dry
+returns-clause-dry g c = λ tells dry.
+    ap g.F.Folder.contents (c.build_registered.ensures.dry dry) ∙ c.read_registry.ensures.same tells
+
+-- ---- The promise
+
+pub returns-in_err-given-clause-promise : goal.returns-in_err-given-clause-promise
+returns-in_err-given-clause-promise g c = λ tells kinds agrees tears.
+    let F = g.F.Folder in
+    let tables = tables_of g.T.Transforms.meanings g.A.Actions.meanings c.args.tables.now in
+    headline (setting_of tables kinds (F.may_leave c.args.folder.now)) (shows (F.contents c.args.folder.now) (F.failures c.args.folder.now))
+    (shows (F.contents c.args.folder.now) (F.failures c.args.folder.now)) (events.Invoke c.args.invocation.now ∷ []) (answer_of c.from_residual.result ∷ [])
+    (returns-in_err-given-clause-holds g c tells kinds agrees tears)
+
+pub returns-in_err-registry-clause-promise : goal.returns-in_err-registry-clause-promise
+returns-in_err-registry-clause-promise g c = λ tells kinds agrees tears.
+    let F = g.F.Folder in
+    let tables = tables_of g.T.Transforms.meanings g.A.Actions.meanings c.args.tables.now in
+    headline (setting_of tables kinds (F.may_leave c.args.folder.now)) (shows (F.contents c.args.folder.now) (F.failures c.args.folder.now))
+    (shows (F.contents c.read_registry.new.folder) (F.failures c.read_registry.new.folder)) (events.Invoke c.args.invocation.now ∷ []) (answer_of c.from_residual-in_err-registry.result ∷ [])
+    (returns-in_err-registry-clause-holds g c tells kinds agrees tears)
+
+pub returns-clause-promise : goal.returns-clause-promise
+returns-clause-promise g c = λ tells kinds agrees tears.
+    let F = g.F.Folder in
+    let tables = tables_of g.T.Transforms.meanings g.A.Actions.meanings c.args.tables.now in
+    headline (setting_of tables kinds (F.may_leave c.args.folder.now)) (shows (F.contents c.args.folder.now) (F.failures c.args.folder.now))
+    (shows (F.contents c.build_registered.new.folder) (F.failures c.build_registered.new.folder)) (events.Invoke c.args.invocation.now ∷ []) (answer_of c.build_registered.result ∷ [])
+    (returns-clause-holds g c tells kinds agrees tears)

@@ -83,6 +83,19 @@ returns-in_err-report-clause-leads g c = λ tells kinds registry_of agrees tears
     (inl (inl p.2))
     (ap F.contents c.in_err-report.ensures.unbegun ∙ c.records_for.ensures.same tells) c.from_residual-in_err-report.result p.1
 
+pub returns-clause-outlined : goal.returns-clause-outlined
+returns-clause-outlined g c =
+    let is_plan = plan_of (g.Ts.Tasks.registry c.args.tasks.now) c.as_slice-requested.result.now c.args.invocation.now.requested c.as_slice-excluded.result.now c.args.invocation.now.excluded c.in_ok-plan.plan
+    c.as_slice-requested.ensures c.as_slice-excluded.ensures c.in_ok-plan.ensures.plan in
+    record {
+      request = is_plan.0;
+      asked = is_plan.1;
+      plan = c.in_ok-plan.plan;
+      planned = is_plan.2;
+      dry_run = c.in_ok-report.ensures.dry_run;
+      outlines = c.in_ok-report.ensures.outline;
+    }
+
 pub returns-clause-elsewhere : goal.returns-clause-elsewhere
 returns-clause-elsewhere g c = λ tells.
     let F = g.F.Folder in

@@ -1,33 +1,32 @@
 use Rattle.std.proofs.Common.{◌≡◌, false, true, Bool, List, IfErr, sym, ap, ◌∙◌, inl, inr}
 use Rattle.std.proofs.lemmas.Result.{err_from_is_err_and}
 use Rattle.gb_folder.specs.Files.{Contents}
-use Rattle.gb_history.specs.Remembered.{Prints}
 use Rattle.gb_meaning.specs.Tree.{has_no_source, listing_faults, trees_of}
 use Rattle.gb_plan.specs.declared.task.FileProperty.{FileProperty}
 use Rattle.gb_plan.specs.declared.task.TaskDeclaration.{TaskDeclaration as Task}
 use Rattle.gb_report.specs.declared.fault.Fault.{Fault}
 use Rattle.gb_store.proofs.Machine.{at_err}
-use Rattle.gb_turn.specs.Reading.{digests_in}
+use Rattle.gb_turn.specs.Reading.{Read, digests_in, prints_read}
 use Rattle.gb_label.specs.Looking.{IsHindered, lacks_source}
 use Rattle.gb_label.proofs.Cases.{by_source, first_in_front, hindered}
-use Rattle.gb_label.proofs.Sources.{same_source}
+use Rattle.gb_label.proofs.Sources.{same_source, source_read}
 use Rattle.gb_label.proofs.look.look_at_files.Goals as goal
 
 pub returns-in_err-inputs-clause-err : goal.returns-in_err-inputs-clause-err
 returns-in_err-inputs-clause-err g c = λ tells.
     let p = err_from_is_err_and c.from_residual.result c.from_residual.ensures.1 in
-    let IsFault : Fault → Type 0 = IsHindered c.args.task.now (g.F.Folder.contents c.args.folder.now) (g.F.Folder.failures c.args.folder.now) (g.F.Folder.failures c.print_inputs.new.folder) in
+    let IsFault : Fault → Type 0 = IsHindered c.args.task.now (g.F.Folder.contents c.args.folder.now) (g.F.Folder.failures c.args.folder.now) (g.F.Folder.failures c.read_inputs.new.folder) in
     at_err (λ r. IfErr r IsFault) c.from_residual.result p.0 c.in_err-inputs.field-0.0 p.1 p.2 (elim (c.in_err-inputs.ensures.err tells) [
       | inl machine ↦ inl machine
       | inr first ↦ inr (hindered c.args.task.now (g.F.Folder.contents c.args.folder.now) c.in_err-inputs.field-0.0 c.requires.runs c.requires.acts (first_in_front _ _ _ first))
     ])
 
--- what was found of the prints holds of the files
-sourced : (task : Task) (old : Contents) (properties : List FileProperty) (inputs seen : List Prints) (found b : Bool) → properties ≡ task.files
-    → inputs ≡ digests_in (trees_of task old.files) → seen ≡ inputs → found ≡ lacks_source properties seen → found ≡ b
+-- what was found of the readings holds of the files
+sourced : (task : Task) (old : Contents) (properties : List FileProperty) (inputs seen : List Read) (found b : Bool) → properties ≡ task.files
+    → prints_read inputs ≡ digests_in (trees_of task old.files) → seen ≡ inputs → found ≡ lacks_source properties seen → found ≡ b
     → has_no_source task old.files ≡ b
 sourced task old properties inputs seen found b is read same told decided =
-    sym (same_source task old.files) ∙ ap (lacks_source task.files) (sym read) ∙ ap (lacks_source task.files) (sym same)
+    sym (same_source task old.files) ∙ ap (lacks_source task.files) (sym read) ∙ source_read task.files inputs ∙ ap (lacks_source task.files) (sym same)
     ∙ ap (λ ps. lacks_source ps seen) (sym is) ∙ sym told ∙ decided
 
 pub returns-then-is_without_source-clause-case : goal.returns-then-is_without_source-clause-case
@@ -46,4 +45,5 @@ returns-clause-case g c = λ tells.
       sourced c.args.task.now old c.as_slice.result.now c.in_ok-inputs.inputs.items c.as_slice-2.result.now c.is_without_source.result false c.as_slice.ensures
           (c.in_ok-inputs.ensures.prints tells) c.as_slice-2.ensures.value c.is_without_source.ensures c.if-is_without_source.false,
       c.in_ok-inputs.ensures.prints tells,
+      c.in_ok-inputs.ensures.seen tells,
     )

@@ -23,7 +23,7 @@ loop-at-preserved g c =
     let next = step told c.loop-at.all_heard c.tell_one-all_heard.result olds (map ear items) at (ear here) (ear new)
     less (omega (arith, each, each_new, c.loop-at.invariant.len))
     (get_or-map ear items at here (ear here) (omega (arith, less, each_new)) ∙ ap ear (sym c.index_mut.ensures.value))
-    c.loop-at.invariant.done c.loop-at.invariant.rest c.tell_one-all_heard.ensures.count c.tell_one-all_heard.ensures.heard c.tell_one-all_heard.ensures.refused in
+    c.loop-at.invariant.done c.loop-at.invariant.rest c.tell_one-all_heard.ensures.heard c.tell_one-all_heard.ensures.refused in
     let is : map ear (set items at new) ≡ set (map ear items) at (ear new) = map-set ear items at new in
     record {
       len = c.loop-at.invariant.len;

@@ -1,4 +1,4 @@
-use Rattle.std.proofs.Common.{arith, ◌≡◌, ◌++◌, ◌∷◌, List, Ok, IfErr, refl, sym, ap, subst, ◌∙◌}
+use Rattle.std.proofs.Common.{arith, ◌≡◌, ◌++◌, ◌∷◌, List, Ok, IfErr, map, refl, sym, ap, subst, ◌∙◌}
 use Rattle.std.proofs.lemmas.Result.{err_from_is_err_and}
 use Rattle.std.specs.List.{AllByRecursion}
 use Rattle.std.specs.VecDeque.Iter.{deque_iter_rest}
@@ -9,17 +9,21 @@ use Rattle.gb_folder.proofs.Changes.{SameTearing-chain}
 use Rattle.gb_plan.specs.Ready.{IsReadyAction}
 use Rattle.gb_plan.specs.Task.{Text, is_output_of}
 use Rattle.gb_plan.specs.declared.task.Action.{Action}
+use Rattle.gb_plan.specs.declared.task.Output.{Output}
 use Rattle.gb_report.specs.declared.fault.Fault.{Fault}
 use Rattle.gb_report.specs.declared.fault.Fault.TheVariants as faults
 use Rattle.gb_store.proofs.Machine.{at_err, changes_chain}
 use Rattle.gb_meaning.specs.Headline.{Agrees}
 use Rattle.gb_meaning.specs.Kinds.{Kinds, kind_of}
+use Rattle.gb_meaning.specs.Made.{put_result}
 use Rattle.gb_meaning.specs.Run.{step_by}
 use Rattle.gb_run.specs.Asking.{IsFullRequest}
 use Rattle.gb_run.specs.Course.{Fails, course_of}
-use Rattle.gb_run.specs.Step.{IsHeld, StopsIn}
+use Rattle.gb_run.specs.Digests.{prints_at}
+use Rattle.gb_run.specs.Step.{IsHeld, IsKept, StopsIn}
 use Rattle.gb_run.proofs.Endings.{none_left}
-use Rattle.gb_run.proofs.Running.{IsRunning, ends_well, fails, fails_early, goes_further}
+use Rattle.gb_run.proofs.Keeping.{IsMaking, makes_all, makes_more}
+use Rattle.gb_run.proofs.Running.{IsRunning, ends_well, fails, fails_early, fails_late, goes_further}
 use Rattle.gb_run.proofs.run.run_in_full.Goals as goal
 
 pub returns-in_err-full_request-clause-err : goal.returns-in_err-full_request-clause-err
@@ -52,6 +56,12 @@ loop-action-preserved g c =
       placed = c.in_ok-run_one.ensures.placed;
       ready = (subst (λ (actions : List Action). AllByRecursion (IsReadyAction g.A.Actions.meanings c.args.table.now task) actions) next old.invariant.ready).1;
       changes = λ tells. changes_chain (is_output_of task) _ _ _ (old.invariant.changes tells) (c.run_one.ensures.changes tells);
+      makes = λ kinds agrees.
+          makes_more kinds task c.args.files action left old.running.taken old.running.digests now.running.taken now.running.digests
+          (subst (λ (actions : List Action). IsMaking kinds task c.args.files actions old.running.taken old.running.digests) next (old.invariant.makes kinds agrees))
+          (λ held kept.
+          subst (λ (trees : Trees). (more : Files) × (put_result task.outputs held (kinds.makes (kind_of action) action.args task.values trees) ≡ Ok more) × IsKept more now.running.taken now.running.digests)
+          old.invariant.full.files (c.in_ok-run_one.ensures.kept kinds agrees held kept));
       ran = λ tells kinds agrees.
           let course = course_of kinds task c.args.files c.args.changes (F.contents c.args.folder.now).files in
           let folder = (F.contents old.folder).files in
@@ -91,6 +101,34 @@ returns-in_err-run_one-clause-err g c = λ tells.
     subst (λ (trees : Trees). StopsIn task.outputs rest held (kinds.makes (kind_of action) action.args task.values trees) (F.may_leave old.folder) (F.failures old.folder) c.in_err-run_one.field-0.0 (F.failures now.folder) new)
     old.invariant.full.files (c.in_err-run_one.ensures.err tells kinds agrees rest held is_held))
     c.in_err-run_one.ensures.lines)
+
+pub returns-in_err-prints-clause-err : goal.returns-in_err-prints-clause-err
+returns-in_err-prints-clause-err g c = λ tells.
+    let F = g.F.Folder in
+    let old = c.loop-action in
+    let start = c.args.folder.now in
+    let folder = (F.contents old.folder).files in
+    let p = err_from_is_err_and c.from_residual-in_err-prints.result c.from_residual-in_err-prints.ensures.1 in
+    let IsFault : Fault → Type 0 = λ fault. (kinds : Kinds) → Agrees g.A.Actions.meanings c.args.table.now kinds
+    → Fails (course_of kinds c.args.task.now c.args.files c.args.changes (F.contents start).files) (F.may_leave start) (F.failures start) fault old.lines (F.failures old.folder) folder in
+    at_err (λ r. IfErr r IsFault) c.from_residual-in_err-prints.result p.0 faults.OutOfMemory p.1 p.2 (λ kinds agrees.
+    let course = course_of kinds c.args.task.now c.args.files c.args.changes (F.contents start).files in
+    let nothing = none_left (deque_iter_rest old.action-iterator) c.in-None.ensures.steps.0 in
+    fails_late course old.running.taken folder old.lines
+    (subst (λ (actions : List Action). IsRunning course actions old.running.taken folder old.lines) nothing (old.invariant.ran tells kinds agrees))
+    (F.may_leave start) (F.failures start) faults.OutOfMemory (F.failures old.folder) refl)
+
+pub returns-clause-named : goal.returns-clause-named
+returns-clause-named g c = c.in_ok-prints.ensures.named ∙ ap (λ (outputs : List Output). map (λ (output : Output). output.name) outputs) c.as_slice.ensures
+
+pub returns-clause-made : goal.returns-clause-made
+returns-clause-made g c = λ kinds agrees.
+    let old = c.loop-action in
+    let task = c.args.task.now in
+    let nothing = none_left (deque_iter_rest old.action-iterator) c.in-None.ensures.steps.0 in
+    let all = makes_all kinds task c.args.files old.running.taken old.running.digests
+    (subst (λ (actions : List Action). IsMaking kinds task c.args.files actions old.running.taken old.running.digests) nothing (old.invariant.makes kinds agrees)) in
+    (all.0, all.1, c.in_ok-prints.ensures.prints all.0 all.2 ∙ ap (λ (outputs : List Output). prints_at outputs all.0) c.as_slice.ensures)
 
 pub returns-clause-ok : goal.returns-clause-ok
 returns-clause-ok g c = λ tells kinds agrees.

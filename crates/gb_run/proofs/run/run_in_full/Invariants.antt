@@ -9,6 +9,7 @@ use Rattle.gb_meaning.specs.Headline.{Agrees}
 use Rattle.gb_meaning.specs.Kinds.{Kinds}
 use Rattle.gb_run.specs.Asking.{IsFullRequest}
 use Rattle.gb_run.specs.Course.{course_of}
+use Rattle.gb_run.proofs.Keeping.{IsMaking}
 use Rattle.gb_run.proofs.Running.{IsRunning}
 use Rattle.gb_run.proofs.run.run_in_full.Given as goal
 
@@ -23,6 +24,7 @@ invariant-loop-action g l =
       placed : IsTrue (are_placed l.running.taken);
       ready : AllByRecursion (IsReadyAction g.A.Actions.meanings l.table l.task) left;
       changes : IsTrue g.F.Folder.tells → ChangesOnly (is_output_of l.task) (contents l.fn.folder) (contents l.folder);
+      makes : (kinds : Kinds) → Agrees g.A.Actions.meanings l.table kinds → IsMaking kinds l.task l.fn.files left l.running.taken l.running.digests;
       ran : IsTrue g.F.Folder.tells → (kinds : Kinds) → Agrees g.A.Actions.meanings l.table kinds
           → IsRunning (course_of kinds l.task l.fn.files l.fn.changes (contents l.fn.folder).files) left l.running.taken (contents l.folder).files l.lines;
     }

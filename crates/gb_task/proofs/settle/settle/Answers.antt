@@ -12,7 +12,7 @@ returns-clause-of_task g c =
     let F = g.F.Folder in
     let found = c.prepare-prepared in
     subst (λ (s : Settled). IsOfTask c.args.task.now (F.failures c.args.folder.now) (F.failures found.new.folder) s) (sym c.settled_by.ensures)
-    (of_task c.args.task.now c.args.path c.requires.path (F.failures c.args.folder.now) (F.failures found.new.folder) c.args.has_executed_need found.result found.ensures.may_be found.ensures.blame
+    (of_task c.args.task.now c.args.path c.requires.path (F.failures c.args.folder.now) (F.failures found.new.folder) c.args.has_executed_need found.result found.ensures.may_be found.ensures.read found.ensures.blame
     found.ensures.blamed)
 
 pub returns-clause-alone : goal.returns-clause-alone
@@ -37,4 +37,4 @@ returns-clause-settled g c = λ tells kinds registry_of plan moment folder count
     subst (λ (s : Settled). SettlesTurn (setting_with kinds registry_of (F.may_leave start)) c.args.options plan c.args.task.now moment (F.contents start) (F.failures now) s) (sym c.settled_by.ensures)
     (settles (setting_with kinds registry_of (F.may_leave start)) c.args.options plan c.args.task.now c.args.path moment (F.contents start) (F.failures start) (F.failures now) c.args.has_executed_need
     (option_copied c.args.last) c.requires.not_own folder count needed known c.outside_is_enough.ensures c.prepared_is_case.ensures c.idle_turns_are_turns.ensures c.runs_are_of_case.ensures
-    found.result (found.ensures.prepared tells) (found.ensures.err tells) found.ensures.reads found.ensures.blamed)
+    found.result (found.ensures.prepared tells) (found.ensures.seen tells) (found.ensures.err tells) found.ensures.reads found.ensures.blamed)

@@ -1,9 +1,10 @@
-use Rattle.std.proofs.Common.{◌≡◌, ◌≤◌, ℕ, Bool, option_copied, sym, subst, ◌∙◌}
+use Rattle.std.proofs.Common.{◌≡◌, ◌≤◌, ℕ, Bool, sym, subst, ◌∙◌}
 use Rattle.gb_folder.specs.Files.{Contents}
+use Rattle.gb_label.specs.Preparing.{IsSeenFor}
 use Rattle.gb_meaning.specs.Label.{Moment}
 use Rattle.gb_task.specs.Turned.{ComesAt, HasTurned, setting_with}
 use Rattle.gb_task.proofs.Answering.{cleared_answers, run_answers, told_answers}
-use Rattle.gb_task.proofs.Later.{cleared_started, comes_later, copied_some, known_made, run_started, told_turned, turned_before}
+use Rattle.gb_task.proofs.Later.{cleared_started, comes_later, copied_some, run_started, told_turned, turned_before}
 use Rattle.gb_task.proofs.Recorded.{seen_later}
 use Rattle.gb_task.proofs.turn.take_turn.Goals as goal
 
@@ -37,14 +38,20 @@ returns-in-Sourceless-clause-turn g c = λ tells kinds registry_of plan moment a
     let then = c.settle.new.folder in
     let now = c.take_turn_without_source.new.folder in
     let same : F.contents then ≡ F.contents start = c.settle.ensures.same tells in
-    let came = comes_later task c.is_some-was_read.result (F.contents start) (F.failures start) moment (F.contents then) (F.failures then) same
-    (subst (λ (b : Bool). ComesAt task b (F.contents start) (F.failures start) moment) (copied_some c.args.last ∙ sym c.is_some-was_read.ensures) at) in
+    let came = comes_later task c.is_some.result (F.contents start) (F.failures start) moment (F.contents then) (F.failures then) same
+    (subst (λ (b : Bool). ComesAt task b (F.contents start) (F.failures start) moment) (copied_some c.args.last ∙ sym c.is_some.ensures) at) in
     let later : Moment = record { world = moment.world; outcomes = moment.outcomes; failures = F.failures then } in
     turned_before kinds registry_of (F.may_leave start) (F.may_leave then) c.settle.ensures.tearing c.args.options plan task moment (F.failures then)
     (subst (λ (n : ℕ). n ≤ F.failures then) (sym at.failures) c.settle.ensures.count) c.take_turn_without_source.result (F.contents start) (F.failures now) (F.contents now) c.take_turn_without_source.ensures.count
     (subst (λ (folder : Contents). HasTurned (setting_with kinds registry_of (F.may_leave then)) c.args.options plan task later c.take_turn_without_source.result folder (F.failures now) (F.contents now)) same
     (c.take_turn_without_source.ensures.turn tells kinds registry_of c.args.options plan later (seen_later _ _ c.settle.ensures.tearing seen) came
     (c.in-Sourceless.ensures.settled tells kinds registry_of plan moment at.folder at.failures needed known)))
+
+pub run-requires-clause-due : goal.run-requires-clause-due
+run-requires-clause-due g c = c.in-Due.ensures.of_task.1
+
+pub run-requires-clause-read : goal.run-requires-clause-read
+run-requires-clause-read g c = c.in-Due.ensures.of_task.2
 
 pub returns-in-Due-clause-turn : goal.returns-in-Due-clause-turn
 returns-in-Due-clause-turn g c = λ tells kinds registry_of plan moment agrees seen at needed known.
@@ -54,15 +61,14 @@ returns-in-Due-clause-turn g c = λ tells kinds registry_of plan moment agrees s
     let then = c.settle.new.folder in
     let now = c.run.new.folder in
     let same : F.contents then ≡ F.contents start = c.settle.ensures.same tells in
-    let came = comes_later task c.is_some-was_read.result (F.contents start) (F.failures start) moment (F.contents then) (F.failures then) same
-    (subst (λ (b : Bool). ComesAt task b (F.contents start) (F.failures start) moment) (copied_some c.args.last ∙ sym c.is_some-was_read.ensures) at) in
+    let came = comes_later task _ (F.contents start) (F.failures start) moment (F.contents then) (F.failures then) same at in
     let later : Moment = record { world = moment.world; outcomes = moment.outcomes; failures = F.failures then } in
     let due = c.in-Due.ensures.settled tells kinds registry_of plan moment at.folder at.failures needed known in
     turned_before kinds registry_of (F.may_leave start) (F.may_leave then) c.settle.ensures.tearing c.args.options plan task moment (F.failures then)
     (subst (λ (n : ℕ). n ≤ F.failures then) (sym at.failures) c.settle.ensures.count) c.run.result (F.contents start) (F.failures now) (F.contents now) c.run.ensures.count
     (subst (λ (folder : Contents). HasTurned (setting_with kinds registry_of (F.may_leave then)) c.args.options plan task later c.run.result folder (F.failures now) (F.contents now)) same
-    (c.run.ensures.turn tells kinds registry_of c.args.options plan later agrees (seen_later _ _ c.settle.ensures.tearing seen) came due.0 due.1 due.2
-    (known_made kinds task moment.world (option_copied c.args.last) known)))
+    (c.run.ensures.turn tells kinds registry_of plan later agrees (seen_later _ _ c.settle.ensures.tearing seen) came due.0 due.1 due.2
+    (subst (λ (folder : Contents). IsSeenFor task folder.files c.in-Due.seen c.in-Due.decision) (sym same) due.3) known))
 
 pub returns-in-Told-clause-started : goal.returns-in-Told-clause-started
 returns-in-Told-clause-started g c = c.in-Told.ensures.of_task.4

@@ -1,0 +1,53 @@
+//! Events over a folder in memory that holds nothing before them.
+use crate::building::{Step, are_held, are_told, events};
+use crate::offering::{Handed, offered};
+use gb_action::actions::Actions;
+use gb_events::nothing::run_from_nothing;
+use gb_kinds::builtin::Builtin;
+use gb_listen::listener::Recorder;
+use gb_provider::transforms::Transforms;
+use std::alloc::Global;
+use std::test::Fail;
+
+/// A task is built, and is then up to date.
+const STEPS: [Step<'static>; 3] = [
+    (
+        "put build.gb",
+        "register a : writeText(\"A\") { outputFile out = file(\"build/x\") }",
+        "",
+    ),
+    (
+        "run a",
+        "",
+        "> Task :a\nBUILD SUCCESSFUL\n1 actionable task: 1 executed\n",
+    ),
+    (
+        "run a",
+        "",
+        "> Task :a UP-TO-DATE\nBUILD SUCCESSFUL\n1 actionable task: 1 up-to-date\n",
+    ),
+];
+
+/// Fails where the steps from nothing tell or leave something else.
+fn runs_from_nothing<A: Actions, T: Transforms>(
+    alloc: Global,
+    tables: &Handed<A, T>,
+) -> Result<(), Fail> {
+    let events = events(alloc, &STEPS)?;
+    let mut listeners: Vec<Recorder> = Vec::new(alloc);
+    let (mut folder, answers) = run_from_nothing::<A, T, Recorder>(
+        alloc,
+        tables,
+        events.as_slice(),
+        &mut listeners,
+    )?;
+    are_told(alloc, &STEPS, answers.as_slice())?;
+    are_held(alloc, &mut folder, "build", "build/x=A")
+}
+
+#[test]
+fn a_run_from_nothing_takes_the_events(rt: HostRuntime) -> Result<(), Fail> {
+    let alloc = rt.alloc();
+    let tables = offered(alloc)?;
+    runs_from_nothing::<Builtin, Builtin>(alloc, &tables)
+}

@@ -1,0 +1,49 @@
+//! What is read of a file.
+ghost use Rattle.std.specs.Prelude.{◌≡◌, ◌≢◌, ◌≤◌, ◌-◌, min, IsTrue};
+
+/// No file has more bytes.
+const LONGEST_FILE: u64 = i64::MAX as u64;
+
+/// Room for a file of which no byte is told: some of the system's files give all that they have to one read.
+const FIRST_ROOM: u64 = 4_096;
+
+/// Bytes of a file: those from `at` on, `most` of them, or fewer where the file ends, but no fewer than
+/// `least`.
+#[derive(Clone, Copy)]
+pub(crate) struct Span {
+    pub at: u64,
+    pub least: u64,
+    pub most: u64,
+}
+
+impl Span {
+    /// Of a file of so many bytes those from `at` on, `len` at most. The system tells none of some files
+    /// that have bytes all the same, as it makes them when they are read.
+    pub fn of(told: u64, at: u64, len: u64) -> Span
+        ensures within { result.most ≤ len }
+        ensures told { told ≢ 0 → (result.most ≡ min (told - at) len) × (result.least ≡ result.most) }
+    {
+        let end = if told == 0 { LONGEST_FILE } else { told };
+        let most = end.saturating_sub(at).min(len);
+        let least = if told == 0 { 0 } else { most };
+        Span { at, least, most }
+    }
+
+    /// Room for its bytes, and for one more, as `read_to_end` grows where none is left.
+    pub fn room(&self) -> usize {
+        let bytes = if self.least == 0 {
+            self.most.min(FIRST_ROOM)
+        } else {
+            self.most
+        };
+        bytes.saturating_add(1) as usize
+    }
+
+    /// Whether it can have so many bytes.
+    pub fn takes(&self, len: u64) -> bool
+        ensures least { IsTrue result → self.now.least ≤ len }
+        ensures most { IsTrue result → len ≤ self.now.most }
+    {
+        self.least <= len && len <= self.most
+    }
+}

@@ -1,0 +1,56 @@
+-- Digests beside the outputs that they are of.
+use Rattle.std.specs.Prelude.{◌≡◌, ℕ, List, [], ◌∷◌, map}
+use Rattle.std.proofs.Common.{refl, sym, ap, subst, ◌∙◌}
+use Rattle.gb_folder.specs.Files.{Files}
+use Rattle.gb_history.specs.Remembered.{Prints, prints_in}
+use Rattle.gb_history.specs.declared.decide.Decision.{Decision}
+use Rattle.gb_history.specs.declared.decide.Decision.TheVariants as decisions
+use Rattle.gb_history.specs.declared.record.OutputRecord.{OutputRecord}
+use Rattle.gb_plan.specs.declared.task.Output.{Output}
+use Rattle.gb_plan.specs.declared.task.TaskDeclaration.{TaskDeclaration as Task}
+use Rattle.gb_turn.specs.Reading.{AreOutputs, AreOutputsSeen, Read, prints_read, recorded_of, records_with}
+use Rattle.gb_label.specs.Deciding.{AreOutputsFor, AreOutputsSeenFor}
+
+-- as many digests as outputs stand in as many records
+pub prints_with : (outputs : List Output) (prints : List Prints) → map (λ (found : Prints). found.0) prints ≡ map (λ (output : Output). output.name) outputs
+    → prints_in (records_with outputs prints) ≡ prints
+prints_with [] [] same = refl
+prints_with [] (found ∷ prints) same = absurd (cc)
+prints_with (output ∷ outputs) [] same = absurd (cc)
+prints_with (output ∷ outputs) (found ∷ prints) same = ap (λ (l : List Prints). found ∷ l) (prints_with outputs prints (rest same))
+  where
+    rest : found.0 ∷ map (λ (f : Prints). f.0) prints ≡ output.name ∷ map (λ (o : Output). o.name) outputs
+        → map (λ (f : Prints). f.0) prints ≡ map (λ (o : Output). o.name) outputs
+    rest e = cc
+
+-- the digests of what stands make the records of it
+pub with_standing : (files : Files) (outputs : List Output) → records_with outputs (prints_in (map (recorded_of files) outputs)) ≡ map (recorded_of files) outputs
+with_standing files [] = refl
+with_standing files (output ∷ outputs) = ap (λ (l : List OutputRecord). recorded_of files output ∷ l) (with_standing files outputs)
+
+pub names_with : (outputs : List Output) (prints : List Prints) → map (λ (found : Prints). found.0) prints ≡ map (λ (output : Output). output.name) outputs
+    → map (λ (found : Prints). found.0) (prints_in (records_with outputs prints)) ≡ map (λ (output : Output). output.name) outputs
+names_with outputs prints same = ap (map (λ (found : Prints). found.0)) (prints_with outputs prints same) ∙ same
+
+pub names_read : (readings : List Read) → map (λ (found : Prints). found.0) (prints_read readings) ≡ map (λ (reading : Read). reading.0) readings
+names_read [] = refl
+names_read (reading ∷ readings) = ap (λ (names : List (List ℕ)). reading.0 ∷ names) (names_read readings)
+
+-- ---- what was read for a decision
+
+pub read_for : (task : Task) (decision : Decision) (outputs : List Read) → AreOutputs task outputs → AreOutputsFor task decision outputs
+read_for task decisions.UpToDate outputs are = tt
+read_for task (decisions.Incremental changes) outputs are = are
+read_for task decisions.Full outputs are = tt
+
+pub seen_for : (task : Task) (files : Files) (decision : Decision) (outputs : List Read) → AreOutputsSeen task files outputs → AreOutputsSeenFor task files decision outputs
+seen_for task files decisions.UpToDate outputs are = tt
+seen_for task files (decisions.Incremental changes) outputs are = are
+seen_for task files decisions.Full outputs are = tt
+
+-- where the run is one in full nothing is to be read
+pub none_for : (task : Task) (decision : Decision) (outputs : List Read) → decision ≡ decisions.Full → AreOutputsFor task decision outputs
+none_for task decision outputs full = subst (λ (d : Decision). AreOutputsFor task d outputs) (sym full) tt
+
+pub none_seen_for : (task : Task) (files : Files) (decision : Decision) (outputs : List Read) → decision ≡ decisions.Full → AreOutputsSeenFor task files decision outputs
+none_seen_for task files decision outputs full = subst (λ (d : Decision). AreOutputsSeenFor task files d outputs) (sym full) tt

@@ -1,0 +1,23 @@
+-- What a run asks for is granted: kinds by the tables, and the rest by an empty folder in memory.
+use Rattle.std.specs.Prelude.{◌≡◌, true, [], map}
+use Rattle.gb_folder.specs.Files.{Tearing}
+use Rattle.gb_action.specs.Meanings.{Meanings}
+use Rattle.gb_plan.specs.Graph.{no_repeats}
+use Rattle.gb_plan.specs.Ready.{Rows}
+use Rattle.gb_meaning.specs.Kinds.{Kinds}
+use Rattle.gb_meaning.specs.Events.{Setting}
+use Rattle.gb_meaning.specs.Headline.{Agrees, Stands, TearsAreSeen}
+
+-- some kinds agree with each table in which no name stands twice
+abbrev pub SomeKindsAgree : {S : Type 0} → Meanings S → Type 0
+SomeKindsAgree {S = S} meanings =
+    (rows : Rows S) → no_repeats (map (λ row. row.0) rows) ≡ true → (kinds : Kinds) × Agrees meanings rows kinds
+
+-- a device that never leaves anything
+abbrev pub leaves_nothing : Tearing
+leaves_nothing place stood next left = ⊥
+
+-- The empty folder stands for an empty memory, and what is never torn is seen for what it is.
+pub record MemoryGrants (setting : Setting) : Type 0 where
+  pub stands : Stands setting (record { files = []; odd = [] }) []
+  pub tears : TearsAreSeen setting.says setting.record_place leaves_nothing

@@ -1,0 +1,182 @@
+//! The digests of files, by place.
+//!
+//! They stand in a map by the texts of their places, in byte order: what lies at or beneath an output's
+//! place is one look-up and one range of the map.
+ghost use Rattle.std.specs.Prelude.{◌≡◌, ◌++◌, ◌∷◌, ℕ, List, [], IsTrue, IfOk, OnOk, OnErr, map, string_bytes};
+ghost use Rattle.std.specs.FinMap.Entries.{is_sorted};
+ghost use Rattle.sha2.specs.Sha256.{sha256};
+ghost use Rattle.gb_core.specs.Lists.{byte_order};
+ghost use Rattle.gb_core.specs.Place.{is_place};
+ghost use Rattle.gb_folder.specs.Files.{Files, are_placed, files_under, with_file, without};
+ghost use Rattle.gb_tree.specs.Prints.{digests_of};
+ghost use Rattle.gb_tree.specs.Tree.{files_from, path_from};
+ghost use Rattle.gb_store.specs.Changes.{shown};
+ghost use Rattle.gb_meaning.specs.Made.{put_over};
+ghost use Rattle.gb_run.specs.Digests.{digests_in, prints_at};
+
+use crate::path::path_from;
+use gb_core::bytes::Bytes;
+use gb_core::place::{Place, RelPath};
+use gb_folder::own::is_own;
+use gb_plan::task::Output;
+use gb_tree::prints::Prints;
+use sha2::{Digest, Sha256};
+use std::alloc::{AllocError, Global};
+use std::collections::BTreeMap;
+use std::marker::Model;
+use std::ops::Range;
+
+/// The digests (SHA-256) of files, by the bytes of their places.
+#[derive(Drop)]
+pub struct Digests {
+    alloc: Global,
+    held: BTreeMap<String, [u8; 32]>,
+    ghost sorted: { IsTrue (is_sorted byte_order (digests_in held)) },
+    ghost placed: { IsTrue (are_placed (digests_in held)) },
+}
+
+impl Model for Digests {
+    ghost use Rattle.gb_folder.specs.Files.{Files};
+    ghost use Rattle.gb_run.specs.Digests.{digests_in};
+
+    ghost Value = { Files };
+
+    ghost view = { λ d. digests_in d.held };
+}
+
+impl Digests {
+    /// Of no file.
+    pub fn new(alloc: Global) -> Digests
+        ensures { result ≡ [] }
+    {
+        Digests {
+            alloc,
+            held: BTreeMap::new(alloc),
+        }
+    }
+
+    /// Puts the digest of a file, in the place of one that stands there.
+    pub fn hold(&mut self, place: &Place, digest: [u8; 32]) -> Result<(), AllocError>
+        ensures ok { OnOk result (self.new ≡ with_file self.old place.now digest) }
+        ensures err { OnErr result (self.new ≡ self.old) }
+    {
+        hold(self.alloc, &mut self.held, place, digest)
+    }
+
+    /// Puts the digest of a file with these bytes.
+    pub fn put(&mut self, place: &Place, bytes: &Bytes) -> Result<(), AllocError>
+        ensures ok { OnOk result (self.new ≡ with_file self.old place.now (sha256 bytes.now)) }
+        ensures files { OnOk result ((files : Files) → self.old ≡ digests_of files
+            → self.new ≡ digests_of (with_file files place.now bytes.now)) }
+        ensures err { OnErr result (self.new ≡ self.old) }
+    {
+        self.hold(place, Sha256::digest(bytes.as_slice()))
+    }
+
+    /// Puts the digests of files, one after another.
+    pub fn put_all(&mut self, files: &[(Place, &Bytes)]) -> Result<(), AllocError>
+        ensures { OnOk result ((held : Files) → self.old ≡ digests_of held
+            → self.new ≡ digests_of (put_over held (shown files.now))) }
+    {
+        for file in files.iter() {
+            self.put(&file.0, file.1)?;
+        }
+        Ok(())
+    }
+
+    /// Takes the digest at a place out, if there is one.
+    pub fn remove(&mut self, place: &Place)
+        ensures ok { self.new ≡ without self.old place.now }
+        ensures files { (files : Files) → self.old ≡ digests_of files
+            → self.new ≡ digests_of (without files place.now) }
+    {
+        take_out(&mut self.held, place);
+    }
+
+    /// What stands at or beneath the place of each of these outputs, by paths from it. At a place in the
+    /// tool's own folder `.gb` there is nothing.
+    pub fn prints(&self, alloc: Global, outputs: &[Output]) -> Result<Vec<Prints>, AllocError>
+        ensures named { IfOk result (λ made.
+            map (λ prints. prints.0) made.items ≡ map (λ output. output.name) outputs.now) }
+        ensures prints { IfOk result (λ made. (files : Files) → self.now ≡ digests_of files
+            → made.items ≡ prints_at outputs.now files) }
+    {
+        let mut made = Vec::new(alloc);
+        for output in outputs.iter() {
+            made.push(self.prints_of(alloc, output)?)?;
+        }
+        Ok(made)
+    }
+
+    /// What stands at or beneath the place of one output.
+    fn prints_of(&self, alloc: Global, output: &Output) -> Result<Prints, AllocError>
+        ensures named { IfOk result (λ prints. prints.0 ≡ output.now.name) }
+        ensures prints { IfOk result (λ prints. (files : Files) → self.now ≡ digests_of files
+            → prints ≡ (output.now.name, digests_of (files_from files output.now.place))) }
+    {
+        let found = if is_own(&output.place) {
+            Vec::new(alloc)
+        } else {
+            found_under(alloc, &self.held, &output.place)?
+        };
+        Ok(Prints::new(output.name.copy()?, found))
+    }
+}
+
+/// Puts a digest. Where memory runs out the digests stay as they were.
+fn hold(
+    alloc: Global,
+    held: &mut BTreeMap<String, [u8; 32]>,
+    place: &Place,
+    digest: [u8; 32],
+) -> Result<(), AllocError>
+    ensures ok { OnOk result (digests_in held.new ≡ with_file (digests_in held.old) place.now digest) }
+    ensures err { OnErr result (digests_in held.new ≡ digests_in held.old) }
+    ensures place { IsTrue (is_place place.now) }
+{
+    let text = place.as_str();
+    held.insert(String::from_str(alloc, text)?, digest)?;
+    Ok(())
+}
+
+/// Takes the digest at a place out.
+fn take_out(held: &mut BTreeMap<String, [u8; 32]>, place: &Place)
+    requires { IsTrue (is_sorted byte_order (digests_in held.old)) }
+    ensures { digests_in held.new ≡ without (digests_in held.old) place.now }
+{
+    held.remove(place.as_str());
+}
+
+/// The digests at or beneath the root, by their paths from it.
+fn found_under(
+    alloc: Global,
+    held: &BTreeMap<String, [u8; 32]>,
+    root: &Place,
+) -> Result<Vec<(RelPath, [u8; 32])>, AllocError>
+    requires sorted { IsTrue (is_sorted byte_order (digests_in held.now)) }
+    requires placed { IsTrue (are_placed (digests_in held.now)) }
+    ensures found { IfOk result (λ found. found.items
+        ≡ map (λ file. (path_from root.now file.0, file.1)) (files_under (digests_in held.now) root.now)) }
+    ensures ordered { IfOk result (λ found. IsTrue (is_sorted byte_order found.items)) }
+{
+    let mut found = Vec::new(alloc);
+    if let Some(digest) = held.get(root.as_str()) {
+        found.push((path_from(alloc, root.as_str(), root.as_str())?, *digest))?;
+    }
+    for (text, digest) in held.range(inside(alloc, root)?) {
+        found.push((path_from(alloc, root.as_str(), text.as_str())?, *digest))?;
+    }
+    Ok(found)
+}
+
+/// The texts beneath a place: those from `place/` on that are below `place0` (`0` is the byte behind `/`).
+fn inside(alloc: Global, place: &Place) -> Result<Range<String>, AllocError>
+    ensures start { IfOk result (λ texts. string_bytes texts.start ≡ place.now ++ 47 ∷ []) }
+    ensures end { IfOk result (λ texts. string_bytes texts.end ≡ place.now ++ 48 ∷ []) }
+{
+    let mut start = String::from_str(alloc, place.as_str())?;
+    start.push('/')?;
+    let mut end = String::from_str(alloc, place.as_str())?;
+    end.push('0')?;
+    Ok(start..end)
+}

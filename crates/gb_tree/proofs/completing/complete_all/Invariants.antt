@@ -1,0 +1,23 @@
+use Rattle.std.proofs.Common.{◌≡◌, ◌≤◌, IsTrue, length, map, take}
+use Rattle.std.specs.List.{AllByRecursion}
+use Rattle.gb_folder.specs.Files.{SameTearing}
+use Rattle.gb_tree.specs.Prints.{digests_of}
+use Rattle.gb_tree.specs.Reading.{IsSeenIn, entries_seen}
+use Rattle.gb_tree.specs.Tree.{contents_at}
+use Rattle.gb_tree.proofs.completing.complete_all.Given as goal
+
+abbrev pub invariant-loop-one : goal.invariant-loop-one
+invariant-loop-one g l =
+    let contents = g.F.Folder.contents in
+    let old = (contents l.fn.folder).files in
+    let done = take (length l.yielded) l.fn.seen.items in
+    record {
+      can_next : (goal.iterator-loop-one g).can_next l.one-iterator;
+      is_finite : (goal.iterator-loop-one g).is_finite l.one-iterator;
+      count : g.F.Folder.failures l.fn.folder ≤ g.F.Folder.failures l.folder;
+      tearing : SameTearing (g.F.Folder.may_leave l.fn.folder) (g.F.Folder.may_leave l.folder);
+      same : IsTrue g.F.Folder.tells → contents l.folder ≡ contents l.fn.folder;
+      digests : l.digests.items ≡ digests_of l.files;
+      paths : map (λ file. file.0) l.files ≡ map (λ file. file.path) done;
+      read : IsTrue g.F.Folder.tells → AllByRecursion (IsSeenIn old) l.fn.seen.items → l.files ≡ contents_at old (entries_seen done);
+    }

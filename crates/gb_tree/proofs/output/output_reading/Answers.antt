@@ -1,0 +1,64 @@
+use Rattle.std.proofs.Common.{arith, IsTrue, ◌++◌, IfErr, ℕ, List, sym, subst, ap, ◌∙◌}
+use Rattle.std.proofs.lemmas.Result.{err_from_is_err_and}
+use Rattle.std.specs.List.{AllByRecursion}
+use Rattle.gb_core.specs.Place.{is_under}
+use Rattle.gb_folder.specs.Files.{Contents, Place}
+use Rattle.gb_tree.specs.Reading.{IsSeenIn, digests_seen}
+use Rattle.gb_tree.specs.Tree.{IsRefused, is_among, output_entries, output_faults, output_listing_faults, too_large}
+use Rattle.gb_tree.specs.declared.kept.SeenFile.{SeenFile}
+use Rattle.gb_tree.proofs.Blame.{among_read, blamed_before}
+use Rattle.gb_tree.proofs.Refused.{at_err}
+use Rattle.gb_tree.proofs.Seen.{at_entries, seen_digests}
+use Rattle.gb_tree.proofs.Told.{outputs_stand, refused_listing, refused_reading}
+use Rattle.gb_tree.proofs.output.output_reading.Goals as goal
+
+pub returns-in_err-seen-clause-err : goal.returns-in_err-seen-clause-err
+returns-in_err-seen-clause-err g c = λ tells.
+    let p = err_from_is_err_and c.from_residual-in_err-seen.result c.from_residual-in_err-seen.ensures.1 in
+    let failures = g.F.Folder.failures in
+    let old = g.F.Folder.contents c.args.folder.now in
+    let name = c.args.name.now in
+    let root = c.args.place.now in
+    let entries = output_entries old.files root in
+    let listing = output_listing_faults name root old in
+    at_err (λ r. IfErr r (λ fault. IsRefused (failures c.args.folder.now) (failures c.see_all.new.folder) (listing ++ too_large old.files entries) fault)) c.from_residual-in_err-seen.result p.0 c.in_err-seen.field-0.0 p.1 p.2
+    (refused_reading (failures c.args.folder.now) _ _ old _ listing entries c.as_slice.result.now c.in_err-seen.field-0.0 (c.in_ok-entries.ensures.same tells) (c.as_slice.ensures.value ∙ c.in_ok-entries.ensures.entries tells)
+    c.in_ok-entries.ensures.count c.in_err-seen.ensures.count (c.in_ok-entries.ensures.fit tells) (outputs_stand old.files root) (c.in_err-seen.ensures.err tells))
+
+pub returns-in_err-entries-clause-blame : goal.returns-in_err-entries-clause-blame
+returns-in_err-entries-clause-blame g c =
+    let p = err_from_is_err_and c.from_residual.result c.from_residual.ensures.1 in
+    let IsSuch : Place → Type 0 = λ at. IsTrue (is_under at c.args.place.now) in
+    blamed_before IsSuch IsSuch _ _ _ _ c.in_err-entries.field-0.0 p.0 (omega arith) c.in_err-entries.ensures.count p.1 p.2 (λ at h. h) c.in_err-entries.ensures.blame
+
+pub returns-in_err-entries-clause-err : goal.returns-in_err-entries-clause-err
+returns-in_err-entries-clause-err g c = λ tells.
+    let p = err_from_is_err_and c.from_residual.result c.from_residual.ensures.1 in
+    let failures = g.F.Folder.failures in
+    let old = g.F.Folder.contents c.args.folder.now in
+    at_err (λ r. IfErr r (λ fault. IsRefused (failures c.args.folder.now) (failures c.entries_at.new.folder) (output_faults c.args.name.now c.args.place.now old) fault)) c.from_residual.result p.0 c.in_err-entries.field-0.0 p.1 p.2
+    (refused_listing _ _ (output_listing_faults c.args.name.now c.args.place.now old) _ _ (c.in_err-entries.ensures.err tells))
+
+pub returns-in_err-seen-clause-blame : goal.returns-in_err-seen-clause-blame
+returns-in_err-seen-clause-blame g c =
+    let p = err_from_is_err_and c.from_residual-in_err-seen.result c.from_residual-in_err-seen.ensures.1 in
+    let read = c.as_slice.result.now in
+    let IsSuch : Place → Type 0 = λ at. IsTrue (is_under at c.args.place.now) in
+    blamed_before (λ at. IsTrue (is_among read at)) IsSuch _ _ _ _ c.in_err-seen.field-0.0 p.0 c.in_ok-entries.ensures.count c.in_err-seen.ensures.count p.1 p.2
+    (among_read IsSuch c.in_ok-entries.entries.items read c.as_slice.ensures.value c.in_ok-entries.ensures.under) c.in_err-seen.ensures.blame
+
+pub returns-clause-under : goal.returns-clause-under
+returns-clause-under g c =
+    let IsSuch : Place → Type 0 = λ at. IsTrue (is_under at c.args.place.now) in
+    subst (λ (reading : List ℕ × List SeenFile). AllByRecursion (λ seen. IsSuch seen.place) reading.1) (sym c.new.ensures)
+    (at_entries IsSuch c.in_ok-entries.entries.items c.in_ok-seen.seen.items (c.in_ok-seen.ensures.placed ∙ c.as_slice.ensures.value) c.in_ok-entries.ensures.under)
+
+pub returns-clause-digests : goal.returns-clause-digests
+returns-clause-digests g c = λ tells.
+    let files = (g.F.Folder.contents c.args.folder.now).files in
+    let seen = c.in_ok-seen.seen.items in
+    ap (λ (reading : List ℕ × List SeenFile). digests_seen reading.1) c.new.ensures
+    ∙ seen_digests files (output_entries files c.args.place.now) seen (record {
+      placed = c.in_ok-seen.ensures.placed ∙ c.as_slice.ensures.value ∙ c.in_ok-entries.ensures.entries tells;
+      each = subst (λ (now : Contents). AllByRecursion (IsSeenIn now.files) seen) (c.in_ok-entries.ensures.same tells) (c.in_ok-seen.ensures.seen tells);
+    })

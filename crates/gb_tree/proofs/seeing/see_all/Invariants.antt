@@ -1,0 +1,21 @@
+use Rattle.std.proofs.Common.{◌≡◌, ◌≤◌, IsTrue, drop, take}
+use Rattle.std.specs.List.{AllByRecursion, list_all}
+use Rattle.gb_core.specs.Lists.{first_of}
+use Rattle.gb_folder.specs.Files.{SameTearing}
+use Rattle.gb_tree.specs.Reading.{IsSeenIn, entries_seen, is_digest_of}
+use Rattle.gb_tree.specs.Tree.{too_large}
+use Rattle.gb_tree.proofs.seeing.see_all.Given as goal
+
+abbrev pub invariant-loop-path : goal.invariant-loop-path
+invariant-loop-path g l =
+    let contents = g.F.Folder.contents in
+    let old = (contents l.fn.folder).files in
+    record {
+      count : g.F.Folder.failures l.fn.folder ≤ g.F.Folder.failures l.folder;
+      tearing : SameTearing (g.F.Folder.may_leave l.fn.folder) (g.F.Folder.may_leave l.folder);
+      same : IsTrue g.F.Folder.tells → contents l.folder ≡ contents l.fn.folder;
+      placed : entries_seen l.seen.items ≡ take l.path-index l.entries;
+      digested : IsTrue (list_all (λ file. is_digest_of file.kept file.digest) l.seen.items);
+      each : IsTrue g.F.Folder.tells → AllByRecursion (IsSeenIn old) l.seen.items;
+      large : IsTrue g.F.Folder.tells → first_of (too_large old (drop l.path-index l.entries)) ≡ first_of (too_large old l.entries);
+    }

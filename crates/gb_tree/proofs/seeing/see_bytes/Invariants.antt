@@ -1,0 +1,20 @@
+use Rattle.std.proofs.Common.{◌≡◌, ◌≤◌, ◌*◌, IsTrue, length, take}
+use Rattle.sha2.specs.Hashers.{Holds256}
+use Rattle.gb_tree.specs.Tree.{bytes_at}
+use Rattle.gb_folder.specs.Files.{SameTearing}
+use Rattle.gb_tree.proofs.seeing.see_bytes.Given as goal
+
+abbrev pub invariant-loop-index : goal.invariant-loop-index
+invariant-loop-index g l =
+    let contents = g.F.Folder.contents in
+    let bytes = bytes_at (contents l.fn.folder).files l.place in
+    record {
+      count : g.F.Folder.failures l.fn.folder ≤ g.F.Folder.failures l.folder;
+      tearing : SameTearing (g.F.Folder.may_leave l.fn.folder) (g.F.Folder.may_leave l.folder);
+      same : IsTrue g.F.Folder.tells → contents l.folder ≡ contents l.fn.folder;
+      most : l.index ≤ 128;
+      more : IsTrue g.F.Folder.tells → l.index * 65536 ≤ length bytes;
+      held : IsTrue g.F.Folder.tells → Holds256 l.hasher (take (l.index * 65536) bytes);
+      whole : IsTrue l.is_whole → Holds256 l.hasher l.gathered.items;
+      gathered : IsTrue g.F.Folder.tells → IsTrue l.is_whole → l.gathered.items ≡ take (l.index * 65536) bytes;
+    }

@@ -1,0 +1,84 @@
+//! What was read is completed: of the files whose bytes were not kept, the bytes are read and digested anew.
+ghost use Rattle.std.specs.Prelude.{◌≡◌, ◌≤◌, map, IsTrue, IfOk, IfErr};
+ghost use Rattle.std.specs.List.{AllByRecursion};
+ghost use Rattle.std.specs.FinMap.Entries.{is_sorted};
+ghost use Rattle.gb_core.specs.Lists.{byte_order};
+ghost use Rattle.gb_folder.specs.Files.{SameTearing};
+ghost use Rattle.gb_tree.specs.Tree.{Blames, IsTreeFaultOfMachine, bytes_at, contents_at, is_among};
+ghost use Rattle.gb_tree.specs.Prints.{digests_of};
+ghost use Rattle.gb_tree.specs.Reading.{IsReading, IsSeenIn, entries_seen, is_digest_of};
+ghost use Rattle.sha2.specs.Sha256.{sha256};
+
+use crate::fault::TreeFault;
+use crate::kept::SeenFile;
+use crate::reading::read_file;
+use gb_action::files::Files;
+use gb_core::bytes::Bytes;
+use gb_core::place::RelPath;
+use gb_folder::folder::Folder;
+use sha2::{Digest, Sha256};
+use std::alloc::Global;
+
+/// The path of one file, its bytes and their digest.
+fn complete<F: Folder>(
+    alloc: Global,
+    folder: &mut F,
+    seen: SeenFile,
+) -> Result<(RelPath, Bytes, [u8; 32]), TreeFault>
+    requires { IsTrue (is_digest_of seen.kept seen.digest) }
+    ensures count { F.failures folder.old ≤ F.failures folder.new }
+    ensures blame { Blames (λ at. at ≡ seen.place)
+        (F.failures folder.old) (F.failures folder.new) result }
+    ensures tearing { SameTearing (F.may_leave folder.old) (F.may_leave folder.new) }
+    ensures same { IsTrue F.tells → F.contents folder.new ≡ F.contents folder.old }
+    ensures path { IfOk result (λ made. made.0 ≡ seen.path) }
+    ensures digest { IfOk result (λ made. made.2 ≡ sha256 made.1) }
+    ensures read { IsTrue F.tells → IsSeenIn (F.contents folder.old).files seen
+        → IfOk result (λ made. made.1 ≡ bytes_at (F.contents folder.old).files seen.place) }
+    ensures err { IsTrue F.tells → IsSeenIn (F.contents folder.old).files seen
+        → IfErr result (IsTreeFaultOfMachine (F.failures folder.old) (F.failures folder.new)) }
+{
+    let SeenFile {
+        path,
+        place,
+        digest,
+        kept,
+    } = seen;
+    if let Some(bytes) = kept {
+        return Ok((path, bytes, digest));
+    }
+    let bytes = read_file(alloc, folder, &place)?;
+    let anew = Sha256::digest(bytes.as_slice());
+    Ok((path, bytes, anew))
+}
+
+/// The bytes of the files and their digests, by their paths.
+pub(crate) fn complete_all<F: Folder>(
+    alloc: Global,
+    folder: &mut F,
+    seen: Vec<SeenFile>,
+) -> Result<(Files, Vec<(RelPath, [u8; 32])>), TreeFault>
+    requires { IsReading seen.items }
+    ensures count { F.failures folder.old ≤ F.failures folder.new }
+    ensures blame { Blames (λ at. IsTrue (is_among (entries_seen seen.items) at))
+        (F.failures folder.old) (F.failures folder.new) result }
+    ensures tearing { SameTearing (F.may_leave folder.old) (F.may_leave folder.new) }
+    ensures same { IsTrue F.tells → F.contents folder.new ≡ F.contents folder.old }
+    ensures digests { IfOk result (λ made. made.1.items ≡ digests_of made.0) }
+    ensures ordered { IfOk result (λ made. IsTrue (is_sorted byte_order made.1.items)) }
+    ensures paths { IfOk result
+        (λ made. map (λ file. file.0) made.0 ≡ map (λ file. file.path) seen.items) }
+    ensures read { IsTrue F.tells → AllByRecursion (IsSeenIn (F.contents folder.old).files) seen.items
+        → IfOk result (λ made. made.0 ≡ contents_at (F.contents folder.old).files (entries_seen seen.items)) }
+    ensures err { IsTrue F.tells → AllByRecursion (IsSeenIn (F.contents folder.old).files) seen.items
+        → IfErr result (IsTreeFaultOfMachine (F.failures folder.old) (F.failures folder.new)) }
+{
+    let mut files = Files::new(alloc);
+    let mut digests = Vec::with_capacity(alloc, seen.len())?;
+    for one in seen {
+        let (path, bytes, digest) = complete(alloc, folder, one)?;
+        digests.push((path.copy()?, digest))?;
+        files.insert(path, bytes)?;
+    }
+    Ok((files, digests))
+}

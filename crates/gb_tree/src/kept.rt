@@ -1,0 +1,114 @@
+//! Files as they were read once, of which the bytes are kept as far as there is room.
+ghost use Rattle.std.specs.Prelude.{◌≡◌, ◌≤◌, ◌↔◌, [], map, IsTrue, IfOk, IfErr};
+ghost use Rattle.std.specs.List.{AllByRecursion};
+ghost use Rattle.gb_folder.specs.Files.{SameTearing};
+ghost use Rattle.gb_tree.specs.Tree.{Blames, IsTreeFaultOfMachine, contents_at, is_among};
+ghost use Rattle.gb_tree.specs.Prints.{digests_of};
+
+use crate::completing::complete_all;
+use crate::fault::TreeFault;
+use crate::prints::Prints;
+use gb_action::snapshot::Snapshot;
+use gb_core::bytes::Bytes;
+use gb_core::name::Name;
+use gb_core::place::{Place, RelPath};
+use gb_folder::folder::Folder;
+use std::alloc::{AllocError, Global};
+use std::marker::Model;
+
+/// A file as it was read.
+#[derive(Drop)]
+pub struct SeenFile {
+    /// Its path in the tree.
+    pub path: RelPath,
+    /// Where it stands.
+    pub place: Place,
+    /// The digest (SHA-256) of its bytes.
+    pub digest: [u8; 32],
+    /// Its bytes, where they are kept.
+    pub kept: Option<Bytes>,
+}
+
+/// The files of a property or an output as they were read, beside its name.
+#[derive(Drop)]
+pub struct Reading {
+    name: Name,
+    /// Strictly in the byte order of the paths.
+    files: Vec<SeenFile>,
+}
+
+impl Model for Reading {
+    ghost use Rattle.std.specs.Prelude.{List, ℕ};
+    ghost use Rattle.gb_tree.specs.declared.kept.SeenFile.{SeenFile};
+    ghost use Rattle.gb_tree.specs.Reading.{IsReading};
+
+    ghost Value = { List ℕ × List SeenFile };
+
+    ghost view = { λ r. (r.name, r.files.items) };
+
+    ghost invariant = { λ r. IsReading r.files.items };
+}
+
+impl Reading {
+    ghost use Rattle.gb_tree.specs.Reading.{IsReading, IsSeenIn, digests_seen, entries_seen};
+
+    pub(crate) fn new(name: Name, files: Vec<SeenFile>) -> Reading
+        requires { IsReading files.items }
+        ensures { result ≡ (name, files.items) }
+    {
+        Reading { name, files }
+    }
+
+    pub fn name(&self) -> &Name
+        ensures { result.now ≡ self.now.0 }
+    {
+        &self.name
+    }
+
+    pub fn is_empty(&self) -> bool
+        ensures { IsTrue result ↔ (self.now.1 ≡ []) }
+    {
+        self.files.is_empty()
+    }
+
+    /// The digests that were taken as the files were read.
+    pub fn prints(&self, alloc: Global) -> Result<Prints, AllocError>
+        ensures { IfOk result (λ prints. prints ≡ (self.now.0, digests_seen self.now.1)) }
+    {
+        let mut digests = Vec::with_capacity(alloc, self.files.len())?;
+        for seen in self.files.iter() {
+            digests.push((seen.path.copy()?, seen.digest))?;
+        }
+        Ok(Prints::new(self.name.copy()?, digests))
+    }
+
+    /// The files with their bytes, and the digests of these very bytes. What was kept is handed on; the
+    /// rest is read whole and digested anew, since a file may have changed.
+    pub fn completed<F: Folder>(
+        self,
+        alloc: Global,
+        folder: &mut F,
+    ) -> Result<(Snapshot, Prints), TreeFault>
+        ensures count { F.failures folder.old ≤ F.failures folder.new }
+        ensures blame { Blames (λ at. IsTrue (is_among (entries_seen self.1) at))
+            (F.failures folder.old) (F.failures folder.new) result }
+        ensures tearing { SameTearing (F.may_leave folder.old) (F.may_leave folder.new) }
+        ensures same { IsTrue F.tells → F.contents folder.new ≡ F.contents folder.old }
+        ensures named { IfOk result (λ made. made.0.0 ≡ self.0) }
+        ensures prints { IfOk result (λ made. made.1 ≡ (self.0, digests_of made.0.1)) }
+        ensures paths { IfOk result
+            (λ made. map (λ file. file.0) made.0.1 ≡ map (λ file. file.path) self.1) }
+        ensures tree { IsTrue F.tells → AllByRecursion (IsSeenIn (F.contents folder.old).files) self.1
+            → IfOk result
+            (λ made. made.0.1 ≡ contents_at (F.contents folder.old).files (entries_seen self.1)) }
+        ensures err { IsTrue F.tells → AllByRecursion (IsSeenIn (F.contents folder.old).files) self.1
+            → IfErr result (IsTreeFaultOfMachine (F.failures folder.old) (F.failures folder.new)) }
+    {
+        let Reading { name, files } = self;
+        let (files, digests) = complete_all(alloc, folder, files)?;
+        Ok((
+            Snapshot::new(name.copy()?, files),
+            Prints::new(name, digests),
+        ))
+    }
+}

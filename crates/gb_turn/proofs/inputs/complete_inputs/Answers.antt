@@ -1,0 +1,98 @@
+use Rattle.std.proofs.Common.{arith, IsTrue, IfErr, ℕ, List, length, map, take, sym, ◌∙◌, ap, subst}
+use Rattle.std.proofs.lemmas.Iterator.Adapters.{YieldsList-from_vec}
+use Rattle.std.proofs.lemmas.Iterator.Consumers.{YieldsList-end, YieldsList-turn}
+use Rattle.std.proofs.lemmas.List.{length_push, take_all}
+use Rattle.std.proofs.lemmas.Result.{err_from_is_err_and}
+use Rattle.std.specs.List.{AllByRecursion}
+use Rattle.gb_action.specs.Files.{Tree}
+use Rattle.gb_folder.proofs.Changes.{SameTearing-chain}
+use Rattle.gb_folder.specs.Files.{Contents}
+use Rattle.gb_history.specs.Remembered.{Prints}
+use Rattle.gb_store.proofs.Loops.{all_at}
+use Rattle.gb_store.proofs.Machine.{at_err, handed_on, machine_before}
+use Rattle.gb_store.specs.Faults.{IsOfMachine}
+use Rattle.gb_tree.specs.Prints.{digests_of}
+use Rattle.gb_tree.specs.Reading.{entries_seen}
+use Rattle.gb_tree.specs.Tree.{contents_at}
+use Rattle.gb_turn.specs.Reading.{Read, is_input_of}
+use Rattle.gb_turn.proofs.Loops.{name_more}
+use Rattle.gb_turn.proofs.Readings.{Stands, among_within, gathered_more, inputs_stand, mapped_more, pair_is, tree_made, trees_made}
+use Rattle.gb_turn.proofs.inputs.complete_inputs.Goals as goal
+
+pub returns-in_err-tree-clause-blamed : goal.returns-in_err-tree-clause-blamed
+returns-in_err-tree-clause-blamed g c = λ place device.
+    let p = err_from_is_err_and c.from_residual.result c.from_residual.ensures.1 in
+    let readings = c.args.readings.items in
+    let x : Read = c.in-Some.reading in
+    let gives = c.into_iter-reading-iterator.ensures.into_iter_gives in
+    let turn = YieldsList-turn (YieldsList-from_vec {s = c.into_iter-reading-iterator.result} readings gives.0 (gives.1 ∙ c.args.readings.ok.0)) c.loop-reading.yielded c.loop-reading.reading-iterator c.loop-reading.yielded_by c.next.result c.next.new.self x c.in-Some.is c.next.ensures.steps in
+    among_within (is_input_of c.args.task.now) x.1 (all_at (λ (reading : Read). AllByRecursion (λ seen. IsTrue (is_input_of c.args.task.now seen.place)) reading.1) readings (length c.loop-reading.yielded) x turn.0 turn.1 c.requires.within) place
+    (c.complete.ensures.blamed place (handed_on c.from_residual.result c.complete.result p.0 c.in_err-tree.field-0.0 place p.1 p.2 c.in_err-tree.was device))
+
+pub returns-in_err-tree-clause-err : goal.returns-in_err-tree-clause-err
+returns-in_err-tree-clause-err g c = λ tells seen.
+    let p = err_from_is_err_and c.from_residual.result c.from_residual.ensures.1 in
+    let failures = g.F.Folder.failures in
+    let old = (g.F.Folder.contents c.args.folder.now).files in
+    let readings = c.args.readings.items in
+    let x : Read = c.in-Some.reading in
+    let gives = c.into_iter-reading-iterator.ensures.into_iter_gives in
+    let turn = YieldsList-turn (YieldsList-from_vec {s = c.into_iter-reading-iterator.result} readings gives.0 (gives.1 ∙ c.args.readings.ok.0)) c.loop-reading.yielded c.loop-reading.reading-iterator c.loop-reading.yielded_by c.next.result c.next.new.self x c.in-Some.is c.next.ensures.steps in
+    let stands = all_at (Stands old) readings (length c.loop-reading.yielded) x turn.0 turn.1 (inputs_stand old c.args.task.now.files readings seen) in
+    at_err (λ r. IfErr r (IsOfMachine (failures c.args.folder.now) (failures c.complete.new.folder))) c.from_residual.result p.0 c.in_err-tree.field-0.0 p.1 p.2
+    (machine_before _ _ _ _ c.loop-reading.invariant.count c.complete.ensures.count
+    (c.in_err-tree.ensures.err tells (subst (λ (now : Contents). Stands now.files x) (sym (c.loop-reading.invariant.same tells)) stands)))
+
+pub loop-reading-preserved : goal.loop-reading-preserved
+loop-reading-preserved g c =
+    let old = (g.F.Folder.contents c.args.folder.now).files in
+    let so_far = c.loop-reading.invariant in
+    let readings = c.args.readings.items in
+    let n = length c.loop-reading.yielded in
+    let x : Read = c.in-Some.reading in
+    let gives = c.into_iter-reading-iterator.ensures.into_iter_gives in
+    let turn = YieldsList-turn (YieldsList-from_vec {s = c.into_iter-reading-iterator.result} readings gives.0 (gives.1 ∙ c.args.readings.ok.0)) c.loop-reading.yielded c.loop-reading.reading-iterator c.loop-reading.yielded_by c.next.result c.next.new.self x c.in-Some.is c.next.ensures.steps in
+    let next = sym (length_push c.loop-reading.yielded x) in
+    let tree : List ℕ × Tree = c.in_ok-tree.tree in
+    let found : Prints = c.in_ok-tree.found in
+    let one = c.in_ok-tree.ensures in
+    let trees = c.loop-reading.trees in
+    let more = c.in_ok-push-2.ensures.ok in
+    record {
+      can_next = tt;
+      is_finite = tt;
+      count = omega (arith, so_far.count, c.complete.ensures.count);
+      tearing = SameTearing-chain _ _ _ so_far.tearing c.complete.ensures.tearing;
+      same = λ tells. c.complete.ensures.same tells ∙ so_far.same tells;
+      named =
+          name_more (λ (t : List ℕ × Tree). t.0) (λ (reading : Read). reading.0) trees c.push-in-loop-reading.new.self tree readings n x turn.0 turn.1 so_far.named more one.named
+          ∙ ap (λ k. map (λ (reading : Read). reading.0) (take k readings)) next;
+      digests =
+          mapped_more (λ (t : List ℕ × Tree). let p : Prints = (t.0, digests_of t.1) in p) trees c.push-in-loop-reading.new.self tree c.loop-reading.prints.items c.push.new.self.items found so_far.digests c.in_ok-push.ensures.items more
+          (one.digests ∙ ap (λ (name : List ℕ). let p : Prints = (name, digests_of tree.1) in p) (sym one.named));
+      trees = λ tells all.
+          let stands = all_at (Stands old) readings n x turn.0 turn.1 all in
+          gathered_more (tree_made old) trees c.push-in-loop-reading.new.self tree readings n x turn.0 turn.1 more
+          (pair_is tree x.0 (contents_at old (entries_seen x.1)) one.named
+          (one.tree tells (subst (λ (now : Contents). Stands now.files x) (sym (so_far.same tells)) stands) ∙ ap (λ now. contents_at now.files (entries_seen x.1)) (so_far.same tells)))
+          (so_far.trees tells all)
+          ∙ ap (λ k. map (tree_made old) (take k readings)) next;
+    }
+
+pub returns-clause-named : goal.returns-clause-named
+returns-clause-named g c =
+    let readings = c.args.readings.items in
+    let gives = c.into_iter-reading-iterator.ensures.into_iter_gives in
+    let end = YieldsList-end (YieldsList-from_vec {s = c.into_iter-reading-iterator.result} readings gives.0 (gives.1 ∙ c.args.readings.ok.0)) c.loop-reading.yielded c.loop-reading.reading-iterator c.loop-reading.yielded_by c.next.result c.next.new.self c.in-None.is c.next.ensures.steps in
+    c.loop-reading.invariant.named ∙ ap (map (λ (reading : Read). reading.0)) (take_all (length c.loop-reading.yielded) readings (omega (arith, end.1))) ∙ c.requires.named
+
+pub returns-clause-trees : goal.returns-clause-trees
+returns-clause-trees g c = λ tells seen.
+    let old = (g.F.Folder.contents c.args.folder.now).files in
+    let files = c.args.task.now.files in
+    let readings = c.args.readings.items in
+    let gives = c.into_iter-reading-iterator.ensures.into_iter_gives in
+    let end = YieldsList-end (YieldsList-from_vec {s = c.into_iter-reading-iterator.result} readings gives.0 (gives.1 ∙ c.args.readings.ok.0)) c.loop-reading.yielded c.loop-reading.reading-iterator c.loop-reading.yielded_by c.next.result c.next.new.self c.in-None.is c.next.ensures.steps in
+    c.loop-reading.invariant.trees tells (inputs_stand old files readings seen)
+    ∙ ap (map (tree_made old)) (take_all (length c.loop-reading.yielded) readings (omega (arith, end.1)))
+    ∙ trees_made old files readings c.requires.named seen

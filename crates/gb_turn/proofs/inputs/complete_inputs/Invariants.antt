@@ -1,0 +1,22 @@
+use Rattle.std.proofs.Common.{◌≡◌, ◌≤◌, IsTrue, length, map, take}
+use Rattle.std.specs.List.{AllByRecursion}
+use Rattle.gb_folder.specs.Files.{SameTearing}
+use Rattle.gb_turn.specs.Reading.{digests_in}
+use Rattle.gb_turn.proofs.Readings.{Stands, tree_made}
+use Rattle.gb_turn.proofs.inputs.complete_inputs.Given as goal
+
+abbrev pub invariant-loop-reading : goal.invariant-loop-reading
+invariant-loop-reading g l =
+    let contents = g.F.Folder.contents in
+    let old = (contents l.fn.folder).files in
+    let done = take (length l.yielded) l.fn.readings.items in
+    record {
+      can_next : (goal.iterator-loop-reading g).can_next l.reading-iterator;
+      is_finite : (goal.iterator-loop-reading g).is_finite l.reading-iterator;
+      count : g.F.Folder.failures l.fn.folder ≤ g.F.Folder.failures l.folder;
+      tearing : SameTearing (g.F.Folder.may_leave l.fn.folder) (g.F.Folder.may_leave l.folder);
+      same : IsTrue g.F.Folder.tells → contents l.folder ≡ contents l.fn.folder;
+      named : map (λ tree. tree.0) l.trees ≡ map (λ reading. reading.0) done;
+      digests : l.prints.items ≡ digests_in l.trees;
+      trees : IsTrue g.F.Folder.tells → AllByRecursion (Stands old) l.fn.readings.items → l.trees ≡ map (tree_made old) done;
+    }

@@ -1,0 +1,23 @@
+use Rattle.std.proofs.Common.{◌≡◌, ◌≤◌, IsTrue, length, map, take}
+use Rattle.std.specs.List.{AllByRecursion, zip}
+use Rattle.gb_folder.specs.Files.{SameTearing}
+use Rattle.gb_turn.specs.Reading.{prints_seen}
+use Rattle.gb_turn.proofs.Readings.{Stands, form_of, output_made}
+use Rattle.gb_turn.proofs.outputs.complete_outputs.Given as goal
+
+abbrev pub invariant-loop-output : goal.invariant-loop-output
+invariant-loop-output g l =
+    let contents = g.F.Folder.contents in
+    let old = (contents l.fn.folder).files in
+    let pairs = zip l.task.outputs l.fn.readings.items in
+    let done = take (length l.yielded) pairs in
+    record {
+      can_next : (goal.iterator-loop-output g).can_next l.output-iterator;
+      is_finite : (goal.iterator-loop-output g).is_finite l.output-iterator;
+      count : g.F.Folder.failures l.fn.folder ≤ g.F.Folder.failures l.folder;
+      tearing : SameTearing (g.F.Folder.may_leave l.fn.folder) (g.F.Folder.may_leave l.folder);
+      same : IsTrue g.F.Folder.tells → contents l.folder ≡ contents l.fn.folder;
+      formed : map (λ output. (output.name, output.form)) l.seen ≡ map form_of done;
+      digests : l.prints.items ≡ prints_seen l.seen;
+      files : IsTrue g.F.Folder.tells → AllByRecursion (λ pair. Stands old pair.1) pairs → l.seen ≡ map (output_made old) done;
+    }

@@ -1,0 +1,22 @@
+use Rattle.std.proofs.Common.{◌≡◌, ◌≤◌, [], take, map, IsTrue}
+use Rattle.std.specs.List.{AllZip, flat_map}
+use Rattle.gb_folder.specs.Files.{SameTearing}
+use Rattle.gb_plan.specs.Task.{is_output_of}
+use Rattle.gb_turn.specs.Reading.{AreWithin, IsOutputSeen, print_faults, prints_read, recorded_of}
+use Rattle.gb_turn.proofs.outputs.read_outputs.Given as goal
+
+abbrev pub invariant-loop-output : goal.invariant-loop-output
+invariant-loop-output g l =
+    let contents = g.F.Folder.contents in
+    let old = contents l.fn.folder in
+    let done = take l.output-index l.task.outputs in
+    record {
+      count : g.F.Folder.failures l.fn.folder ≤ g.F.Folder.failures l.folder;
+      tearing : SameTearing (g.F.Folder.may_leave l.fn.folder) (g.F.Folder.may_leave l.folder);
+      same : IsTrue g.F.Folder.tells → contents l.folder ≡ old;
+      named : map (λ reading. reading.0) l.readings.items ≡ map (λ output. output.name) done;
+      within : AreWithin (is_output_of l.task) l.readings.items;
+      prints : IsTrue g.F.Folder.tells → prints_read l.readings.items ≡ map (λ output. (recorded_of old.files output).prints) done;
+      seen : IsTrue g.F.Folder.tells → AllZip (IsOutputSeen old.files) done l.readings.items;
+      fit : IsTrue g.F.Folder.tells → flat_map (print_faults old) done ≡ [];
+    }

@@ -1,0 +1,41 @@
+//! One reading is completed for a run.
+ghost use Rattle.std.specs.Prelude.{◌≡◌, ◌≤◌, IsTrue, IfOk, IfErr};
+ghost use Rattle.std.specs.List.{AllByRecursion};
+ghost use Rattle.gb_folder.specs.Files.{SameTearing};
+ghost use Rattle.gb_store.specs.Faults.{Blames, BlamesOnly, IsOfMachine};
+ghost use Rattle.gb_tree.specs.Prints.{digests_of};
+ghost use Rattle.gb_tree.specs.Reading.{IsSeenIn, entries_seen};
+ghost use Rattle.gb_tree.specs.Tree.{contents_at, is_among};
+
+use crate::fault::told;
+use gb_action::snapshot::Snapshot;
+use gb_folder::folder::Folder;
+use gb_report::fault::Fault;
+use gb_tree::kept::Reading;
+use gb_tree::prints::Prints;
+use std::alloc::Global;
+
+/// One tree whole, and the digests of this very tree.
+pub(crate) fn complete<F: Folder>(
+    alloc: Global,
+    folder: &mut F,
+    reading: Reading,
+) -> Result<(Snapshot, Prints), Fault>
+    ensures count { F.failures folder.old ≤ F.failures folder.new }
+    ensures blame { Blames result (F.failures folder.old) (F.failures folder.new) }
+    ensures blamed { BlamesOnly (is_among (entries_seen reading.1)) result }
+    ensures tearing { SameTearing (F.may_leave folder.old) (F.may_leave folder.new) }
+    ensures same { IsTrue F.tells → F.contents folder.new ≡ F.contents folder.old }
+    ensures named { IfOk result (λ made. made.0.0 ≡ reading.0) }
+    ensures digests { IfOk result (λ made. made.1 ≡ (reading.0, digests_of made.0.1)) }
+    ensures tree { IsTrue F.tells → AllByRecursion (IsSeenIn (F.contents folder.old).files) reading.1
+        → IfOk result
+        (λ made. made.0.1 ≡ contents_at (F.contents folder.old).files (entries_seen reading.1)) }
+    ensures err { IsTrue F.tells → AllByRecursion (IsSeenIn (F.contents folder.old).files) reading.1
+        → IfErr result (IsOfMachine (F.failures folder.old) (F.failures folder.new)) }
+{
+    match reading.completed(alloc, folder) {
+        Ok(made) => Ok(made),
+        Err(fault) => Err(told(fault)),
+    }
+}
