@@ -27,8 +27,8 @@ use gb_turn::prints::prints_of;
 use std::alloc::{AllocError, Global};
 
 /// What is to be done with a task that has a source: by its record and by what it has now. Its outputs are
-/// listed once, and they are read only where there is a record that may count; of their bytes so many are kept.
-/// Nothing is changed, also not by an error: the first odd thing at its outputs (14), or the machine's.
+/// listed once, and they are read only where there is a record that may count; of their bytes so many are
+/// kept. Nothing is changed, also not by an error: the first odd thing at its outputs (14), or the machine's.
 pub fn decided<F: Folder>(
     alloc: Global,
     folder: &mut F,

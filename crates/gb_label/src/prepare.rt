@@ -40,12 +40,12 @@ pub struct Seen {
     pub outputs: Vec<Reading>,
 }
 
-/// How many bytes of a task's inputs are kept where its record may say that nothing is to be done, and as many
-/// of its outputs where it may go on by changes.
+/// How many bytes of a task's inputs are kept for its run, and as many of its outputs.
 const KEPT: u64 = 67_108_864;
 
 /// What a task's turn comes to, by its record, its inputs and its outputs as they stand. Nothing is changed,
-/// also not by an error: the first of what hinders reading its inputs or listing its outputs, or the machine's.
+/// also not by an error: the first of what hinders reading its inputs or listing its outputs, or the
+/// machine's.
 pub fn prepare<F: Folder>(
     alloc: Global,
     folder: &mut F,
