@@ -1,8 +1,8 @@
 //! What a task that may go on by changes comes to, on the very contents that its run works on.
 //!
-//! What the label read is taken, and what it did not keep is read now. So the decision is made once more, on the
-//! digests of exactly these contents: a file that somebody saved in between is a change like any other, and where
-//! outputs or other properties were changed the run is one in full.
+//! What the label read is taken, and what it did not keep is read now. So the decision is made once more, on
+//! the digests of exactly these contents: a file that somebody saved in between is a change like any other,
+//! and where outputs or other properties were changed the run is one in full.
 ghost use Rattle.std.specs.Prelude.{◌≡◌, ◌≤◌, ◌||◌, false, map, IsTrue, IfOk, IfErr, OnOk};
 ghost use Rattle.std.specs.List.{list_any};
 ghost use Rattle.gb_folder.specs.Files.{SameTearing, is_own};
