@@ -1,5 +1,5 @@
 //! The actions of a build by name.
-ghost use Rattle.std.specs.Prelude.{◌≡◌, [], ◌∷◌, ◌++◌, ◌↔◌, None, Some, MatchResult, OnOk, OnErr, IsErrOf, IsSome};
+ghost use Rattle.std.specs.Prelude.{◌≡◌, [], ◌∷◌, ◌++◌, ◌↔◌, None, Some, MatchResult, OnOk, OnErr, IfOk, IsErrOf, IsSome, map, string_bytes};
 ghost use Rattle.std.specs.FinMap.Entries.{find};
 ghost use Rattle.gb_core.specs.Lists.{byte_order};
 
@@ -102,8 +102,25 @@ impl<S: Drop> ActionTable<S> {
         ensures duplicate { IsErrOf result TableFault.DuplicateAction ↔ IsSome (find byte_order name.now self.old) }
         ensures err { OnErr result (self.new ≡ self.old) }
     {
-        self.entries.add(name, stored)?;
+        self.add_under(name.as_str(), stored)
+    }
+
+    /// The same under the text of a name, as [`ActionTable::into_entries`] gives it.
+    pub fn add_under(&mut self, name: &str, stored: S) -> Result<(), TableFault>
+        ensures ok { OnOk result (self.new ≡ self.old ++ (name.now, stored) ∷ []) }
+        ensures absent { OnOk result (find byte_order name.now self.old ≡ None) }
+        ensures duplicate { IsErrOf result TableFault.DuplicateAction ↔ IsSome (find byte_order name.now self.old) }
+        ensures err { OnErr result (self.new ≡ self.old) }
+    {
+        self.entries.add_under(name, stored)?;
         Ok(())
+    }
+
+    /// The actions with the texts of their names, in order.
+    pub fn into_entries(self) -> Result<Vec<(String, S)>, AllocError>
+        ensures { IfOk result (λ entries. map (λ e. (string_bytes e.0, e.1)) entries.items ≡ self) }
+    {
+        self.entries.into_entries()
     }
 
     /// The action of the name. Takes no memory.

@@ -9,6 +9,8 @@ mod building;
 #[cfg(test)]
 mod commanding;
 #[cfg(test)]
+mod disturbing;
+#[cfg(test)]
 mod ending;
 #[cfg(test)]
 mod executing;
@@ -19,8 +21,12 @@ mod hearing;
 #[cfg(test)]
 mod listening;
 #[cfg(test)]
+mod noting;
+#[cfg(test)]
 mod offering;
 #[cfg(test)]
 mod stopping;
 #[cfg(test)]
 mod telling;
+#[cfg(test)]
+mod versions;

@@ -26,6 +26,13 @@ fn writing(alloc: Global) -> Result<StoredAction, Fail> {
     Ok(StoredAction::new(WRITE_TEXT, 1, shape, run))
 }
 
+/// The same kind in its next version.
+fn writing_anew(alloc: Global) -> Result<StoredAction, Fail> {
+    let shape = write_text_shape(alloc)?;
+    let run = Box::new(alloc, write_text)?;
+    Ok(StoredAction::new(WRITE_TEXT, 2, shape, run))
+}
+
 fn copying(alloc: Global) -> Result<StoredAction, Fail> {
     let shape = copy_files_shape(alloc)?;
     let run = Box::new(alloc, copy_files)?;
@@ -53,6 +60,16 @@ fn actions(alloc: Global) -> Result<ActionTable<StoredAction>, Fail> {
 /// What a build is handed: these kinds, and no function of values.
 pub fn offered(alloc: Global) -> Result<Handed<Builtin, Builtin>, Fail> {
     let actions = actions(alloc)?;
+    Ok(Tables {
+        actions,
+        transforms: FunctionTable::new(alloc),
+    })
+}
+
+/// What a build is handed by a program in which the kind that writes a text has its next version.
+pub fn offered_anew(alloc: Global) -> Result<Handed<Builtin, Builtin>, Fail> {
+    let mut actions = ActionTable::new(alloc);
+    add(alloc, &mut actions, "writeText", writing_anew(alloc)?)?;
     Ok(Tables {
         actions,
         transforms: FunctionTable::new(alloc),

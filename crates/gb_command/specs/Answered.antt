@@ -1,16 +1,19 @@
 -- What the program answers.
-use Rattle.std.specs.Prelude.{ℕ, ◌≡◌, ◌⊎◌, ◌∷◌, [], List, Result, IfOk, Ok, Err}
+use Rattle.std.specs.Prelude.{ℕ, ◌≡◌, ◌⊎◌, ◌∷◌, [], List, Result, Ok, Err}
 use Rattle.std.specs.Result.{result_map_both}
+use Rattle.gb_action.specs.Meanings.{Meanings}
+use Rattle.gb_folder.specs.Calls.{Asks, Call, no_change}
 use Rattle.gb_folder.specs.Files.{Tearing}
 use Rattle.gb_history.specs.Places.{record_place}
+use Rattle.gb_invocation.specs.Asked.{InvocationAsks}
 use Rattle.gb_invocation.specs.Scripts.{registers_in, setting_of}
 use Rattle.gb_meaning.specs.Edits.{Shown}
 use Rattle.gb_meaning.specs.Headline.{Agrees, EventKeeps, InvocationHolds, TearsAreSeen, answer_of}
 use Rattle.gb_meaning.specs.Every.{PromiseHolds}
 use Rattle.gb_meaning.specs.Kinds.{Kinds}
-use Rattle.gb_meaning.specs.Outline.{IsOutlined}
 use Rattle.gb_meaning.specs.declared.events.Event.TheVariants as events
 use Rattle.gb_meaning.specs.declared.events.Invocation.{Invocation}
+use Rattle.gb_plan.specs.Ready.{Rows}
 use Rattle.gb_records.specs.Said.{IsText}
 use Rattle.gb_registry.specs.Tables.{Tables}
 use Rattle.gb_report.specs.declared.fault.Fault.{Fault}
@@ -42,11 +45,15 @@ abbrev pub IsRefused : Given → Shown → Result Report Fault → Shown → Typ
 IsRefused given old answer new =
     (fault : Fault) × AreRefused given fault × (answer ≡ Err fault) × (new.contents ≡ old.contents)
 
--- Over any folder: a report is that of a plan of what the words ask for, of which each task starts and
--- answers as it may.
-abbrev pub IsOutlinedFor : Given → Result Report Fault → Type 0
-IsOutlinedFor given answer =
-    IfOk answer (λ report. (asked : Invocation) × AskFor given asked × IsOutlined asked report)
+-- Over any folder: a report is that of an invocation that the words ask for, which asks of the folder as it does;
+-- where there is none, no change is asked for.
+abbrev pub AsksFor : {F S : Type 0} → (F → ℕ) → (F → Tearing) → (F → Call → F → Type 0) → Meanings S → Rows S → Given
+    → Result Report Fault → F → F → Type 0
+AsksFor failures may_leave asked meanings rows given (Err fault) old new =
+    Asks failures may_leave asked no_change old new
+AsksFor failures may_leave asked meanings rows given (Ok report) old new =
+    (invocation : Invocation) × AskFor given invocation
+    × InvocationAsks failures may_leave asked meanings rows invocation (Ok report) old new
 
 module _ {M F Z S A : Type 0} (tables : Tables M F Z S A) (may_leave : Tearing) where
   -- It is one invocation by its definition, with what the scripts of the folder register, and so a plain step

@@ -6,7 +6,7 @@ ghost use Rattle.gb_meaning.specs.declared.events.Invocation.{Invocation};
 ghost use Rattle.gb_registry.specs.Tables.{tables_of};
 ghost use Rattle.gb_report.specs.declared.fault.Fault.{Fault};
 ghost use Rattle.gb_report.specs.declared.report.Report.{Report};
-ghost use Rattle.gb_command.specs.Answered.{Answers, AreRefused, AskFor, IsOutlinedFor, given_of};
+ghost use Rattle.gb_command.specs.Answered.{Answers, AreRefused, AskFor, AsksFor, given_of};
 
 use gb_action::actions::Actions;
 use gb_answer::answer::{answer_text, status_of};
@@ -53,7 +53,8 @@ pub fn run<A: Actions, T: Transforms, F: Folder, W: Write>(
         (record { contents = F.contents folder.old; failures = F.failures folder.old })
         answer
         (record { contents = F.contents folder.new; failures = F.failures folder.new }))
-        × IsOutlinedFor (given_of (λ words. map string_bytes words.items) words) answer
+        × AsksFor F.failures F.may_leave F.asked A.meanings tables.now.actions
+        (given_of (λ words. map string_bytes words.items) words) answer folder.old folder.new
         × IfSome result (λ status.
         Appends (W.contents writer.old) (W.contents writer.new) (answer_text answer)
         × (status ≡ status_of answer)) }
@@ -90,7 +91,8 @@ fn answered<A: Actions, T: Transforms, F: Folder>(
         (record { contents = F.contents folder.old; failures = F.failures folder.old })
         result
         (record { contents = F.contents folder.new; failures = F.failures folder.new }) }
-    ensures outlined { IsOutlinedFor (given_of (λ words. map string_bytes words.items) words) result }
+    ensures asks { AsksFor F.failures F.may_leave F.asked A.meanings tables.now.actions
+        (given_of (λ words. map string_bytes words.items) words) result folder.old folder.new }
 {
     match asked_by(alloc, words) {
         Ok(asked) => {

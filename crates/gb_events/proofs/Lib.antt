@@ -5,3 +5,4 @@ pub mod Losing
 pub mod Alike
 pub mod Running
 pub mod Blaming
+pub mod Asked

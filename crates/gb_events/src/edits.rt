@@ -4,6 +4,9 @@ ghost use Rattle.gb_folder.specs.Files.{SameTearing, is_own};
 ghost use Rattle.gb_meaning.specs.Edits.{LossStep, PutStep, RemoveStep, own_place};
 ghost use Rattle.gb_store.specs.Changes.{ChangesOnly};
 ghost use Rattle.gb_store.specs.Faults.{Blames};
+ghost use Rattle.gb_folder.specs.Calls.{Asks, Removes, Writes, takes_at};
+ghost use Rattle.gb_folder.specs.Limits.{max_file};
+ghost use Rattle.gb_events.specs.Asked.{AsksOnce};
 ghost use Rattle.gb_events.specs.Answers.{edit_answer};
 
 use gb_core::bytes::Bytes;
@@ -21,6 +24,7 @@ use std::alloc::Global;
 pub fn put<F: Folder>(folder: &mut F, place: &Place, bytes: &Bytes) -> Result<(), Fault>
     ensures count { F.failures folder.old ≤ F.failures folder.new }
     ensures blame { Blames result (F.failures folder.old) (F.failures folder.new) }
+    ensures asks { AsksOnce F.asked (Writes place.now bytes.now max_file) folder.old folder.new }
     ensures tearing { SameTearing (F.may_leave folder.old) (F.may_leave folder.new) }
     ensures step { IsTrue F.tells → PutStep (F.may_leave folder.old) place.now bytes.now
         (record { contents = F.contents folder.old; failures = F.failures folder.old })
@@ -42,6 +46,7 @@ pub fn put<F: Folder>(folder: &mut F, place: &Place, bytes: &Bytes) -> Result<()
 pub fn remove<F: Folder>(folder: &mut F, place: &Place) -> Result<(), Fault>
     ensures count { F.failures folder.old ≤ F.failures folder.new }
     ensures blame { Blames result (F.failures folder.old) (F.failures folder.new) }
+    ensures asks { AsksOnce F.asked (Removes place.now) folder.old folder.new }
     ensures tearing { SameTearing (F.may_leave folder.old) (F.may_leave folder.new) }
     ensures step { IsTrue F.tells → RemoveStep (F.may_leave folder.old) place.now
         (record { contents = F.contents folder.old; failures = F.failures folder.old })
@@ -60,9 +65,8 @@ pub fn remove<F: Folder>(folder: &mut F, place: &Place) -> Result<(), Fault>
 
 /// Takes away all that stands at or beneath `.gb`.
 pub fn lose<F: Folder>(alloc: Global, folder: &mut F) -> Result<(), Fault>
-    ensures count { F.failures folder.old ≤ F.failures folder.new }
+    ensures asks { Asks F.failures F.may_leave F.asked (takes_at is_own) folder.old folder.new }
     ensures blame { Blames result (F.failures folder.old) (F.failures folder.new) }
-    ensures tearing { SameTearing (F.may_leave folder.old) (F.may_leave folder.new) }
     ensures elsewhere { IsTrue F.tells
         → ChangesOnly is_own (F.contents folder.old) (F.contents folder.new) }
     ensures step { IsTrue F.tells → LossStep (F.may_leave folder.old)

@@ -12,6 +12,7 @@ ghost use Rattle.gb_meaning.specs.Headline.{times_blamed_in_all};
 ghost use Rattle.gb_meaning.specs.Kinds.{Kinds};
 ghost use Rattle.gb_records.specs.Said.{IsText};
 ghost use Rattle.gb_registry.specs.Tables.{tables_of};
+ghost use Rattle.gb_events.specs.Asked.{EventAsks, EventsAsk};
 ghost use Rattle.gb_events.specs.Answers.{AnswerIsOutlined, edit_answer};
 
 use crate::edits::{lose, put, remove};
@@ -39,6 +40,11 @@ pub fn run_events<A: Actions, T: Transforms, F: Folder, L: TaskListener>(
     ensures unbegun { OnErr result (folder.new ≡ folder.old) }
     ensures untold { OnErr result (listeners.new ≡ listeners.old) }
     ensures tearing { SameTearing (F.may_leave folder.old) (F.may_leave folder.new) }
+    // Over any folder: an edit asks once, for its own place; and a write or a removal by a build is asked for
+    // only at or beneath an output of a task of its plan or at the record of one, whose text is that of a run of
+    // the task; by a refused build and in a dry run, none.
+    ensures asks { IfOk result (λ answers. EventsAsk F.failures F.may_leave F.asked A.meanings
+        tables.now.actions events.now answers.items folder.old folder.new) }
     // One answer for each event.
     ensures each { IfOk result (λ answers. length answers.items ≡ length events.now) }
     // The device is blamed no more often than it failed.
@@ -91,6 +97,8 @@ fn take<A: Actions, T: Transforms, F: Folder, L: TaskListener>(
 ) -> Answer
     ensures count { F.failures folder.old ≤ F.failures folder.new }
     ensures tearing { SameTearing (F.may_leave folder.old) (F.may_leave folder.new) }
+    ensures asks { EventAsks F.failures F.may_leave F.asked A.meanings tables.now.actions event.now result
+        folder.old folder.new }
     ensures device { HasFailed (times_blamed result) (F.failures folder.old) (F.failures folder.new) }
     ensures heard { HaveHeardAll (result ∷ []) (map L.ear listeners.old.items) (map L.ear listeners.new.items) }
     ensures outlined { AnswerIsOutlined event.now result }

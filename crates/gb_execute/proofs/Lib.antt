@@ -10,3 +10,4 @@ pub mod Taking
 pub mod Walking
 pub mod Skipping
 pub mod Outlining
+pub mod Asking

@@ -2,3 +2,4 @@ pub mod Building
 pub mod Failing
 pub mod Reports
 pub mod Built
+pub mod Asking

@@ -1,7 +1,8 @@
 //! A build of a plan.
-ghost use Rattle.std.specs.Prelude.{◌≡◌, ◌≤◌, Bool, List, true, not, map, length, IfOk, IsTrue, OnErr};
+ghost use Rattle.std.specs.Prelude.{◌≡◌, Bool, List, true, not, map, length, IfOk, IsTrue, OnErr};
 ghost use Rattle.std.specs.List.{AllZip};
-ghost use Rattle.gb_folder.specs.Files.{Bytes, SameTearing};
+ghost use Rattle.gb_folder.specs.Calls.{Asks};
+ghost use Rattle.gb_folder.specs.Files.{Bytes};
 ghost use Rattle.gb_history.specs.Places.{record_place};
 ghost use Rattle.gb_meaning.specs.Headline.{Agrees, HasFailed, HaveHeard, TearsAreSeen};
 ghost use Rattle.gb_meaning.specs.Kinds.{Kinds};
@@ -11,6 +12,7 @@ ghost use Rattle.gb_plan.specs.Graph.{order};
 ghost use Rattle.gb_records.specs.Said.{IsText};
 ghost use Rattle.gb_store.specs.Changes.{ChangesOnly};
 ghost use Rattle.gb_task.specs.Turned.{Registering, setting_with};
+ghost use Rattle.gb_execute.specs.Asking.{in_build};
 ghost use Rattle.gb_execute.specs.Building.{CanBuild, is_of_turns};
 ghost use Rattle.gb_execute.specs.Built.{AreWorth, HasBuilt};
 ghost use Rattle.gb_execute.specs.Failing.{times_blamed};
@@ -54,11 +56,12 @@ pub fn execute<A: Actions, F: Folder, L: TaskListener>(
     ensures outline { IfOk result (λ report. Outlines options plan.now report.tasks) }
     ensures heard { IfOk result (λ report.
         HaveHeard report (map L.ear listeners.old.items) (map L.ear listeners.new.items)) }
-    ensures count { F.failures folder.old ≤ F.failures folder.new }
+    ensures asks { Asks F.failures F.may_leave F.asked
+        (in_build A.meanings table.now options plan.now records.now)
+        folder.old folder.new }
     // The device is blamed no more often than it failed.
     ensures device { IfOk result (λ report.
         HasFailed (times_blamed report.tasks) (F.failures folder.old) (F.failures folder.new)) }
-    ensures tearing { SameTearing (F.may_leave folder.old) (F.may_leave folder.new) }
     ensures dry { options.dry_run ≡ true → folder.new ≡ folder.old }
     ensures changes { IsTrue F.tells
         → ChangesOnly (is_of_turns plan.now) (F.contents folder.old) (F.contents folder.new) }

@@ -2,7 +2,8 @@
 ghost use Rattle.std.specs.Prelude.{◌≡◌, ◌≤◌, ◌<◌, ◌+◌, ◌++◌, ◌∷◌, Bool, List, true, false, [], map, length, replicate, IsTrue, vec_len};
 ghost use Rattle.std.specs.List.{AllZip};
 ghost use Rattle.std.specs.Vec.{vec_capacity};
-ghost use Rattle.gb_folder.specs.Files.{Bytes, SameTearing};
+ghost use Rattle.gb_folder.specs.Calls.{Asks};
+ghost use Rattle.gb_folder.specs.Files.{Bytes};
 ghost use Rattle.gb_history.specs.Places.{record_place};
 ghost use Rattle.gb_listen.specs.Telling.{AllTold};
 ghost use Rattle.gb_meaning.specs.Events.{State};
@@ -17,6 +18,7 @@ ghost use Rattle.gb_start.specs.Plans.{AreOfPlan};
 ghost use Rattle.gb_start.specs.declared.starts.Ending.TheVariants.{ToCome};
 ghost use Rattle.gb_store.specs.Changes.{ChangesOnly};
 ghost use Rattle.gb_task.specs.Turned.{Registering, setting_with};
+ghost use Rattle.gb_execute.specs.Asking.{in_turns};
 ghost use Rattle.gb_execute.specs.Building.{CanBuild, is_of_turns};
 ghost use Rattle.gb_execute.specs.Built.{AreWorth, HasBuilt};
 ghost use Rattle.gb_execute.specs.Failing.{times_blamed};
@@ -70,10 +72,11 @@ pub(crate) fn take_turns<A: Actions, F: Folder, L: TaskListener>(
         reports.new.items }
     ensures heard { AllTold (heard_of false reports.new.items) result
         (map L.ear listeners.old.items) (map L.ear listeners.new.items) }
-    ensures count { F.failures folder.old ≤ F.failures folder.new }
+    ensures asks { Asks F.failures F.may_leave F.asked
+        (in_turns A.meanings build.now.table.now build.now.options build.now.tasks.now build.now.records.now)
+        folder.old folder.new }
     ensures device { HasFailed (times_blamed reports.new.items)
         (F.failures folder.old) (F.failures folder.new) }
-    ensures tearing { SameTearing (F.may_leave folder.old) (F.may_leave folder.new) }
     ensures changes { IsTrue F.tells
         → ChangesOnly (is_of_turns build.now.tasks.now) (F.contents folder.old) (F.contents folder.new) }
     ensures build { IsTrue F.tells → (kinds : Kinds) (registry_of : Registering) (remembered : Memory)

@@ -6,3 +6,5 @@ pub mod Sound
 pub mod Changes
 pub mod Rows
 pub mod Leaving
+pub mod Asked
+pub mod Noting

@@ -107,6 +107,7 @@ impl<F: Folder + Drop> FaultyFolder<F> {
 }
 
 impl<F: Folder + Drop> Folder for FaultyFolder<F> {
+    ghost use Rattle.gb_folder.specs.Calls.{fault_of};
     ghost use Rattle.gb_folder.specs.Faulty.{CallOf, failures_in_all, may_leave_by};
 
     ghost failures = { λ f. failures_in_all (F.failures f.inner) f.plan.failed };
@@ -117,8 +118,8 @@ impl<F: Folder + Drop> Folder for FaultyFolder<F> {
 
     ghost may_leave = { λ f. may_leave_by f.plan.mode (F.may_leave f.inner) };
 
-    ghost called = { λ old fault new. CallOf old.plan fault new.plan
-        (new.inner ≡ old.inner) (F.called old.inner fault new.inner) };
+    ghost asked = { λ old call new. CallOf old.plan (fault_of call) new.plan
+        (new.inner ≡ old.inner) (F.asked old.inner call new.inner) };
 
     ghost sound = { λ f. F.sound f.inner };
 

@@ -4,7 +4,8 @@
 //! every type of folder: where folders of the type tell what they hold, each answer is exact, and
 //! elsewhere, as on a disk, only what holds whatever a device does is promised.
 //! [`MemoryFolder`](memory::MemoryFolder) tells; `proofs/Changes.antt` has lemmas for callers.
-//! [`FaultyFolder`](faulty::FaultyFolder) fails at a chosen call of the folder that it holds.
+//! [`FaultyFolder`](faulty::FaultyFolder) fails at a chosen call of the folder that it holds, and
+//! [`NotedFolder`](noted::NotedFolder) notes which changes are asked of it.
 //!
 //! [`FileMap`](file_map::FileMap) holds files without being a folder: one may be in the way of another.
 //!
@@ -17,4 +18,5 @@ pub mod file_map;
 pub mod folder;
 pub mod limits;
 pub mod memory;
+pub mod noted;
 pub mod own;

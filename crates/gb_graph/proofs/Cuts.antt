@@ -1,7 +1,7 @@
 -- Where the places that overlap a text stand among sorted ones, and where a text is cut into its folders.
-use Rattle.std.proofs.Common.{◌≡◌, ◌<◌, ◌≤◌, ◌+◌, ◌↔◌, ◌⊎◌, ℕ, zero, suc, Bool, true, false, not, ◌&&◌, ◌||◌, nat_eq, List, [], ◌∷◌, ◌++◌, length, get_or, take, refl, ap, sym, subst, ◌∙◌, arith, inl, inr, Less, Equal, Greater, Ordering, Contains}
+use Rattle.std.proofs.Common.{◌≡◌, ◌<◌, ◌≤◌, ◌+◌, ◌↔◌, ◌⊎◌, ℕ, zero, suc, Bool, true, false, not, ◌&&◌, ◌||◌, nat_eq, nat_lt, List, [], ◌∷◌, ◌++◌, length, get_or, take, refl, ap, sym, subst, ◌∙◌, arith, inl, inr, Less, Equal, Greater, Ordering, Contains}
 use Rattle.std.specs.Prelude.{bytes_eq}
-use Rattle.std.specs.Ordering.{nat_cmp, is_lt, is_eq, ordering_then}
+use Rattle.std.specs.Ordering.{nat_cmp, is_lt, is_eq, is_le, ordering_then}
 use Rattle.std.specs.Cmp.Lexicographic.{slice_cmp, bytes_decides}
 use Rattle.std.proofs.lemmas.Bool.{cases_eq, cases_order, false≢true}
 use Rattle.std.proofs.lemmas.List.Elements.{Contains-append_left, Contains-push, Contains-push_cases}
@@ -39,8 +39,35 @@ not_less (c ∷ cs) = refl
 slash : (c : ℕ) → (not (is_lt (nat_cmp c 47)) && is_lt (nat_cmp c 48)) ≡ (nat_eq 47 c && true)
 slash c = grind (arith, nat_tests)
 
+pub below_test : (a b : ℕ) → nat_lt a b ≡ is_lt (nat_cmp a b)
+below_test a b = grind (arith, nat_tests)
+
 none_below : (c : ℕ) → is_lt (nat_cmp c 0) ≡ false
 none_below c = grind (arith, nat_tests)
+
+-- a text that is no longer than another stands before that with one more byte, unless it stands behind it
+pub short_before : (place text : List ℕ) (sign : ℕ) → length place ≤ length text → is_lt (slice_cmp nat_cmp place (text ++ sign ∷ [])) ≡ is_le (slice_cmp nat_cmp place text)
+short_before [] [] sign le = refl
+short_before [] (b ∷ text) sign le = refl
+short_before (a ∷ place) [] sign le = absurd (omega (arith, le))
+short_before (a ∷ place) (b ∷ text) sign le = joined (nat_cmp a b) (slice_cmp nat_cmp place (text ++ sign ∷ [])) (slice_cmp nat_cmp place text) (short_before place text sign (omega (arith, le)))
+  where
+    joined : (o u v : Ordering) → is_lt u ≡ is_le v → is_lt (ordering_then o u) ≡ is_le (ordering_then o v)
+    joined Less u v h = refl
+    joined Equal u v h = h
+    joined Greater u v h = refl
+
+-- of a longer one the front decides, and then the byte behind it
+pub long_before : (place text : List ℕ) (sign : ℕ) → length text < length place
+    → is_lt (slice_cmp nat_cmp place (text ++ sign ∷ [])) ≡ is_lt (ordering_then (slice_cmp nat_cmp (take (length text) place) text) (nat_cmp (get_or place (length text) 0) sign))
+long_before [] text sign lt = absurd (omega (arith, lt))
+long_before (a ∷ place) [] sign lt = based (nat_cmp a sign) (slice_cmp nat_cmp place []) (not_less place)
+long_before (a ∷ place) (b ∷ text) sign lt = joined (nat_cmp a b) (slice_cmp nat_cmp place (text ++ sign ∷ [])) (slice_cmp nat_cmp (take (length text) place) text) (nat_cmp (get_or place (length text) 0) sign) (long_before place text sign (omega (arith, lt)))
+  where
+    joined : (o u v w : Ordering) → is_lt u ≡ is_lt (ordering_then v w) → is_lt (ordering_then o u) ≡ is_lt (ordering_then (ordering_then o v) w)
+    joined Less u v w h = refl
+    joined Equal u v w h = h
+    joined Greater u v w h = refl
 
 -- a text stands alone between itself and itself with a byte 0 behind it
 pub between_is_text : (text place : List ℕ) → is_between text (text ++ 0 ∷ []) place ≡ bytes_eq place text

@@ -20,33 +20,54 @@ use Rattle.gb_graph.specs.declared.met.Search.{Search}
 use Rattle.gb_graph.specs.declared.met.Search.TheVariants.{Overlaps, OwnInputs, Undeclared}
 use Rattle.gb_graph.specs.declared.places.TaskPlace.{TaskPlace}
 use Rattle.gb_graph.specs.declared.tables.Tables.{Tables}
+use Rattle.gb_graph.specs.Places.{AreSamePlaces, places_from, with_places}
 use Rattle.gb_graph.specs.Meetings.{AreTables, IsLeast, IsMet, Meets, places_for}
 use Rattle.gb_graph.proofs.Bridges.{At, in_at, at_get, any_in, some_in, parted, of_row}
 use Rattle.gb_graph.proofs.Lesser.{least_same}
+use Rattle.gb_graph.proofs.Thinned.{met_thinned, met_whole}
 use Rattle.gb_graph.proofs.Numbered.{to_overlap, of_overlap, to_own, of_own, to_undeclared, of_undeclared, in_path, chain, task_of}
+
+same_row : (row : List TaskPlace) → AreSamePlaces row row
+same_row row at = (λ h. h, λ h. h)
 
 module _ (plan : Plan) (once : no_repeats (order plan) ≡ true) (tables : Tables) (are : AreTables plan tables) where
   pub low_outputs : (at : TaskPlace) → Contains tables.outputs.items at → at.task < length plan
-  low_outputs at c = let row = of_row output_places plan at ((are.outputs at).0 c) in (at_get plan at.task row.0 row.0 row.1).0
+  low_outputs at c = let row = of_row output_places plan at (are.outputs.within at c) in (at_get plan at.task row.0 row.0 row.1).0
 
   pub low_roots : (at : TaskPlace) → Contains tables.roots.items at → at.task < length plan
-  low_roots at c = let row = of_row roots_of plan at ((are.roots at).0 c) in (at_get plan at.task row.0 row.0 row.1).0
+  low_roots at c = let row = of_row roots_of plan at (are.roots.within at c) in (at_get plan at.task row.0 row.0 row.1).0
 
   pub low_places : (search : Search) (at : TaskPlace) → Contains (places_for tables search) at → at.task < length plan
   low_places Overlaps = low_outputs
   low_places OwnInputs = low_roots
   low_places Undeclared = low_roots
 
-  pub least_meets : (search : Search) (o : Option Found) → IsLeast (IsMet search (rows tables.chains.items) plan tables.outputs.items (places_for tables search)) o → IsLeast (Meets plan search) o
-  least_meets Overlaps =
-      least_same (IsMet Overlaps (rows tables.chains.items) plan tables.outputs.items tables.outputs.items) (IsOverlap plan)
-      (to_overlap plan once tables.outputs.items are.outputs (rows tables.chains.items)) (of_overlap plan once tables.outputs.items are.outputs (rows tables.chains.items))
-  least_meets OwnInputs =
-      least_same (IsMet OwnInputs (rows tables.chains.items) plan tables.outputs.items tables.roots.items) (IsOwnInput plan)
-      (to_own plan once tables.outputs.items are.outputs tables.roots.items are.roots (rows tables.chains.items)) (of_own plan once tables.outputs.items are.outputs tables.roots.items are.roots (rows tables.chains.items))
-  least_meets Undeclared =
-      least_same (IsMet Undeclared (rows tables.chains.items) plan tables.outputs.items tables.roots.items) (IsUndeclared plan)
-      (to_undeclared plan once tables.outputs.items are.outputs tables.roots.items are.roots (rows tables.chains.items) are.chains) (of_undeclared plan once tables.outputs.items are.outputs tables.roots.items are.roots (rows tables.chains.items) are.chains)
+  abbrev outs : List TaskPlace
+  outs = with_places [] (places_from output_places 0 plan)
+
+  abbrev ins : List TaskPlace
+  ins = with_places [] (places_from roots_of 0 plan)
+
+  abbrev chained : List (List ℕ)
+  chained = rows tables.chains.items
+
+  pub least_meets : (search : Search) (o : Option Found) → IsLeast (IsMet search chained plan tables.outputs.items (places_for tables search)) o → IsLeast (Meets plan search) o
+  least_meets Overlaps o h =
+      least_same (IsMet Overlaps chained plan outs outs) (IsOverlap plan) (to_overlap plan once outs (same_row outs) chained) (of_overlap plan once outs (same_row outs) chained) o
+      (least_same (IsMet Overlaps chained plan tables.outputs.items tables.outputs.items) (IsMet Overlaps chained plan outs outs)
+      (met_whole Overlaps chained plan outs tables.outputs.items are.outputs outs tables.outputs.items are.outputs)
+      (met_thinned Overlaps chained plan outs tables.outputs.items are.outputs outs tables.outputs.items are.outputs) o h)
+  least_meets OwnInputs o h =
+      least_same (IsMet OwnInputs chained plan outs ins) (IsOwnInput plan) (to_own plan once outs (same_row outs) ins (same_row ins) chained) (of_own plan once outs (same_row outs) ins (same_row ins) chained) o
+      (least_same (IsMet OwnInputs chained plan tables.outputs.items tables.roots.items) (IsMet OwnInputs chained plan outs ins)
+      (met_whole OwnInputs chained plan outs tables.outputs.items are.outputs ins tables.roots.items are.roots)
+      (met_thinned OwnInputs chained plan outs tables.outputs.items are.outputs ins tables.roots.items are.roots) o h)
+  least_meets Undeclared o h =
+      least_same (IsMet Undeclared chained plan outs ins) (IsUndeclared plan)
+      (to_undeclared plan once outs (same_row outs) ins (same_row ins) chained are.chains) (of_undeclared plan once outs (same_row outs) ins (same_row ins) chained are.chains) o
+      (least_same (IsMet Undeclared chained plan tables.outputs.items tables.roots.items) (IsMet Undeclared chained plan outs ins)
+      (met_whole Undeclared chained plan outs tables.outputs.items are.outputs ins tables.roots.items are.roots)
+      (met_thinned Undeclared chained plan outs tables.outputs.items are.outputs ins tables.roots.items are.roots) o h)
 
   -- ---- A sound plan
 
@@ -110,7 +131,7 @@ module _ (plan : Plan) (once : no_repeats (order plan) ≡ true) (tables : Table
       let read = read_of z w i j t in
       let k = in_at plan z i in
       let l = in_at plan w j in
-      let told = chain plan once tables.outputs.items are.outputs tables.roots.items are.roots (rows tables.chains.items) are.chains k.0 l.0 z w k.1 l.1 in
+      let told = chain plan once outs (same_row outs) ins (same_row ins) chained are.chains k.0 l.0 z w k.1 l.1 in
       elim (cases_eq (bit_in (row (rows tables.chains.items) k.0) l.0) 1) [
         | inl e ↦ told.0 e
         | inr apart ↦ absurd (none (record { task = z.task.path; other = w.task.path; place = read.0 })

@@ -7,4 +7,5 @@ pub mod Meets
 pub mod Plans
 pub mod Bridges
 pub mod Numbered
+pub mod Thinned
 pub mod Judged

@@ -87,31 +87,6 @@ module _ (search : Search) (chains : List (List ℕ)) (outputs : List TaskPlace)
 
 -- ---- Meetings of one place after another
 
--- a task meets one more task
-pub meets_one_more : (tasks : List Planned) (at : TaskPlace) (others : List ℕ) (i k : ℕ) → i < length others → k ≡ get_or others i k → (found : Meeting)
-    → found.task ≡ path_at tasks at.task → found.other ≡ path_at tasks k → found.place ≡ at.place → (meeting : Meeting)
-    → IsMetAt tasks at (take (i + 1) others) meeting ↔ (IsMetAt tasks at (take i others) meeting ⊎ (meeting ≡ found))
-meets_one_more tasks at others i k lt is found task other place meeting = (
-  λ m. elim ((take_grows others i k m.other lt is).0 m.other_in) [
-    | inl o ↦ inl (record { other = m.other; other_in = o; is_task = m.is_task; is_other = m.is_other; is_place = m.is_place })
-    | inr e ↦ inr (λ j. record {
-      task = (m.is_task ∙ sym task) j;
-      other = (m.is_other ∙ (ap (path_at tasks) (sym e) ∙ sym other)) j;
-      place = (m.is_place ∙ sym place) j;
-    })
-  ],
-  λ h. elim h [
-    | inl m ↦ record { other = m.other; other_in = (take_grows others i k m.other lt is).1 (inl m.other_in); is_task = m.is_task; is_other = m.is_other; is_place = m.is_place }
-    | inr e ↦ record {
-      other = k;
-      other_in = (take_grows others i k k lt is).1 (inr refl);
-      is_task = ap (λ (m : Meeting). m.task) e ∙ task;
-      is_other = ap (λ (m : Meeting). m.other) e ∙ other;
-      is_place = ap (λ (m : Meeting). m.place) e ∙ place;
-    }
-  ],
-)
-
 -- the task of one more place meets these tasks
 pub meets_more : (search : Search) (chains : List (List ℕ)) (tasks : List Planned) (outputs places : List TaskPlace) (i : ℕ) (at : TaskPlace) → i < length places → at ≡ get_or places i at
     → (others : List ℕ) → ((task : ℕ) → Contains others task ↔ IsMetTask search chains outputs at task) → (meeting : Meeting)

@@ -25,10 +25,10 @@ use Rattle.gb_graph.specs.Meetings.{IsMet, TellChains}
 use Rattle.gb_graph.proofs.Bridges.{At, at_in, in_at, at_get, at_map, of_at_map, parted, around, any_in, some_in, of_row, into_row, into_placed, outputs_mapped}
 use Rattle.gb_graph.proofs.Plans.{one_path}
 
-differ : (a b : ℕ) → not (a == b) ≡ true → a ≡ b → ⊥
+pub differ : (a b : ℕ) → not (a == b) ≡ true → a ≡ b → ⊥
 differ a b h e = grind (arith, nat_tests)
 
-differ_so : (a b : ℕ) → (a ≡ b → ⊥) → not (a == b) ≡ true
+pub differ_so : (a b : ℕ) → (a ≡ b → ⊥) → not (a == b) ≡ true
 differ_so a b h = grind (arith, nat_tests)
 
 same_of : (a b : ℕ) → (a == b) ≡ true → a ≡ b

@@ -1,5 +1,7 @@
 -- Which tasks meet at which places, and the least of their meetings.
-use Rattle.std.specs.Prelude.{ℕ, ◌≡◌, ◌<◌, ◌↔◌, Bool, true, not, ◌&&◌, ◌==◌, List, [], Contains, Option, None, Some, if◌then◌else◌, slice_index_or, length}
+use Rattle.std.specs.Prelude.{ℕ, ◌≡◌, ◌<◌, ◌↔◌, Bool, true, false, not, ◌&&◌, ◌==◌, List, [], Contains, Option, None, Some, if◌then◌else◌, slice_index_or, length}
+use Rattle.std.specs.Ordering.{is_lt}
+use Rattle.gb_core.specs.Lists.{byte_order}
 use Rattle.gb_core.specs.Place.{overlaps}
 use Rattle.gb_plan.specs.declared.plan.Planned.{Planned}
 use Rattle.gb_plan.specs.Task.{output_places, roots_of}
@@ -9,11 +11,12 @@ use Rattle.gb_order.specs.Order.{row, rows}
 use Rattle.gb_order.specs.Chains.{bit_in}
 use Rattle.gb_order.specs.Circle.{path_at}
 use Rattle.gb_graph.specs.declared.least.Found.{Found}
+use Rattle.gb_graph.specs.declared.least.Met.{Met}
 use Rattle.gb_graph.specs.declared.met.Search.{Search}
 use Rattle.gb_graph.specs.declared.met.Search.TheVariants.{Overlaps, OwnInputs, Undeclared}
 use Rattle.gb_graph.specs.declared.places.TaskPlace.{TaskPlace}
 use Rattle.gb_graph.specs.declared.tables.Tables.{Tables}
-use Rattle.gb_graph.specs.Places.{AreSamePlaces, IsRising, places_from, with_places}
+use Rattle.gb_graph.specs.Places.{IsRising, IsThinned, place_at, places_from, with_places}
 
 -- the rows have the tasks that each comes after by a chain
 abbrev pub TellChains : List Planned → List (List ℕ) → Type 0
@@ -60,6 +63,35 @@ pub record IsMetAt (tasks : Plan) (at : TaskPlace) (others : List ℕ) (meeting 
 abbrev pub meeting_of : Found → Meeting
 meeting_of found = record { task = found.task; other = found.other; place = found.place }
 
+-- the meeting of these numbers
+abbrev pub meeting_by : Plan → List TaskPlace → Met → Meeting
+meeting_by tasks places met = record {
+  task = path_at tasks met.task;
+  other = path_at tasks met.other;
+  place = place_at places met.place;
+}
+
+-- what was found, by number and as it is told
+abbrev pub found_by : Plan → List TaskPlace → Option Met → Option Found
+found_by tasks places None = None
+found_by tasks places (Some met) = Some (record {
+  task = path_at tasks met.task;
+  other = path_at tasks met.other;
+  place = place_at places met.place;
+})
+
+-- the numbers are those of tasks and of a place
+pub record IsWithin (tasks : Plan) (places : List TaskPlace) (met : Met) : Type 0 where
+  pub task : met.task < length tasks
+  pub other : met.other < length tasks
+  pub place : met.place < length places
+
+-- one of these tasks, before which none of them comes by path
+pub record IsLeastTask (tasks : Plan) (numbers : List ℕ) (number : ℕ) : Type 0 where
+  pub is_in : Contains numbers number
+  pub least : (other : ℕ) → Contains numbers other
+      → is_lt (byte_order (path_at tasks other) (path_at tasks number)) ≡ false
+
 -- of two the one that comes before, where there are two
 abbrev pub lesser : Option Found → Option Found → Option Found
 lesser None other = other
@@ -78,12 +110,12 @@ Meets plan Overlaps meeting = IsOverlap plan meeting
 Meets plan OwnInputs meeting = IsOwnInput plan meeting
 Meets plan Undeclared meeting = IsUndeclared plan meeting
 
--- the chains of these tasks, all their outputs in order, and all their roots
+-- the chains of these tasks, their outputs in order, and their roots, none of them too often
 pub record AreTables (tasks : List Planned) (tables : Tables) : Type 0 where
   pub chains : TellChains tasks (rows tables.chains.items)
   pub rising : IsRising tables.outputs.items
-  pub outputs : AreSamePlaces (with_places [] (places_from output_places 0 tasks)) tables.outputs.items
-  pub roots : AreSamePlaces (with_places [] (places_from roots_of 0 tasks)) tables.roots.items
+  pub outputs : IsThinned (with_places [] (places_from output_places 0 tasks)) tables.outputs.items
+  pub roots : IsThinned (with_places [] (places_from roots_of 0 tasks)) tables.roots.items
 
 -- the places that are held against the outputs: outputs too, or else roots
 abbrev pub places_for : Tables → Search → List TaskPlace

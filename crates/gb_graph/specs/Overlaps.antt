@@ -1,5 +1,5 @@
 -- Which places of a row overlap a place.
-use Rattle.std.specs.Prelude.{ℕ, ◌<◌, ◌↔◌, ◌⊎◌, Bool, not, ◌&&◌, List, length, Contains, IsTrue}
+use Rattle.std.specs.Prelude.{ℕ, ◌<◌, ◌↔◌, ◌⊎◌, Bool, not, ◌&&◌, List, [], ◌∷◌, ◌++◌, Option, None, Some, length, Contains, IsTrue}
 use Rattle.gb_folder.specs.Files.{Place}
 use Rattle.gb_graph.specs.declared.places.TaskPlace.{TaskPlace}
 use Rattle.gb_graph.specs.Places.{place_at, is_before}
@@ -12,3 +12,8 @@ FindsToo row test old new = (index : ℕ) → Contains new index
 -- from the one text on, and before the other
 abbrev pub is_between : List ℕ → List ℕ → Place → Bool
 is_between from to place = not (is_before place from) && is_before place to
+
+-- the text, and this byte behind it, if there is one
+abbrev pub with_sign : List ℕ → Option ℕ → List ℕ
+with_sign text None = text
+with_sign text (Some sign) = text ++ sign ∷ []

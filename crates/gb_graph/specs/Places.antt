@@ -1,6 +1,7 @@
 -- The places of a plan's tasks, in rows.
-use Rattle.std.specs.Prelude.{ℕ, ◌≤◌, ◌<◌, ◌+◌, ◌↔◌, Bool, List, [], ◌∷◌, ◌++◌, map, length, Contains, IsTrue, slice_index_or}
-use Rattle.std.specs.Ordering.{is_lt}
+use Rattle.std.specs.Prelude.{ℕ, ◌≡◌, ◌≢◌, ◌≤◌, ◌<◌, ◌+◌, ◌⊎◌, ◌↔◌, Bool, List, [], ◌∷◌, ◌++◌, map, length, Contains, IsTrue, slice_index_or}
+use Rattle.std.specs.Ordering.{is_lt, nat_cmp, ordering_then}
+use Rattle.std.specs.declared.cmp.Ordering.{Ordering}
 use Rattle.gb_core.specs.Lists.{byte_order}
 use Rattle.gb_folder.specs.Files.{Place}
 use Rattle.gb_plan.specs.declared.plan.Planned.{Planned}
@@ -27,6 +28,14 @@ place_at row index = slice_index_or (map (λ at. at.place) row) index []
 abbrev pub is_before : List ℕ → List ℕ → Bool
 is_before a b = is_lt (byte_order a b)
 
+-- by place, and then by task
+abbrev pub by_place : TaskPlace → TaskPlace → Ordering
+by_place a b = ordering_then (byte_order a.place b.place) (nat_cmp a.task b.task)
+
+-- by task, and then by place
+abbrev pub by_task : TaskPlace → TaskPlace → Ordering
+by_task a b = ordering_then (nat_cmp a.task b.task) (byte_order a.place b.place)
+
 -- those before a text come first, whichever text
 abbrev pub IsRising : List TaskPlace → Type 0
 IsRising row = (text : List ℕ) (i j : ℕ) → i ≤ j → j < length row
@@ -35,3 +44,22 @@ IsRising row = (text : List ℕ) (i j : ℕ) → i ≤ j → j < length row
 -- the same places
 abbrev pub AreSamePlaces : List TaskPlace → List TaskPlace → Type 0
 AreSamePlaces row other = (at : TaskPlace) → Contains other at ↔ Contains row at
+
+-- the same place of the same task
+abbrev pub IsSame : TaskPlace → TaskPlace → Type 0
+IsSame at other = (at.task ≡ other.task) × (at.place ≡ other.place)
+
+-- the row has the same place of the same task under two numbers
+pub record StandsTwice (row : List TaskPlace) (at : TaskPlace) : Type 0 where
+  pub one : TaskPlace
+  pub other : TaskPlace
+  pub one_in : Contains row one
+  pub other_in : Contains row other
+  pub one_same : IsSame one at
+  pub other_same : IsSame other at
+  pub two : one.number ≢ other.number
+
+-- each of the row stands in the thinned one too, or it stands there twice under other numbers
+pub record IsThinned (row thinned : List TaskPlace) : Type 0 where
+  pub within : (at : TaskPlace) → Contains thinned at → Contains row at
+  pub stands : (at : TaskPlace) → Contains row at → Contains thinned at ⊎ StandsTwice thinned at

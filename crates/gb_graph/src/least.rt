@@ -1,11 +1,13 @@
-//! The least of the meetings of tasks.
-ghost use Rattle.std.specs.Prelude.{◌≡◌, ◌<◌, ℕ, length, Contains, IfOk};
+//! The least of the meetings of tasks. They are compared by number, and what is found is copied once.
+ghost use Rattle.std.specs.Prelude.{◌≡◌, ◌<◌, ℕ, [], true, false, length, Contains, MatchOption, IfOk};
+ghost use Rattle.std.specs.Ordering.{is_gt, is_lt};
+ghost use Rattle.gb_core.specs.Lists.{byte_order};
 ghost use Rattle.gb_plan.specs.Refusal.{is_before};
 ghost use Rattle.gb_order.specs.Order.{rows};
 ghost use Rattle.gb_order.specs.Circle.{path_at};
-ghost use Rattle.gb_graph.specs.Places.{IsRising};
+ghost use Rattle.gb_graph.specs.Places.{IsRising, place_at};
 ghost use Rattle.gb_graph.specs.declared.places.TaskPlace.{TaskPlace};
-ghost use Rattle.gb_graph.specs.Meetings.{IsLeast, IsMet, IsMetAt, lesser, meeting_of};
+ghost use Rattle.gb_graph.specs.Meetings.{IsLeast, IsLeastTask, IsMet, IsWithin, found_by, lesser, meeting_by};
 
 use crate::met::{Search, met_at};
 use crate::places::TaskPlace;
@@ -23,22 +25,61 @@ pub struct Found {
     pub place: Place,
 }
 
-/// Whether one comes before another: by the first task, then by the other, then by the place.
-fn is_before(a: &Found, b: &Found) -> bool
-    ensures { result ≡ is_before (meeting_of a.now) (meeting_of b.now) }
-{
-    let by_other = a.other.cmp(&b.other).then(a.place.cmp(&b.place));
-    a.task.cmp(&b.task).then(by_other) == Ordering::Less
+/// The same by number: two tasks, and an index in a row of places.
+#[derive(Clone, Copy)]
+pub struct Met {
+    pub task: usize,
+    pub other: usize,
+    pub place: usize,
 }
 
-fn lesser(found: Option<Found>, other: Option<Found>) -> Option<Found>
-    ensures { result ≡ lesser found other }
+fn path_of(tasks: &[Planned], number: usize) -> &TaskPath
+    requires { number < length tasks.now }
+    ensures { result.now ≡ path_at tasks.now number }
+{
+    &tasks[number].task.path
+}
+
+fn place_of(places: &[TaskPlace], index: usize) -> &Place
+    requires { index < length places.now }
+    ensures { result.now ≡ place_at places.now index }
+{
+    &places[index].place
+}
+
+/// Whether one comes before another: by the first task, then by the other, then by the place.
+fn is_before(tasks: &[Planned], places: &[TaskPlace], a: Met, b: Met) -> bool
+    requires a { IsWithin tasks.now places.now a }
+    requires b { IsWithin tasks.now places.now b }
+    ensures { result ≡ is_before (meeting_by tasks.now places.now a) (meeting_by tasks.now places.now b) }
+{
+    let by_place = place_of(places, a.place).cmp(place_of(places, b.place));
+    let by_other = path_of(tasks, a.other)
+        .cmp(path_of(tasks, b.other))
+        .then(by_place);
+    path_of(tasks, a.task)
+        .cmp(path_of(tasks, b.task))
+        .then(by_other)
+        == Ordering::Less
+}
+
+fn lesser(
+    tasks: &[Planned],
+    places: &[TaskPlace],
+    found: Option<Met>,
+    other: Option<Met>,
+) -> Option<Met>
+    requires found { MatchOption found (Unit {0}) (IsWithin tasks.now places.now) }
+    requires other { MatchOption other (Unit {0}) (IsWithin tasks.now places.now) }
+    ensures lesser { found_by tasks.now places.now result
+        ≡ lesser (found_by tasks.now places.now found) (found_by tasks.now places.now other) }
+    ensures within { MatchOption result (Unit {0}) (IsWithin tasks.now places.now) }
 {
     match (found, other) {
         (None, other) => other,
         (Some(found), None) => Some(found),
         (Some(found), Some(other)) => {
-            if is_before(&other, &found) {
+            if is_before(tasks, places, other, found) {
                 Some(other)
             } else {
                 Some(found)
@@ -47,31 +88,75 @@ fn lesser(found: Option<Found>, other: Option<Found>) -> Option<Found>
     }
 }
 
-/// The least meeting of a task at its place with these tasks. Each of them costs copies, but a plan that is
-/// not refused has none.
-fn least_at(
-    tasks: &[Planned],
-    at: &TaskPlace,
-    others: &[usize],
-) -> Result<Option<Found>, AllocError>
-    requires task { at.now.task < length tasks.now }
-    requires others { (other : ℕ) → Contains others.now other → other < length tasks.now }
-    ensures { IfOk result (λ least. IsLeast (IsMetAt tasks.now at.now others.now) least) }
+/// Whether the path of a task comes before that of the least so far.
+fn is_lesser(tasks: &[Planned], number: usize, least: Option<usize>) -> bool
+    requires number { number < length tasks.now }
+    requires least { MatchOption least (Unit {0}) (λ least. least < length tasks.now) }
+    ensures { MatchOption least (result ≡ true) (λ least.
+        result ≡ is_lt (byte_order (path_at tasks.now number) (path_at tasks.now least))) }
+{
+    match least {
+        None => true,
+        Some(least) => path_of(tasks, number) < path_of(tasks, least),
+    }
+}
+
+/// The least of these tasks by path.
+fn least_task(tasks: &[Planned], numbers: &[usize]) -> Option<usize>
+    requires { (number : ℕ) → Contains numbers.now number → number < length tasks.now }
+    ensures { MatchOption result (numbers.now ≡ []) (IsLeastTask tasks.now numbers.now) }
 {
     let mut least = None;
-    for other in others {
-        let found = Found {
-            task: tasks[at.task].task.path.copy()?,
-            other: tasks[*other].task.path.copy()?,
-            place: at.place.copy()?,
-        };
-        least = lesser(least, Some(found));
+    for number in numbers {
+        if is_lesser(tasks, *number, least) {
+            least = Some(*number);
+        }
     }
-    Ok(least)
+    least
+}
+
+/// The least meeting of a task at a place with these.
+fn least_at(tasks: &[Planned], task: usize, place: usize, others: &[usize]) -> Option<Met>
+    requires { (other : ℕ) → Contains others.now other → other < length tasks.now }
+    ensures { MatchOption result (others.now ≡ []) (λ met. (met.task ≡ task) × (met.place ≡ place)
+        × IsLeastTask tasks.now others.now met.other) }
+{
+    least_task(tasks, others).map(|other| Met { task, other, place })
+}
+
+/// Whether all that a task meets comes after what was found.
+fn is_later(tasks: &[Planned], task: usize, found: Option<Met>) -> bool
+    requires task { task < length tasks.now }
+    requires found { MatchOption found (Unit {0}) (λ met. met.task < length tasks.now) }
+    ensures { MatchOption found (result ≡ false) (λ met.
+        result ≡ is_gt (byte_order (path_at tasks.now task) (path_at tasks.now met.task))) }
+{
+    match found {
+        None => false,
+        Some(met) => path_of(tasks, task).cmp(path_of(tasks, met.task)) == Ordering::Greater,
+    }
+}
+
+fn copied(
+    tasks: &[Planned],
+    places: &[TaskPlace],
+    found: Option<Met>,
+) -> Result<Option<Found>, AllocError>
+    requires { MatchOption found (Unit {0}) (IsWithin tasks.now places.now) }
+    ensures { IfOk result (λ copied. copied ≡ found_by tasks.now places.now found) }
+{
+    match found {
+        None => Ok(None),
+        Some(met) => Ok(Some(Found {
+            task: path_of(tasks, met.task).copy()?,
+            other: path_of(tasks, met.other).copy()?,
+            place: place_of(places, met.place).copy()?,
+        })),
+    }
 }
 
 /// The least meeting of the tasks of these places with those of outputs. It goes over the pairs that overlap
-/// and no others, so a plan in which all places overlap costs the number of their pairs.
+/// and no others, and passes over the places of tasks that come after one that meets another.
 pub fn least_met(
     alloc: Global,
     search: Search,
@@ -87,10 +172,13 @@ pub fn least_met(
         IsLeast (IsMet search (rows chains.now) tasks.now outputs.now places.now) least) }
 {
     let mut least = None;
-    for at in places {
-        let others = met_at(alloc, search, chains, outputs, at)?;
-        let found = least_at(tasks, at, others.as_slice())?;
-        least = lesser(least, found);
+    for place in 0..places.len() {
+        let task = places[place].task;
+        if !is_later(tasks, task, least) {
+            let others = met_at(alloc, search, chains, outputs, &places[place])?;
+            let met = least_at(tasks, task, place, others.as_slice());
+            least = lesser(tasks, places, least, met);
+        }
     }
-    Ok(least)
+    copied(tasks, places, least)
 }

@@ -1,34 +1,52 @@
 //! Which places of a sorted row overlap a place: those beneath it, those at it, and those at its own folders.
-ghost use Rattle.std.specs.Prelude.{◌≡◌, ◌<◌, ◌≤◌, ◌↔◌, ℕ, true, false, bytes_eq, length, Contains, IfOk, IsTrue, OnOk};
+ghost use Rattle.std.specs.Prelude.{◌≡◌, ◌<◌, ◌≤◌, ◌↔◌, ◌∷◌, ◌++◌, [], ℕ, true, false, bytes_eq, length, Contains, IfOk, IsTrue, OnOk};
 ghost use Rattle.gb_core.specs.Place.{is_beneath, overlaps};
 ghost use Rattle.gb_graph.specs.Places.{IsRising, is_before, place_at};
-ghost use Rattle.gb_graph.specs.Overlaps.{FindsToo, is_between};
+ghost use Rattle.gb_graph.specs.Overlaps.{FindsToo, is_between, with_sign};
 
 use crate::places::TaskPlace;
 use gb_core::place::Place;
 use std::alloc::{AllocError, Global};
 use std::cmp::Ordering;
 
-/// Whether a place stands before a text.
-fn is_before(at: &TaskPlace, text: &[u8]) -> bool
-    ensures { result ≡ is_before at.now.place text.now }
+/// Whether a place stands before a text with one more byte behind it.
+fn is_before_sign(place: &[u8], text: &[u8], sign: u8) -> bool
+    ensures { result ≡ is_before place.now (text.now ++ sign ∷ []) }
 {
-    at.place.as_str().as_bytes().cmp(text) == Ordering::Less
+    match place.get(text.len()) {
+        None => place.cmp(text).is_le(),
+        Some(next) => match place[..text.len()].cmp(text) {
+            Ordering::Less => true,
+            Ordering::Equal => *next < sign,
+            Ordering::Greater => false,
+        },
+    }
+}
+
+/// Whether a place stands before a text, or before that with one more byte behind it.
+fn is_before(at: &TaskPlace, text: &[u8], sign: Option<u8>) -> bool
+    ensures { result ≡ is_before at.now.place (with_sign text.now sign) }
+{
+    let place = at.place.as_str().as_bytes();
+    match sign {
+        None => place.cmp(text) == Ordering::Less,
+        Some(sign) => is_before_sign(place, text, sign),
+    }
 }
 
 /// How many places stand before a text.
-fn first_from(row: &[TaskPlace], text: &[u8]) -> usize
+fn first_from(row: &[TaskPlace], text: &[u8], sign: Option<u8>) -> usize
     requires { IsRising row.now }
     ensures within { result ≤ length row.now }
-    ensures below { (i : ℕ) → i < result → is_before (place_at row.now i) text.now ≡ true }
+    ensures below { (i : ℕ) → i < result → is_before (place_at row.now i) (with_sign text.now sign) ≡ true }
     ensures above { (i : ℕ) → result ≤ i → i < length row.now
-        → is_before (place_at row.now i) text.now ≡ false }
+        → is_before (place_at row.now i) (with_sign text.now sign) ≡ false }
 {
     let mut low = 0;
     let mut high = row.len();
     while low < high {
         let middle = low + (high - low) / 2;
-        if is_before(&row[middle], text) {
+        if is_before(&row[middle], text, sign) {
             low = middle + 1;
         } else {
             high = middle;
@@ -38,35 +56,38 @@ fn first_from(row: &[TaskPlace], text: &[u8]) -> usize
 }
 
 /// Where the places from one on stop standing before a text. It goes along those that do, as all are found.
-fn end_from(row: &[TaskPlace], first: usize, text: &[u8]) -> usize
+fn end_from(row: &[TaskPlace], first: usize, text: &[u8], sign: u8) -> usize
     requires rising { IsRising row.now }
     requires within { first ≤ length row.now }
     ensures from { first ≤ result }
     ensures within { result ≤ length row.now }
-    ensures below { (i : ℕ) → first ≤ i → i < result → is_before (place_at row.now i) text.now ≡ true }
+    ensures below { (i : ℕ) → first ≤ i → i < result
+        → is_before (place_at row.now i) (text.now ++ sign ∷ []) ≡ true }
     ensures above { (i : ℕ) → result ≤ i → i < length row.now
-        → is_before (place_at row.now i) text.now ≡ false }
+        → is_before (place_at row.now i) (text.now ++ sign ∷ []) ≡ false }
 {
     for end in first..row.len() {
-        if !is_before(&row[end], text) {
+        if !is_before(&row[end], text, Some(sign)) {
             return end;
         }
     }
     row.len()
 }
 
-/// Finds the places from one text on up to another.
+/// Finds the places from a text on up to one with a byte behind it.
 fn find_between(
     found: &mut Vec<usize>,
     row: &[TaskPlace],
-    from: &[u8],
-    to: &[u8],
+    text: &[u8],
+    from: Option<u8>,
+    to: u8,
 ) -> Result<(), AllocError>
     requires { IsRising row.now }
-    ensures { OnOk result (FindsToo row.now (is_between from.now to.now) found.old.items found.new.items) }
+    ensures { OnOk result (FindsToo row.now (is_between (with_sign text.now from) (text.now ++ to ∷ []))
+        found.old.items found.new.items) }
 {
-    let first = first_from(row, from);
-    let end = end_from(row, first, to);
+    let first = first_from(row, text, from);
+    let end = end_from(row, first, text, to);
     for index in first..end {
         found.push(index)?;
     }
@@ -74,53 +95,32 @@ fn find_between(
 }
 
 /// Finds the places that are this text: they stand from it on, and before the text with a byte 0 behind it.
-fn find_at(
-    alloc: Global,
-    found: &mut Vec<usize>,
-    row: &[TaskPlace],
-    text: &[u8],
-) -> Result<(), AllocError>
+fn find_at(found: &mut Vec<usize>, row: &[TaskPlace], text: &[u8]) -> Result<(), AllocError>
     requires { IsRising row.now }
     ensures { OnOk result (FindsToo row.now (λ place. bytes_eq place text.now)
         found.old.items found.new.items) }
 {
-    let mut to = Vec::from_slice(alloc, text)?;
-    to.push(0)?;
-    find_between(found, row, text, &to)
+    find_between(found, row, text, None, 0)
 }
 
 /// Finds the places beneath a folder: they stand from `folder/` on, and before `folder0`.
-fn find_beneath(
-    alloc: Global,
-    found: &mut Vec<usize>,
-    row: &[TaskPlace],
-    folder: &[u8],
-) -> Result<(), AllocError>
+fn find_beneath(found: &mut Vec<usize>, row: &[TaskPlace], folder: &[u8]) -> Result<(), AllocError>
     requires { IsRising row.now }
     ensures { OnOk result (FindsToo row.now (λ place. is_beneath place folder.now)
         found.old.items found.new.items) }
 {
-    let mut from = Vec::from_slice(alloc, folder)?;
-    from.push(b'/')?;
-    let mut to = Vec::from_slice(alloc, folder)?;
-    to.push(b'/' + 1)?;
-    find_between(found, row, &from, &to)
+    find_between(found, row, folder, Some(b'/'), b'/' + 1)
 }
 
 /// Finds the places that are folders of a text.
-fn find_above(
-    alloc: Global,
-    found: &mut Vec<usize>,
-    row: &[TaskPlace],
-    text: &[u8],
-) -> Result<(), AllocError>
+fn find_above(found: &mut Vec<usize>, row: &[TaskPlace], text: &[u8]) -> Result<(), AllocError>
     requires { IsRising row.now }
     ensures { OnOk result (FindsToo row.now (λ place. is_beneath text.now place)
         found.old.items found.new.items) }
 {
     for end in 0..text.len() {
         if text[end] == b'/' {
-            find_at(alloc, found, row, &text[..end])?;
+            find_at(found, row, &text[..end])?;
         }
     }
     Ok(())
@@ -134,8 +134,8 @@ pub fn overlapped(alloc: Global, row: &[TaskPlace], place: &Place) -> Result<Vec
 {
     let text = place.as_str().as_bytes();
     let mut found = Vec::new(alloc);
-    find_beneath(alloc, &mut found, row, text)?;
-    find_at(alloc, &mut found, row, text)?;
-    find_above(alloc, &mut found, row, text)?;
+    find_beneath(&mut found, row, text)?;
+    find_at(&mut found, row, text)?;
+    find_above(&mut found, row, text)?;
     Ok(found)
 }

@@ -1,9 +1,9 @@
 //! The places of a plan's tasks, in rows.
-ghost use Rattle.std.specs.Prelude.{◌≡◌, ◌∷◌, [], map, IfOk, OnOk};
+ghost use Rattle.std.specs.Prelude.{◌≡◌, ◌↔◌, ◌∷◌, [], map, IfOk, OnOk, IsTrue};
+ghost use Rattle.std.specs.Bool.{OnTrue};
 ghost use Rattle.std.specs.List.{flat_map};
-ghost use Rattle.gb_core.specs.Lists.{byte_order};
 ghost use Rattle.gb_plan.specs.Task.{roots_of, output_places};
-ghost use Rattle.gb_graph.specs.Places.{AreSamePlaces, IsRising, places_from, with_places};
+ghost use Rattle.gb_graph.specs.Places.{AreSamePlaces, IsRising, IsSame, IsThinned, StandsTwice, by_place, by_task, places_from, with_places};
 
 use gb_core::place::Place;
 use gb_plan::plan::Planned;
@@ -91,15 +91,59 @@ pub fn roots_of(alloc: Global, tasks: &[Planned]) -> Result<Vec<TaskPlace>, Allo
 }
 
 fn by_place(a: &TaskPlace, b: &TaskPlace) -> Ordering
-    ensures { result ≡ byte_order a.now.place b.now.place }
+    ensures { result ≡ by_place a.now b.now }
 {
-    a.place.cmp(&b.place)
+    a.place.cmp(&b.place).then(a.task.cmp(&b.task))
 }
 
-/// Sorts places by their bytes.
-pub fn sort(row: &mut Vec<TaskPlace>)
+/// Sorts places by their bytes, and equal ones by their tasks.
+pub fn sort_by_place(row: &mut Vec<TaskPlace>)
     ensures rising { IsRising row.new.items }
     ensures same { AreSamePlaces row.old.items row.new.items }
 {
     row.sort_unstable_by(|a, b| by_place(a, b));
+}
+
+fn by_task(a: &TaskPlace, b: &TaskPlace) -> Ordering
+    ensures { result ≡ by_task a.now b.now }
+{
+    a.task.cmp(&b.task).then(a.place.cmp(&b.place))
+}
+
+/// Sorts places by their tasks, and those of a task by their bytes.
+pub fn sort_by_task(row: &mut Vec<TaskPlace>)
+    ensures { AreSamePlaces row.old.items row.new.items }
+{
+    row.sort_unstable_by(|a, b| by_task(a, b));
+}
+
+fn is_same(a: &TaskPlace, b: &TaskPlace) -> bool
+    ensures { IsTrue result ↔ IsSame a.now b.now }
+{
+    a.task == b.task && a.place == b.place
+}
+
+/// Whether the last two of a row are the same place of the same task as this one, under two numbers.
+fn ends_in_two(row: &[TaskPlace], at: &TaskPlace) -> bool
+    ensures { OnTrue result (StandsTwice row.now at.now) }
+{
+    match row {
+        [.., one, other] => is_same(one, at) && is_same(other, at) && one.number != other.number,
+        _ => false,
+    }
+}
+
+/// A row in which the same place of the same task stands at most twice, if it stood in a row. Whatever
+/// meets in the one row meets in the other, and one task may name a place ten thousand times.
+pub fn thinned(alloc: Global, row: Vec<TaskPlace>) -> Result<Vec<TaskPlace>, AllocError>
+    ensures thinned { IfOk result (λ thinned. IsThinned row.items thinned.items) }
+    ensures rising { IfOk result (λ thinned. IsRising row.items → IsRising thinned.items) }
+{
+    let mut thinned = Vec::new(alloc);
+    for at in row {
+        if !ends_in_two(thinned.as_slice(), &at) {
+            thinned.push(at)?;
+        }
+    }
+    Ok(thinned)
 }

@@ -6,7 +6,7 @@ ghost use Rattle.gb_graph.specs.Meetings.{AreTables, IsLeast, Meets, places_for}
 use crate::chained::chains_in;
 use crate::least::{Found, least_met};
 use crate::met::Search;
-use crate::places::{TaskPlace, outputs_of, roots_of, sort};
+use crate::places::{TaskPlace, outputs_of, roots_of, sort_by_place, sort_by_task, thinned};
 use gb_plan::plan::Planned;
 use std::alloc::{AllocError, Global};
 
@@ -15,9 +15,9 @@ use std::alloc::{AllocError, Global};
 pub struct Tables {
     /// For each task those before it, as a row of bits.
     pub chains: Vec<Vec<u64>>,
-    /// The outputs of all tasks, sorted by place.
+    /// The outputs of all tasks, sorted by place and thinned.
     pub outputs: Vec<TaskPlace>,
-    /// The roots of what all tasks read.
+    /// The roots of what all tasks read, thinned.
     pub roots: Vec<TaskPlace>,
 }
 
@@ -28,12 +28,13 @@ pub fn tables_of(alloc: Global, tasks: &[Planned]) -> Result<Tables, AllocError>
 {
     let chains = chains_in(alloc, tasks)?;
     let mut outputs = outputs_of(alloc, tasks)?;
-    sort(&mut outputs);
-    let roots = roots_of(alloc, tasks)?;
+    sort_by_place(&mut outputs);
+    let mut roots = roots_of(alloc, tasks)?;
+    sort_by_task(&mut roots);
     Ok(Tables {
         chains,
-        outputs,
-        roots,
+        outputs: thinned(alloc, outputs)?,
+        roots: thinned(alloc, roots)?,
     })
 }
 

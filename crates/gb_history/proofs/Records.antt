@@ -43,7 +43,7 @@ IsAscii-are_ascii (x ∷ xs) e (suc i) = IsAscii-are_ascii xs (and_parts (nat_lt
 ascii_digits : IsAscii lower_digits
 ascii_digits = IsAscii-are_ascii lower_digits refl
 
-IsUtf8-digest : (bytes : List ℕ) → IsUtf8 (encode_lower bytes)
+pub IsUtf8-digest : (bytes : List ℕ) → IsUtf8 (encode_lower bytes)
 IsUtf8-digest bytes = IsUtf8-from_ascii _ (IsAscii-encode_with lower_digits bytes ascii_digits)
 
 ordinary_value : (v : Value) → IsArgument v → IsOrdinary (value_json v)

@@ -3,4 +3,5 @@ pub mod Ascending
 pub mod Faults
 pub mod Remembered
 pub mod Text
+pub mod Tokens
 pub mod Decision

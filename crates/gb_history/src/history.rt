@@ -15,8 +15,9 @@ use crate::fault::RecordFault;
 use crate::reading::history_from;
 use crate::record::{Edition, Record};
 use crate::text::{before_seal, is_same, json_in, sealed_json};
-use crate::writing::history_json;
+use crate::writing::write_history;
 use gb_core::path::TaskPath;
+use json::Writer;
 use std::alloc::{AllocError, Global};
 use std::collections::BTreeMap;
 use std::marker::Model;
@@ -81,8 +82,9 @@ impl History {
         ensures text { IfOk result (λ text. text.items ≡ history_text_in edition self.now) }
         ensures held { OnOk result (AreHeld self.now) }
     {
-        let json = history_json(alloc, edition, &self.records)?;
-        sealed_json(alloc, &json)
+        let mut writer = Writer::new(Vec::new(alloc));
+        write_history(&mut writer, edition, &self.records)?;
+        sealed_json(writer)
     }
 
     /// The history that has this text, in either edition; any other text is 80.

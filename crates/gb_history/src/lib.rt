@@ -5,6 +5,7 @@
 #![tactic(auto)]
 
 pub mod decide;
+mod direct;
 pub mod fault;
 pub mod history;
 mod order;

@@ -391,7 +391,7 @@ fn lists_at(json: &Json) -> Option<Lists<'_>>
 }
 
 /// The record of these parts, if the names of each list strictly rise.
-fn in_order(
+pub fn in_order(
     actions: Vec<Action>,
     values: NamedValues,
     inputs: Vec<Prints>,

@@ -1,58 +1,65 @@
 //! The text of a record, and the record that has a text; and what this shares with a whole history.
-ghost use Rattle.std.specs.Prelude.{◌≡◌, List, ℕ, IfOk, OnOk, IsTrue, IsSomeAnd, MatchResult, ◌↔◌};
+ghost use Rattle.std.specs.Prelude.{◌≡◌, [], List, ℕ, IfOk, OnOk, IsTrue, IsSomeAnd, IfSome, OnSome, MatchResult, ◌↔◌};
 ghost use Rattle.std.specs.List.{AllByRecursion};
 ghost use Rattle.std.specs.Str.{IsUtf8};
 ghost use Rattle.serde_json.specs.View.{view};
 ghost use Rattle.serde_json.specs.Written.{compact_text};
 ghost use Rattle.gb_history.specs.Remembered.{Remembered, IsRemembered, IsSaid};
 ghost use Rattle.gb_history.specs.Text.{history_json, record_json, record_text, text_in, history_text_in, sealed, FitsEdition, IsTextOf, TextsSayOneRecord, TextsSayOneHistory};
+ghost use Rattle.gb_history.specs.Tokens.{data_tokens};
 ghost use Rattle.gb_history.specs.declared.record.Edition.{Edition as Written};
 ghost use Rattle.gb_history.specs.declared.fault.RecordFault.TheVariants.{OutOfMemory};
 
+use crate::direct::record_in;
 use crate::fault::RecordFault;
 use crate::reading::{edition_from, json_from, record_from};
 use crate::record::{Edition, Record};
-use crate::writing::record_json;
+use crate::writing::{digits_of, write_record};
 use gb_core::path::TaskPath;
+use json::Writer;
 use serde_json::Value as Json;
 use sha2::{Digest, Sha256};
 use std::alloc::{AllocError, Global};
 
+/// How long the text of a record mostly is at most.
+const USUAL_LENGTH: usize = 1024;
+
 /// A JSON text, a line feed, its digest in hex, a line feed.
-fn sealed_text(alloc: Global, json: &[u8]) -> Result<Vec<u8>, AllocError>
-    ensures { IfOk result (λ text. text.items ≡ sealed json.now) }
+fn sealed_text(json: Vec<u8>) -> Result<Vec<u8>, AllocError>
+    ensures { IfOk result (λ text. text.items ≡ sealed json.items) }
 {
-    let digest = hex::encode(alloc, Sha256::digest(json))?;
-    let mut text = Vec::new(alloc);
-    text.extend_from_slice(json)?;
+    let digits = digits_of(Sha256::digest(json.as_slice()));
+    let mut text = json;
     text.push(b'\n')?;
-    text.extend_from_slice(digest.as_bytes())?;
+    text.extend_from_slice(&digits)?;
     text.push(b'\n')?;
     Ok(text)
 }
 
 /// The sealed text of records as JSON.
-pub fn sealed_json(alloc: Global, json: &Json) -> Result<Vec<u8>, AllocError>
-    ensures { (edition : Written) (entries : List (List ℕ × Remembered)) → AllByRecursion IsSaid entries
-        → view json.now ≡ history_json edition entries
+pub fn sealed_json(writer: Writer) -> Result<Vec<u8>, AllocError>
+    ensures { (edition : Written) (entries : List (List ℕ × Remembered)) → writer.before ≡ []
+        → writer.tokens ≡ data_tokens (history_json edition entries)
         → IfOk result (λ text. text.items ≡ history_text_in edition entries) }
 {
-    sealed_text(alloc, json.to_vec(alloc)?.as_slice())
+    sealed_text(writer.into_inner())
 }
 
-/// The text of the record of a task in an edition.
+/// The text of the record of a task in an edition, with room for so many bytes from the start.
 fn text_in(
     alloc: Global,
     edition: Edition,
     path: &TaskPath,
     run: &Record,
+    room: usize,
 ) -> Result<Vec<u8>, AllocError>
     ensures text { IfOk result (λ text. text.items ≡ text_in edition path.now run.now) }
     ensures held { OnOk result (IsRemembered run.now) }
     ensures utf8 { OnOk result (IsUtf8 path.now) }
 {
-    let json = record_json(alloc, edition, path, run)?;
-    sealed_json(alloc, &json)
+    let mut writer = Writer::new(Vec::with_capacity(alloc, room)?);
+    write_record(&mut writer, edition, path, run)?;
+    sealed_json(writer)
 }
 
 /// The text of the record of a task.
@@ -61,7 +68,7 @@ pub fn record_text(alloc: Global, path: &TaskPath, run: &Record) -> Result<Vec<u
     ensures held { OnOk result (IsRemembered run.now) }
     ensures utf8 { OnOk result (IsUtf8 path.now) }
 {
-    text_in(alloc, Edition::Second, path, run)
+    text_in(alloc, Edition::Second, path, run, USUAL_LENGTH)
 }
 
 pub fn is_same(left: &[u8], right: &[u8]) -> bool
@@ -106,6 +113,40 @@ fn parsed(alloc: Global, json: &[u8]) -> Result<(Edition, Record), RecordFault>
     Ok((said.0, found))
 }
 
+/// The record that is read without a tree, where this is its text in today's form.
+fn read_directly(alloc: Global, path: &TaskPath, bytes: &[u8]) -> Option<Record>
+    ensures exact { IfSome result (λ run. bytes.now ≡ record_text path.now run) }
+    ensures utf8 { OnSome result (IsUtf8 path.now) }
+    ensures held { IfSome result IsRemembered }
+{
+    let found = record_in(alloc, before_seal(bytes)?)?;
+    let text = text_in(alloc, Edition::Second, path, &found, bytes.len()).ok()?;
+    if is_same(text.as_slice(), bytes) {
+        Some(found)
+    } else {
+        None
+    }
+}
+
+/// The record that is read by a tree of its JSON, in either edition.
+fn read_by_tree(alloc: Global, path: &TaskPath, bytes: &[u8]) -> Result<Record, RecordFault>
+    ensures exact { IfOk result (λ run. IsTextOf path.now run bytes.now) }
+    ensures utf8 { OnOk result (IsUtf8 path.now) }
+    ensures held { IfOk result IsRemembered }
+    ensures back { (run : Remembered) → IsUtf8 path.now → IsRemembered run → IsTextOf path.now run bytes.now
+        → MatchResult result (λ got. got ≡ run) (λ e. e ≡ OutOfMemory) }
+{
+    let Some(json) = before_seal(bytes) else {
+        return Err(RecordFault::NotARecord);
+    };
+    let (edition, found) = parsed(alloc, json)?;
+    let text = text_in(alloc, edition, path, &found, bytes.len())?;
+    if !is_same(text.as_slice(), bytes) {
+        return Err(RecordFault::NotARecord);
+    }
+    Ok(found)
+}
+
 /// The record of a task that has this text, in either edition; any other text is 80.
 pub fn read_record(alloc: Global, path: &TaskPath, bytes: &[u8]) -> Result<Record, RecordFault>
     // What is read has the text.
@@ -116,15 +157,10 @@ pub fn read_record(alloc: Global, path: &TaskPath, bytes: &[u8]) -> Result<Recor
     ensures back { (run : Remembered) → IsUtf8 path.now → IsRemembered run → IsTextOf path.now run bytes.now
         → MatchResult result (λ got. got ≡ run) (λ e. e ≡ OutOfMemory) }
 {
-    let Some(json) = before_seal(bytes) else {
-        return Err(RecordFault::NotARecord);
-    };
-    let (edition, found) = parsed(alloc, json)?;
-    let text = text_in(alloc, edition, path, &found)?;
-    if !is_same(text.as_slice(), bytes) {
-        return Err(RecordFault::NotARecord);
+    match read_directly(alloc, path, bytes) {
+        Some(found) => Ok(found),
+        None => read_by_tree(alloc, path, bytes),
     }
-    Ok(found)
 }
 
 /// A record that went through its text is the same record.

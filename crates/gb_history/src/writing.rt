@@ -1,12 +1,15 @@
-//! Records as JSON.
-ghost use Rattle.std.specs.Prelude.{◌≡◌, List, ℕ, map, IfOk, IsTrue, OnOk};
+//! Records as JSON, written a token at a time.
+ghost use Rattle.std.specs.Prelude.{◌≡◌, [], ◌∷◌, ◌++◌, codes, map, IsTrue, OnOk};
 ghost use Rattle.std.specs.List.{AllByRecursion};
 ghost use Rattle.std.specs.Str.{IsUtf8};
 ghost use Rattle.gb_core.specs.Path.{is_task_path};
-ghost use Rattle.serde_json.specs.Data.{string, array};
-ghost use Rattle.serde_json.specs.View.{view, items_of};
+ghost use Rattle.hex.specs.Hex.{encode_lower};
+ghost use Rattle.json.specs.Token.{key};
+ghost use Rattle.serde_json.specs.Data.{boolean, number, unsigned, string, array, object, no_members, member};
+ghost use Rattle.serde_json.specs.View.{items_of};
 ghost use Rattle.gb_history.specs.Remembered.{IsArgument, IsInput, IsAction, IsPrint, ArePrints, IsOutput, IsRemembered, AreHeld};
-ghost use Rattle.gb_history.specs.Text.{value_json, input_json, action_json, print_json, prints_json, output_json, shape_text, plain_object, versioned_object, run_object, run_json, edition_number, record_json, entry_json, history_json};
+ghost use Rattle.gb_history.specs.Text.{value_json, input_json, plain_object, versioned_object, action_json, print_json, prints_json, output_json, shape_text, run_json, edition_number, record_json, entry_json, history_json};
+ghost use Rattle.gb_history.specs.Tokens.{data_tokens};
 
 use crate::record::{Edition, OutputRecord, Record};
 use gb_action::output::Form;
@@ -17,143 +20,269 @@ use gb_core::text::Text;
 use gb_core::value::Value;
 use gb_plan::task::Action;
 use gb_tree::prints::Prints;
-use serde_json::{Value as Json, json};
-use std::alloc::{AllocError, Global};
+use json::Writer;
+use std::alloc::AllocError;
 use std::collections::BTreeMap;
 
-fn texts_list(alloc: Global, texts: &[Text]) -> Result<Json, AllocError>
-    ensures json { IfOk result (λ v. view v ≡ array (items_of (map string texts.now))) }
-    ensures held { OnOk result (AllByRecursion IsUtf8 texts.now) }
+/// A key and its text.
+fn write_text(writer: &mut Writer, name: &str, text: &str) -> Result<(), AllocError>
+    ensures json { OnOk result (writer.new.tokens
+        ≡ writer.old.tokens ++ key name.now ∷ data_tokens (string text.now)) }
+    ensures before { writer.new.before ≡ writer.old.before }
 {
-    let mut items = Vec::new(alloc);
-    for text in texts {
-        items.push(Json::try_from_str(alloc, text.as_str())?)?;
-    }
-    Ok(Json::Array(items))
+    writer.key(name)?;
+    writer.string(text)
 }
 
-fn value_json(alloc: Global, value: &Value) -> Result<Json, AllocError>
-    ensures json { IfOk result (λ v. view v ≡ value_json value.now) }
+/// A key and its number.
+fn write_number(writer: &mut Writer, name: &str, n: u64) -> Result<(), AllocError>
+    ensures json { OnOk result (writer.new.tokens
+        ≡ writer.old.tokens ++ key name.now ∷ data_tokens (number (unsigned n))) }
+    ensures before { writer.new.before ≡ writer.old.before }
+{
+    writer.key(name)?;
+    writer.u64(n)
+}
+
+fn write_texts(writer: &mut Writer, texts: &[Text]) -> Result<(), AllocError>
+    ensures json { OnOk result (writer.new.tokens
+        ≡ writer.old.tokens ++ data_tokens (array (items_of (map string texts.now)))) }
+    ensures before { writer.new.before ≡ writer.old.before }
+    ensures held { OnOk result (AllByRecursion IsUtf8 texts.now) }
+{
+    writer.begin_array()?;
+    for text in texts {
+        writer.string(text.as_str())?;
+    }
+    writer.end_array()
+}
+
+/// An object of one text.
+fn write_single(writer: &mut Writer, name: &str, text: &str) -> Result<(), AllocError>
+    ensures json { OnOk result (writer.new.tokens
+        ≡ writer.old.tokens ++ data_tokens (object (member name.now (string text.now) no_members))) }
+    ensures before { writer.new.before ≡ writer.old.before }
+{
+    writer.begin_object()?;
+    write_text(writer, name, text)?;
+    writer.end_object()
+}
+
+fn write_flag(writer: &mut Writer, flag: bool) -> Result<(), AllocError>
+    ensures json { OnOk result (writer.new.tokens
+        ≡ writer.old.tokens ++ data_tokens (object (member (codes "flag") (boolean flag) no_members))) }
+    ensures before { writer.new.before ≡ writer.old.before }
+{
+    writer.begin_object()?;
+    writer.key("flag")?;
+    writer.boolean(flag)?;
+    writer.end_object()
+}
+
+fn write_list(writer: &mut Writer, texts: &[Text]) -> Result<(), AllocError>
+    ensures json { OnOk result (writer.new.tokens ≡ writer.old.tokens ++ data_tokens
+        (object (member (codes "list") (array (items_of (map string texts.now))) no_members))) }
+    ensures before { writer.new.before ≡ writer.old.before }
+    ensures held { OnOk result (AllByRecursion IsUtf8 texts.now) }
+{
+    writer.begin_object()?;
+    writer.key("list")?;
+    write_texts(writer, texts)?;
+    writer.end_object()
+}
+
+fn write_value(writer: &mut Writer, value: &Value) -> Result<(), AllocError>
+    ensures json { OnOk result
+        (writer.new.tokens ≡ writer.old.tokens ++ data_tokens (value_json value.now)) }
+    ensures before { writer.new.before ≡ writer.old.before }
     ensures held { OnOk result (IsArgument value.now) }
 {
     match value {
-        Value::Text(text) => json!(in alloc; {"text": text.as_str()}),
-        Value::Flag(flag) => json!(in alloc; {"flag": *flag}),
-        Value::List(texts) => {
-            let list = texts_list(alloc, texts.as_slice())?;
-            json!(in alloc; {"list": list})
-        }
-        Value::Place(place) => json!(in alloc; {"place": place.as_str()}),
-        Value::Task(path) => json!(in alloc; {"task": path.as_str()}),
+        Value::Text(text) => write_single(writer, "text", text.as_str()),
+        Value::Flag(flag) => write_flag(writer, *flag),
+        Value::List(texts) => write_list(writer, texts.as_slice()),
+        Value::Place(place) => write_single(writer, "place", place.as_str()),
+        Value::Task(path) => write_single(writer, "task", path.as_str()),
     }
 }
 
-fn arguments_list(alloc: Global, arguments: &[Value]) -> Result<Json, AllocError>
-    ensures json { IfOk result (λ v. view v ≡ array (items_of (map value_json arguments.now))) }
+fn write_arguments(writer: &mut Writer, arguments: &[Value]) -> Result<(), AllocError>
+    ensures json { OnOk result (writer.new.tokens
+        ≡ writer.old.tokens ++ data_tokens (array (items_of (map value_json arguments.now)))) }
+    ensures before { writer.new.before ≡ writer.old.before }
     ensures held { OnOk result (AllByRecursion IsArgument arguments.now) }
 {
-    let mut items = Vec::new(alloc);
+    writer.begin_array()?;
     for argument in arguments {
-        items.push(value_json(alloc, argument)?)?;
+        write_value(writer, argument)?;
     }
-    Ok(Json::Array(items))
+    writer.end_array()
 }
 
-fn input_json(alloc: Global, input: &(Name, Value)) -> Result<Json, AllocError>
-    ensures json { IfOk result (λ v. view v ≡ input_json input.now) }
+fn write_input(writer: &mut Writer, input: &(Name, Value)) -> Result<(), AllocError>
+    ensures json { OnOk result
+        (writer.new.tokens ≡ writer.old.tokens ++ data_tokens (input_json input.now)) }
+    ensures before { writer.new.before ≡ writer.old.before }
     ensures held { OnOk result (IsInput input.now) }
 {
-    let value = value_json(alloc, &input.1)?;
-    json!(in alloc; [input.0.as_str(), value])
+    writer.begin_array()?;
+    writer.string(input.0.as_str())?;
+    write_value(writer, &input.1)?;
+    writer.end_array()
 }
 
-pub fn inputs_list(alloc: Global, inputs: &[(Name, Value)]) -> Result<Json, AllocError>
-    ensures json { IfOk result (λ v. view v ≡ array (items_of (map input_json inputs.now))) }
+fn write_inputs(writer: &mut Writer, inputs: &[(Name, Value)]) -> Result<(), AllocError>
+    ensures json { OnOk result (writer.new.tokens
+        ≡ writer.old.tokens ++ data_tokens (array (items_of (map input_json inputs.now)))) }
+    ensures before { writer.new.before ≡ writer.old.before }
     ensures held { OnOk result (AllByRecursion IsInput inputs.now) }
 {
-    let mut items = Vec::new(alloc);
+    writer.begin_array()?;
     for input in inputs {
-        items.push(input_json(alloc, input)?)?;
+        write_input(writer, input)?;
     }
-    Ok(Json::Array(items))
+    writer.end_array()
 }
 
-fn plain_action(alloc: Global, arguments: Json, kind: &str) -> Result<Json, AllocError>
-    ensures { IfOk result (λ v. view v ≡ plain_object (view arguments) kind.now) }
+fn write_plain_action(
+    writer: &mut Writer,
+    arguments: &[Value],
+    kind: &str,
+) -> Result<(), AllocError>
+    ensures json { OnOk result (writer.new.tokens ≡ writer.old.tokens
+        ++ data_tokens (plain_object (array (items_of (map value_json arguments.now))) kind.now)) }
+    ensures before { writer.new.before ≡ writer.old.before }
+    ensures held { OnOk result (AllByRecursion IsArgument arguments.now) }
 {
-    json!(in alloc; {"args": arguments, "kind": kind})
+    writer.begin_object()?;
+    writer.key("args")?;
+    write_arguments(writer, arguments)?;
+    write_text(writer, "kind", kind)?;
+    writer.end_object()
 }
 
-fn versioned_action(
-    alloc: Global,
-    arguments: Json,
+fn write_versioned_action(
+    writer: &mut Writer,
+    arguments: &[Value],
     kind: &str,
     version: u32,
-) -> Result<Json, AllocError>
-    ensures { IfOk result (λ v. view v ≡ versioned_object (view arguments) kind.now version) }
+) -> Result<(), AllocError>
+    ensures json { OnOk result (writer.new.tokens ≡ writer.old.tokens ++ data_tokens
+        (versioned_object (array (items_of (map value_json arguments.now))) kind.now version)) }
+    ensures before { writer.new.before ≡ writer.old.before }
+    ensures held { OnOk result (AllByRecursion IsArgument arguments.now) }
 {
-    json!(in alloc; {"args": arguments, "kind": kind, "version": version})
+    writer.begin_object()?;
+    writer.key("args")?;
+    write_arguments(writer, arguments)?;
+    write_text(writer, "kind", kind)?;
+    write_number(writer, "version", u64::from(version))?;
+    writer.end_object()
 }
 
-fn action_json(alloc: Global, edition: Edition, action: &Action) -> Result<Json, AllocError>
-    ensures json { IfOk result (λ v. view v ≡ action_json edition action.now) }
+fn write_action(writer: &mut Writer, edition: Edition, action: &Action) -> Result<(), AllocError>
+    ensures json { OnOk result
+        (writer.new.tokens ≡ writer.old.tokens ++ data_tokens (action_json edition action.now)) }
+    ensures before { writer.new.before ≡ writer.old.before }
     ensures held { OnOk result (IsAction action.now) }
 {
     let (kind, version) = (action.kind.as_str(), action.version);
-    let arguments = arguments_list(alloc, action.args.as_slice())?;
+    let arguments = action.args.as_slice();
     match edition {
-        Edition::First => plain_action(alloc, arguments, kind),
-        Edition::Second => versioned_action(alloc, arguments, kind, version),
+        Edition::First => write_plain_action(writer, arguments, kind),
+        Edition::Second => write_versioned_action(writer, arguments, kind, version),
     }
 }
 
-pub fn actions_list(alloc: Global, edition: Edition, actions: &[Action]) -> Result<Json, AllocError>
-    ensures json { IfOk result (λ v. view v ≡ array (items_of (map (action_json edition) actions.now))) }
+fn write_actions(
+    writer: &mut Writer,
+    edition: Edition,
+    actions: &[Action],
+) -> Result<(), AllocError>
+    ensures json { OnOk result (writer.new.tokens
+        ≡ writer.old.tokens ++ data_tokens (array (items_of (map (action_json edition) actions.now)))) }
+    ensures before { writer.new.before ≡ writer.old.before }
     ensures held { OnOk result (AllByRecursion IsAction actions.now) }
 {
-    let mut items = Vec::new(alloc);
+    writer.begin_array()?;
     for action in actions {
-        items.push(action_json(alloc, edition, action)?)?;
+        write_action(writer, edition, action)?;
     }
-    Ok(Json::Array(items))
+    writer.end_array()
 }
 
-fn print_json(alloc: Global, path: &RelPath, digest: &[u8; 32]) -> Result<Json, AllocError>
-    ensures json { IfOk result (λ v. view v ≡ print_json (path.now, digest.now)) }
+/// The hex digits of a digest.
+pub fn digits_of(digest: [u8; 32]) -> [u8; 64]
+    ensures { result ≡ encode_lower digest }
+{
+    let mut digits = [0; 64];
+    if hex::encode_to_slice(digest, &mut digits).is_err() {
+        unreachable!();
+    }
+    digits
+}
+
+fn write_digest(writer: &mut Writer, digest: &[u8; 32]) -> Result<(), AllocError>
+    ensures json { OnOk result
+        (writer.new.tokens ≡ writer.old.tokens ++ data_tokens (string (encode_lower digest.now))) }
+    ensures before { writer.new.before ≡ writer.old.before }
+{
+    let digits = digits_of(*digest);
+    let Ok(text) = std::str::from_utf8(&digits) else {
+        unreachable!();
+    };
+    writer.string(text)
+}
+
+fn write_print(writer: &mut Writer, path: &RelPath, digest: &[u8; 32]) -> Result<(), AllocError>
+    ensures json { OnOk result
+        (writer.new.tokens ≡ writer.old.tokens ++ data_tokens (print_json (path.now, digest.now))) }
+    ensures before { writer.new.before ≡ writer.old.before }
     ensures held { OnOk result (IsPrint (path.now, digest.now)) }
 {
-    let digest = hex::encode(alloc, *digest)?;
-    json!(in alloc; [path.as_str(), digest.as_str()])
+    writer.begin_array()?;
+    writer.string(path.as_str())?;
+    write_digest(writer, digest)?;
+    writer.end_array()
 }
 
-fn digests_list(alloc: Global, prints: &[(RelPath, [u8; 32])]) -> Result<Json, AllocError>
-    ensures json { IfOk result (λ v. view v ≡ array (items_of (map print_json prints.now))) }
+fn write_digests(writer: &mut Writer, prints: &[(RelPath, [u8; 32])]) -> Result<(), AllocError>
+    ensures json { OnOk result (writer.new.tokens
+        ≡ writer.old.tokens ++ data_tokens (array (items_of (map print_json prints.now)))) }
+    ensures before { writer.new.before ≡ writer.old.before }
     ensures held { OnOk result (AllByRecursion IsPrint prints.now) }
 {
-    let mut items = Vec::new(alloc);
+    writer.begin_array()?;
     for (path, digest) in prints {
-        items.push(print_json(alloc, path, digest)?)?;
+        write_print(writer, path, digest)?;
     }
-    Ok(Json::Array(items))
+    writer.end_array()
 }
 
-fn prints_json(alloc: Global, prints: &Prints) -> Result<Json, AllocError>
-    ensures json { IfOk result (λ v. view v ≡ prints_json prints.now) }
+fn write_prints(writer: &mut Writer, prints: &Prints) -> Result<(), AllocError>
+    ensures json { OnOk result
+        (writer.new.tokens ≡ writer.old.tokens ++ data_tokens (prints_json prints.now)) }
+    ensures before { writer.new.before ≡ writer.old.before }
     ensures held { OnOk result (ArePrints prints.now) }
 {
-    let digests = digests_list(alloc, prints.as_slice())?;
-    json!(in alloc; {"name": prints.name().as_str(), "prints": digests})
+    writer.begin_object()?;
+    write_text(writer, "name", prints.name().as_str())?;
+    writer.key("prints")?;
+    write_digests(writer, prints.as_slice())?;
+    writer.end_object()
 }
 
-pub fn prints_list(alloc: Global, properties: &[Prints]) -> Result<Json, AllocError>
-    ensures json { IfOk result (λ v. view v ≡ array (items_of (map prints_json properties.now))) }
+fn write_properties(writer: &mut Writer, properties: &[Prints]) -> Result<(), AllocError>
+    ensures json { OnOk result (writer.new.tokens
+        ≡ writer.old.tokens ++ data_tokens (array (items_of (map prints_json properties.now)))) }
+    ensures before { writer.new.before ≡ writer.old.before }
     ensures held { OnOk result (AllByRecursion ArePrints properties.now) }
 {
-    let mut items = Vec::new(alloc);
+    writer.begin_array()?;
     for prints in properties {
-        items.push(prints_json(alloc, prints)?)?;
+        write_prints(writer, prints)?;
     }
-    Ok(Json::Array(items))
+    writer.end_array()
 }
 
 fn shape_text(form: Form) -> &'static str
@@ -165,58 +294,58 @@ fn shape_text(form: Form) -> &'static str
     }
 }
 
-fn output_json(alloc: Global, output: &OutputRecord) -> Result<Json, AllocError>
-    ensures json { IfOk result (λ v. view v ≡ output_json output.now) }
+fn write_output(writer: &mut Writer, output: &OutputRecord) -> Result<(), AllocError>
+    ensures json { OnOk result
+        (writer.new.tokens ≡ writer.old.tokens ++ data_tokens (output_json output.now)) }
+    ensures before { writer.new.before ≡ writer.old.before }
     ensures held { OnOk result (IsOutput output.now) }
 {
-    let name = output.prints.name().as_str();
-    let shape = shape_text(output.form);
-    let digests = digests_list(alloc, output.prints.as_slice())?;
-    json!(in alloc; {"name": name, "place": output.place.as_str(), "prints": digests, "shape": shape})
+    writer.begin_object()?;
+    write_text(writer, "name", output.prints.name().as_str())?;
+    write_text(writer, "place", output.place.as_str())?;
+    writer.key("prints")?;
+    write_digests(writer, output.prints.as_slice())?;
+    write_text(writer, "shape", shape_text(output.form))?;
+    writer.end_object()
 }
 
-pub fn outputs_list(alloc: Global, outputs: &[OutputRecord]) -> Result<Json, AllocError>
-    ensures json { IfOk result (λ v. view v ≡ array (items_of (map output_json outputs.now))) }
+fn write_outputs(writer: &mut Writer, outputs: &[OutputRecord]) -> Result<(), AllocError>
+    ensures json { OnOk result (writer.new.tokens
+        ≡ writer.old.tokens ++ data_tokens (array (items_of (map output_json outputs.now)))) }
+    ensures before { writer.new.before ≡ writer.old.before }
     ensures held { OnOk result (AllByRecursion IsOutput outputs.now) }
 {
-    let mut items = Vec::new(alloc);
+    writer.begin_array()?;
     for output in outputs {
-        items.push(output_json(alloc, output)?)?;
+        write_output(writer, output)?;
     }
-    Ok(Json::Array(items))
+    writer.end_array()
 }
 
-fn run_object(
-    alloc: Global,
-    path: &str,
-    actions: Json,
-    inputs: Json,
-    outputs: Json,
-    values: Json,
-) -> Result<Json, AllocError>
-    ensures { IfOk result
-        (λ v. view v ≡ run_object (view actions) (view inputs) (view outputs) path.now (view values)) }
-{
-    json!(in alloc; {"actions": actions, "files": inputs, "outputs": outputs, "task": path, "values": values})
-}
-
-fn run_json(
-    alloc: Global,
+fn write_run(
+    writer: &mut Writer,
     edition: Edition,
     path: &TaskPath,
     run: &Record,
-) -> Result<Json, AllocError>
-    ensures json { IfOk result (λ v. view v ≡ run_json edition path.now run.now) }
+) -> Result<(), AllocError>
+    ensures json { OnOk result
+        (writer.new.tokens ≡ writer.old.tokens ++ data_tokens (run_json edition path.now run.now)) }
+    ensures before { writer.new.before ≡ writer.old.before }
     ensures held { OnOk result (IsRemembered run.now) }
     ensures utf8 { OnOk result (IsUtf8 path.now) }
     ensures task { OnOk result (IsTrue (is_task_path path.now)) }
 {
-    let path = path.as_str();
-    let actions = actions_list(alloc, edition, run.actions())?;
-    let inputs = prints_list(alloc, run.inputs())?;
-    let outputs = outputs_list(alloc, run.outputs())?;
-    let values = inputs_list(alloc, run.values().as_slice())?;
-    run_object(alloc, path, actions, inputs, outputs, values)
+    writer.begin_object()?;
+    writer.key("actions")?;
+    write_actions(writer, edition, run.actions())?;
+    writer.key("files")?;
+    write_properties(writer, run.inputs())?;
+    writer.key("outputs")?;
+    write_outputs(writer, run.outputs())?;
+    write_text(writer, "task", path.as_str())?;
+    writer.key("values")?;
+    write_inputs(writer, run.values().as_slice())?;
+    writer.end_object()
 }
 
 /// The number by which an edition is told.
@@ -229,49 +358,76 @@ fn edition_number(edition: Edition) -> u64
     }
 }
 
-/// The record as JSON, in a list of one.
-pub fn record_json(
-    alloc: Global,
+/// A list of one record.
+fn write_only(
+    writer: &mut Writer,
     edition: Edition,
     path: &TaskPath,
     run: &Record,
-) -> Result<Json, AllocError>
-    ensures json { IfOk result (λ v. view v ≡ record_json edition path.now run.now) }
+) -> Result<(), AllocError>
+    ensures json { OnOk result (writer.new.tokens
+        ≡ writer.old.tokens ++ data_tokens (array (items_of (run_json edition path.now run.now ∷ [])))) }
+    ensures before { writer.new.before ≡ writer.old.before }
     ensures held { OnOk result (IsRemembered run.now) }
     ensures utf8 { OnOk result (IsUtf8 path.now) }
 {
-    let run = run_json(alloc, edition, path, run)?;
-    let form = edition_number(edition);
-    json!(in alloc; {"form": form, "tasks": [run]})
+    writer.begin_array()?;
+    write_run(writer, edition, path, run)?;
+    writer.end_array()
+}
+
+/// The record of a task, in a list of one.
+pub fn write_record(
+    writer: &mut Writer,
+    edition: Edition,
+    path: &TaskPath,
+    run: &Record,
+) -> Result<(), AllocError>
+    ensures json { OnOk result
+        (writer.new.tokens ≡ writer.old.tokens ++ data_tokens (record_json edition path.now run.now)) }
+    ensures before { writer.new.before ≡ writer.old.before }
+    ensures held { OnOk result (IsRemembered run.now) }
+    ensures utf8 { OnOk result (IsUtf8 path.now) }
+{
+    writer.begin_object()?;
+    write_number(writer, "form", edition_number(edition))?;
+    writer.key("tasks")?;
+    write_only(writer, edition, path, run)?;
+    writer.end_object()
 }
 
 /// Records in the order of the paths of their tasks.
-fn entries_list(
-    alloc: Global,
+fn write_entries(
+    writer: &mut Writer,
     edition: Edition,
     records: &BTreeMap<TaskPath, Record>,
-) -> Result<Json, AllocError>
-    ensures json { IfOk result
-        (λ v. view v ≡ array (items_of (map (entry_json edition) records.now.entries))) }
+) -> Result<(), AllocError>
+    ensures json { OnOk result (writer.new.tokens ≡ writer.old.tokens ++ data_tokens
+        (array (items_of (map (entry_json edition) records.now.entries)))) }
+    ensures before { writer.new.before ≡ writer.old.before }
     ensures held { OnOk result (AreHeld records.now.entries) }
 {
-    let mut items = Vec::new(alloc);
+    writer.begin_array()?;
     for (path, run) in records.iter() {
-        items.push(run_json(alloc, edition, path, run)?)?;
+        write_run(writer, edition, path, run)?;
     }
-    Ok(Json::Array(items))
+    writer.end_array()
 }
 
-/// All records as JSON.
-pub fn history_json(
-    alloc: Global,
+/// All records.
+pub fn write_history(
+    writer: &mut Writer,
     edition: Edition,
     records: &BTreeMap<TaskPath, Record>,
-) -> Result<Json, AllocError>
-    ensures json { IfOk result (λ v. view v ≡ history_json edition records.now.entries) }
+) -> Result<(), AllocError>
+    ensures json { OnOk result
+        (writer.new.tokens ≡ writer.old.tokens ++ data_tokens (history_json edition records.now.entries)) }
+    ensures before { writer.new.before ≡ writer.old.before }
     ensures held { OnOk result (AreHeld records.now.entries) }
 {
-    let tasks = entries_list(alloc, edition, records)?;
-    let form = edition_number(edition);
-    json!(in alloc; {"form": form, "tasks": tasks})
+    writer.begin_object()?;
+    write_number(writer, "form", edition_number(edition))?;
+    writer.key("tasks")?;
+    write_entries(writer, edition, records)?;
+    writer.end_object()
 }

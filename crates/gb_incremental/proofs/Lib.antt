@@ -18,3 +18,4 @@ pub mod Further
 pub mod Failing
 pub mod OneWriter
 pub mod Telling
+pub mod Asked

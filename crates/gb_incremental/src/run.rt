@@ -1,11 +1,12 @@
 //! The run of a task's actions by changes, one after another.
-ghost use Rattle.std.specs.Prelude.{◌≡◌, ◌≤◌, ◌⊎◌, ◌++◌, ℕ, List, [], true, false, Ok, Err, IsTrue, IfOk, IfErr, OnOk, OnErr, map};
+ghost use Rattle.std.specs.Prelude.{◌≡◌, ◌⊎◌, ◌++◌, ℕ, List, [], true, false, Ok, Err, IsTrue, IfOk, IfErr, OnOk, OnErr, map};
 ghost use Rattle.std.specs.FinMap.Entries.{is_sorted};
 ghost use Rattle.std.specs.List.{AllByRecursion};
 ghost use Rattle.gb_core.specs.Lists.{byte_order};
 ghost use Rattle.gb_action.specs.Files.{Trees};
 ghost use Rattle.gb_action.specs.Replies.{Answers};
-ghost use Rattle.gb_folder.specs.Files.{Files, SameTearing, are_placed};
+ghost use Rattle.gb_folder.specs.Calls.{Asks, changes_at};
+ghost use Rattle.gb_folder.specs.Files.{Files, are_placed};
 ghost use Rattle.gb_store.specs.Changes.{ChangesOnly};
 ghost use Rattle.gb_store.specs.Faults.{Blames, BlamesOnly};
 ghost use Rattle.gb_tree.specs.Prints.{digests_of};
@@ -142,10 +143,9 @@ fn run_writer<A: Actions, F: Folder>(
     requires formed { map (λ output. (output.name, output.form)) running.old.seen
         ≡ seen_outputs task.now.outputs }
     requires able { AnswersChanges A.meanings table.now action.now }
-    ensures count { F.failures folder.old ≤ F.failures folder.new }
+    ensures asks { Asks F.failures F.may_leave F.asked (changes_at (is_output_of task.now)) folder.old folder.new }
     ensures blame { Blames result (F.failures folder.old) (F.failures folder.new) }
     ensures blamed { BlamesOnly (is_output_of task.now) result }
-    ensures tearing { SameTearing (F.may_leave folder.old) (F.may_leave folder.new) }
     ensures changes { IsTrue F.tells
         → ChangesOnly (is_output_of task.now) (F.contents folder.old) (F.contents folder.new) }
     ensures full { OnOk result (IsFullLike task.now running.old.request running.new.request) }
@@ -202,10 +202,9 @@ fn run_one<A: Actions, F: Folder>(
     requires formed { map (λ output. (output.name, output.form)) running.old.seen
         ≡ seen_outputs task.now.outputs }
     requires able { CanGoOn A.meanings table.now action.now }
-    ensures count { F.failures folder.old ≤ F.failures folder.new }
+    ensures asks { Asks F.failures F.may_leave F.asked (changes_at (is_output_of task.now)) folder.old folder.new }
     ensures blame { Blames result (F.failures folder.old) (F.failures folder.new) }
     ensures blamed { BlamesOnly (is_output_of task.now) result }
-    ensures tearing { SameTearing (F.may_leave folder.old) (F.may_leave folder.new) }
     ensures changes { IsTrue F.tells
         → ChangesOnly (is_output_of task.now) (F.contents folder.old) (F.contents folder.new) }
     ensures full { OnOk result (IsFullLike task.now running.old.request running.new.request) }
@@ -284,10 +283,9 @@ pub fn run_by_changes<A: Actions, F: Folder>(
         → GoesOn kinds task.now old files changes outputs standing → (held : Files)
         × (made_of kinds task.now.actions task.now.values files task.now.outputs ≡ Ok held)
         × (made.items ≡ prints_at task.now.outputs held)) }
-    ensures count { F.failures folder.old ≤ F.failures folder.new }
+    ensures asks { Asks F.failures F.may_leave F.asked (changes_at (is_output_of task.now)) folder.old folder.new }
     ensures blame { Blames result (F.failures folder.old) (F.failures folder.new) }
     ensures blamed { BlamesOnly (is_output_of task.now) result }
-    ensures tearing { SameTearing (F.may_leave folder.old) (F.may_leave folder.new) }
     ensures changes { IsTrue F.tells
         → ChangesOnly (is_output_of task.now) (F.contents folder.old) (F.contents folder.new) }
     ensures ok { IsTrue F.tells → OnOk result ((kinds : Kinds) → Agrees A.meanings table.now kinds

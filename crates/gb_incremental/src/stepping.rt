@@ -2,7 +2,8 @@
 ghost use Rattle.std.specs.Prelude.{◌≡◌, ◌≤◌, ◌⊎◌, [], ◌∷◌, Some, None, false, IsTrue, IfErr, OnOk, length};
 ghost use Rattle.std.specs.List.{AllByRecursion, list_any};
 ghost use Rattle.std.specs.Option.{option_copied};
-ghost use Rattle.gb_folder.specs.Files.{SameTearing, is_blocked};
+ghost use Rattle.gb_folder.specs.Calls.{Asks, put_at, taken_at, changes_at};
+ghost use Rattle.gb_folder.specs.Files.{is_blocked};
 ghost use Rattle.gb_folder.specs.Limits.{max_file};
 ghost use Rattle.gb_store.specs.Changes.{IsHindered, is_at};
 ghost use Rattle.gb_store.specs.Faults.{Blames, BlamesOnly};
@@ -21,10 +22,9 @@ use gb_store::removal::remove_all;
 /// Does these steps, one after another, up to the first that cannot be done.
 pub fn take_steps<F: Folder>(folder: &mut F, steps: &[(Place, Option<&Bytes>)]) -> Result<(), Fault>
     requires small { AllByRecursion IsSmall (shown_steps steps.now) }
-    ensures count { F.failures folder.old ≤ F.failures folder.new }
+    ensures asks { Asks F.failures F.may_leave F.asked (changes_at (λ place. list_any (λ step. is_at step.0 place) steps.now)) folder.old folder.new }
     ensures blame { Blames result (F.failures folder.old) (F.failures folder.new) }
     ensures blamed { BlamesOnly (λ place. list_any (λ step. is_at step.0 place) steps.now) result }
-    ensures tearing { SameTearing (F.may_leave folder.old) (F.may_leave folder.new) }
     ensures ok { IsTrue F.tells → OnOk result
         (F.contents folder.new ≡ folder_after (F.contents folder.old) (shown_steps steps.now)) }
     ensures room { IsTrue F.tells → OnOk result
@@ -42,10 +42,9 @@ pub fn take_steps<F: Folder>(folder: &mut F, steps: &[(Place, Option<&Bytes>)]) 
 /// Puts a file, or takes one away.
 fn take_step<F: Folder>(folder: &mut F, place: &Place, bytes: Option<&Bytes>) -> Result<(), Fault>
     requires small { IsSmall (place.now, option_copied bytes) }
-    ensures count { F.failures folder.old ≤ F.failures folder.new }
+    ensures asks { Asks F.failures F.may_leave F.asked (changes_at (is_at place.now)) folder.old folder.new }
     ensures blame { Blames result (F.failures folder.old) (F.failures folder.new) }
     ensures blamed { BlamesOnly (is_at place.now) result }
-    ensures tearing { SameTearing (F.may_leave folder.old) (F.may_leave folder.new) }
     ensures ok { IsTrue F.tells → OnOk result (F.contents folder.new
         ≡ folder_after (F.contents folder.old) ((place.now, option_copied bytes.entry) ∷ [])) }
     ensures free { IsTrue F.tells → OnOk result
@@ -65,10 +64,9 @@ fn take_step<F: Folder>(folder: &mut F, place: &Place, bytes: Option<&Bytes>) ->
 /// is left.
 fn put_file<F: Folder>(folder: &mut F, place: &Place, bytes: &Bytes) -> Result<(), Fault>
     requires small { length bytes.now ≤ max_file }
-    ensures count { F.failures folder.old ≤ F.failures folder.new }
+    ensures asks { Asks F.failures F.may_leave F.asked (put_at place.now bytes.now) folder.old folder.new }
     ensures blame { Blames result (F.failures folder.old) (F.failures folder.new) }
     ensures blamed { BlamesOnly (is_at place.now) result }
-    ensures tearing { SameTearing (F.may_leave folder.old) (F.may_leave folder.new) }
     ensures ok { IsTrue F.tells → OnOk result
         (F.contents folder.new ≡ folder_after (F.contents folder.old) ((place.now, Some bytes.now) ∷ [])) }
     ensures free { IsTrue F.tells → OnOk result (is_blocked (F.contents folder.old).files place.now ≡ false) }
@@ -86,10 +84,9 @@ fn put_file<F: Folder>(folder: &mut F, place: &Place, bytes: &Bytes) -> Result<(
 
 /// Takes the file at a place away, if one stands there.
 fn take_file<F: Folder>(folder: &mut F, place: &Place) -> Result<(), Fault>
-    ensures count { F.failures folder.old ≤ F.failures folder.new }
+    ensures asks { Asks F.failures F.may_leave F.asked (taken_at place.now) folder.old folder.new }
     ensures blame { Blames result (F.failures folder.old) (F.failures folder.new) }
     ensures blamed { BlamesOnly (is_at place.now) result }
-    ensures tearing { SameTearing (F.may_leave folder.old) (F.may_leave folder.new) }
     ensures ok { IsTrue F.tells → OnOk result
         (F.contents folder.new ≡ folder_after (F.contents folder.old) ((place.now, None) ∷ [])) }
     ensures stopped { IsTrue F.tells → IfErr result

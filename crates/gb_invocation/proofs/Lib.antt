@@ -6,3 +6,4 @@ pub mod Blameless
 pub mod BlamelessTasks
 pub mod BlamelessScripts
 pub mod Blamed
+pub mod Asked

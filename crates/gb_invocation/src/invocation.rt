@@ -16,6 +16,7 @@ ghost use Rattle.gb_registry.specs.Configure.{configure_faults};
 ghost use Rattle.gb_registry.specs.Tables.{tables_of};
 ghost use Rattle.gb_task.specs.Turned.{setting_with};
 ghost use Rattle.gb_tasks.specs.Scripts.{registry_said};
+ghost use Rattle.gb_invocation.specs.Asked.{InvocationAsks};
 ghost use Rattle.gb_invocation.specs.Scripts.{registers_in, setting_of};
 
 use gb_action::actions::Actions;
@@ -54,6 +55,10 @@ pub fn invoke<A: Actions, T: Transforms, F: Folder, L: TaskListener>(
     ensures device { HasFailed (times_blamed (answer_of result))
         (F.failures folder.old) (F.failures folder.new) }
     ensures tearing { SameTearing (F.may_leave folder.old) (F.may_leave folder.new) }
+    // Over any folder: a write or a removal is asked for only at or beneath an output of a task of its plan or
+    // at the record of one, whose text is that of a run of the task; by a refused build and in a dry run, none.
+    ensures asks { InvocationAsks F.failures F.may_leave F.asked A.meanings tables.now.actions invocation.now
+        result folder.old folder.new }
     // Over any folder: it is a build of the plan of what was asked of some registry, of which each task
     // starts and answers as it may; and a refusal blames the device where it reads before the first task.
     ensures outlined { IfOk result (IsOutlined invocation.now) }
@@ -123,6 +128,8 @@ fn build_registered<A: Actions, T: Transforms, F: Folder, L: TaskListener>(
     ensures device { HasFailed (times_blamed (answer_of result))
         (F.failures folder.old) (F.failures folder.new) }
     ensures tearing { SameTearing (F.may_leave folder.old) (F.may_leave folder.new) }
+    ensures asks { InvocationAsks F.failures F.may_leave F.asked A.meanings tables.now.actions invocation.now
+        result folder.old folder.new }
     ensures outlined { IfOk result (IsOutlined invocation.now) }
     ensures places { IfErr result (λ fault. (place : List ℕ) → fault ≡ Fault.Device place
         → IsTrue (is_own place && not invocation.now.options.dry_run)) }

@@ -7,3 +7,4 @@ pub mod Changed
 pub mod Holding
 pub mod Read
 pub mod Planning
+pub mod Asking

@@ -1,7 +1,8 @@
 //! What is read before a build.
-ghost use Rattle.std.specs.Prelude.{◌≡◌, ◌≤◌, true, false, length, IfErr, IfOk, IsTrue};
+ghost use Rattle.std.specs.Prelude.{◌≡◌, true, false, length, IfErr, IfOk, IsTrue};
 ghost use Rattle.std.specs.List.{AllZip};
-ghost use Rattle.gb_folder.specs.Files.{SameTearing};
+ghost use Rattle.gb_folder.specs.Calls.{Asks, no_change};
+ghost use Rattle.gb_records.specs.Answered.{WasAnswered};
 ghost use Rattle.gb_plan.specs.Graph.{order};
 ghost use Rattle.gb_records.specs.Said.{IsReadAt};
 ghost use Rattle.gb_invoke.specs.Refusing.{IsUnread};
@@ -23,8 +24,10 @@ pub fn records_for<F: Folder>(
     dry_run: bool,
 ) -> Result<Vec<Option<Record>>, Fault>
     ensures each { IfOk result (λ records. length records.items ≡ length tasks.now) }
-    ensures count { F.failures folder.old ≤ F.failures folder.new }
-    ensures tearing { SameTearing (F.may_leave folder.old) (F.may_leave folder.new) }
+    ensures asks { Asks F.failures F.may_leave F.asked no_change folder.old folder.new }
+    // Over any folder: each record is what a call at its place answered.
+    ensures answered { dry_run ≡ false → IfOk result (λ records. AllZip
+        (WasAnswered F.failures F.may_leave F.asked folder.old folder.new) (order tasks.now) records.items) }
     ensures same { IsTrue F.tells → F.contents folder.new ≡ F.contents folder.old }
     ensures dry { dry_run ≡ true → folder.new ≡ folder.old }
     ensures read { IsTrue F.tells → dry_run ≡ false → IfOk result

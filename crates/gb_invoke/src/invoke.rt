@@ -10,6 +10,7 @@ ghost use Rattle.gb_meaning.specs.TrueRecord.{outside};
 ghost use Rattle.gb_records.specs.Said.{IsText};
 ghost use Rattle.gb_store.specs.Changes.{ChangesOnly};
 ghost use Rattle.gb_task.specs.Turned.{Registering, setting_with};
+ghost use Rattle.gb_invoke.specs.Asked.{BuildAsks};
 ghost use Rattle.gb_invoke.specs.Asking.{AreBuildable, IsReportOf, NoneBlameDevice};
 ghost use Rattle.gb_invoke.specs.Leading.{Leads};
 ghost use Rattle.gb_invoke.specs.Refusing.{IsNotBegun};
@@ -55,6 +56,9 @@ pub fn build_requested<A: Actions, F: Folder, L: TaskListener, Ts: Tasks>(
     ensures device { NoneBlameDevice (Ts.registry tasks.old)
         → HasFailed (times_blamed (answer_of result)) (F.failures folder.old) (F.failures folder.new) }
     ensures tearing { SameTearing (F.may_leave folder.old) (F.may_leave folder.new) }
+    // Over any folder: which changes it asks for, and which records it puts in.
+    ensures asks { BuildAsks F.failures F.may_leave F.asked A.meanings table.now (Ts.registry tasks.old)
+        invocation.now result folder.old folder.new }
     ensures dry { invocation.now.options.dry_run ≡ true → folder.new ≡ folder.old }
     ensures refused { IsTrue F.tells → OnErr result (F.contents folder.new ≡ F.contents folder.old) }
     // Nothing changes but `.gb` and the build folders of the registered projects.

@@ -6,9 +6,9 @@ ghost use Rattle.std.specs.FinMap.Entries.{is_sorted};
 ghost use Rattle.gb_core.specs.Lists.{byte_order};
 ghost use Rattle.gb_action.specs.Files.{tree_at};
 ghost use Rattle.gb_action.specs.Shapes.{source as source_is};
-ghost use Rattle.gb_kinds.specs.ByFile.{file_of, by_file, edited, holds, rewritten, writes_for, removes_for, IsByFile};
+ghost use Rattle.gb_kinds.specs.ByFile.{file_of, by_file, holds, rewritten, writes_for, removes_for, IsByFile};
 
-use crate::edit::FileEdit;
+use crate::edit::FileMaker;
 use crate::names::{output_name, source_name};
 use crate::source;
 use gb_action::change::Change;
@@ -19,8 +19,12 @@ use gb_core::place::RelPath;
 use std::alloc::{AllocError, Global};
 
 /// The reply of a kind that makes a file of each file.
-pub fn reply_by_file(alloc: Global, request: &Request, edit: &FileEdit) -> Result<Reply, AllocError>
-    ensures reply { IfOk result (λ reply. IsByFile (edited edit.now) request.now reply) }
+pub fn reply_by_file<E: FileMaker>(
+    alloc: Global,
+    request: &Request,
+    edit: &E,
+) -> Result<Reply, AllocError>
+    ensures reply { IfOk result (λ reply. IsByFile (E.edited edit.now) request.now reply) }
     ensures ordered { IfOk result (λ _. IsTrue (is_sorted byte_order (tree_at request.now.files source_is))) }
 {
     let name = source_name(alloc)?;
@@ -42,12 +46,12 @@ pub fn reply_by_file(alloc: Global, request: &Request, edit: &FileEdit) -> Resul
     }
 }
 
-fn all_writes(
+fn all_writes<E: FileMaker>(
     alloc: Global,
     files: &[(RelPath, Bytes)],
-    edit: &FileEdit,
+    edit: &E,
 ) -> Result<Writes, AllocError>
-    ensures { IfOk result (λ writes. writes ≡ by_file (edited edit.now) files.now) }
+    ensures { IfOk result (λ writes. writes ≡ by_file (E.edited edit.now) files.now) }
 {
     let mut writes = Writes::new(alloc);
     for (path, bytes) in files {
@@ -74,13 +78,13 @@ fn removals(alloc: Global, changes: &[Change]) -> Result<Removals, AllocError>
 }
 
 /// What is made of the changed files, where it does not stand so already.
-fn changed_writes(
+fn changed_writes<E: FileMaker>(
     alloc: Global,
     request: &Request,
-    edit: &FileEdit,
+    edit: &E,
     changes: &[Change],
 ) -> Result<Writes, AllocError>
-    ensures { IfOk result (λ writes. writes ≡ flat_map (writes_for (edited edit.now) request.now.outputs (tree_at request.now.files source_is)) changes.now) }
+    ensures { IfOk result (λ writes. writes ≡ flat_map (writes_for (E.edited edit.now) request.now.outputs (tree_at request.now.files source_is)) changes.now) }
 {
     let name = source_name(alloc)?;
     let output = output_name(alloc)?;
@@ -99,15 +103,15 @@ fn changed_writes(
 }
 
 /// Writes what is made of the file, if there is one, unless that stands already.
-fn rewrite(
+fn rewrite<E: FileMaker>(
     alloc: Global,
     writes: &mut Writes,
-    edit: &FileEdit,
+    edit: &E,
     path: &RelPath,
     standing: Option<&Bytes>,
     contents: Option<&Bytes>,
 ) -> Result<(), AllocError>
-    ensures { OnOk result (writes.new ≡ writes.old ++ rewritten (edited edit.now) path.now (option_copied standing.entry) (option_copied contents.entry)) }
+    ensures { OnOk result (writes.new ≡ writes.old ++ rewritten (E.edited edit.now) path.now (option_copied standing.entry) (option_copied contents.entry)) }
 {
     if let Some(bytes) = contents {
         let made = edit.apply(alloc, bytes.as_slice())?;

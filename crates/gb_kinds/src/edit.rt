@@ -1,7 +1,6 @@
 //! What becomes of the bytes of one file.
 ghost use Rattle.std.specs.Prelude.{◌≡◌, ◌++◌, ◌∷◌, [], IfOk};
 ghost use Rattle.std.specs.List.{concat, filter};
-ghost use Rattle.gb_kinds.specs.ByFile.{edited};
 ghost use Rattle.gb_kinds.specs.Contents.{sum_line, occurs, kept_lines, token, with_value};
 
 use bstr::ByteSlice;
@@ -22,11 +21,24 @@ pub enum FileEdit<'a> {
     Sum,
 }
 
-impl FileEdit<'_> {
-    /// What is made of the bytes.
-    pub fn apply(&self, alloc: Global, bytes: &[u8]) -> Result<Bytes, AllocError>
-        ensures { IfOk result (λ made. made ≡ edited self.now bytes.now) }
-    {
+/// What makes a file's bytes of a file's bytes.
+pub trait FileMaker {
+    ghost use Rattle.std.specs.Prelude.{ℕ, List};
+
+    /// What is made of them.
+    ghost edited: { Self → List ℕ → List ℕ };
+
+    /// Makes it.
+    fn apply(&self, alloc: Global, bytes: &[u8]) -> Result<Bytes, AllocError>
+        ensures { IfOk result (λ made. made ≡ edited self.now bytes.now) };
+}
+
+impl FileMaker for FileEdit<'_> {
+    ghost use Rattle.gb_kinds.specs.ByFile.{edited as made_by};
+
+    ghost edited = { made_by };
+
+    fn apply(&self, alloc: Global, bytes: &[u8]) -> Result<Bytes, AllocError> {
         match self {
             FileEdit::Copy => Bytes::from_slice(alloc, bytes),
             FileEdit::ReplaceToken { key, value } => {

@@ -7,11 +7,11 @@
 //! The functions of values, of which properties and providers are made, have the same form.
 #![tactic(auto)]
 
-mod arguments;
+pub mod arguments;
 pub mod builtin;
-mod by_file;
+pub mod by_file;
 mod carried;
-mod edit;
+pub mod edit;
 pub mod files;
 pub mod function_table;
 pub mod functions;
@@ -21,7 +21,7 @@ pub mod names;
 mod one_file;
 mod remade;
 pub mod shapes;
-mod source;
+pub mod source;
 pub mod stored;
 pub mod table;
 pub mod texts;

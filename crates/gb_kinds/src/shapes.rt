@@ -132,7 +132,7 @@ fn two_arguments(alloc: Global, first: Arg, second: Arg) -> Result<ArgList, Allo
 }
 
 /// The shape of a kind that reads no files.
-fn of_texts(args: ArgList, out: Option<Form>) -> Shape
+pub fn of_texts(args: ArgList, out: Option<Form>) -> Shape
     ensures { result ≡ of_texts args out }
 {
     Shape {
@@ -144,7 +144,7 @@ fn of_texts(args: ArgList, out: Option<Form>) -> Shape
 }
 
 /// The shape of a kind that follows the changes of files.
-fn of_files(args: ArgList) -> Shape
+pub fn of_files(args: ArgList) -> Shape
     ensures { result ≡ of_files args }
 {
     Shape {

@@ -1,7 +1,8 @@
 //! What is decided of a task by its record.
-ghost use Rattle.std.specs.Prelude.{◌≡◌, ◌≤◌, ◌⊎◌, [], false, map, Some, IsTrue, IfOk, IfErr, OnOk, option_copied};
+ghost use Rattle.std.specs.Prelude.{◌≡◌, ◌⊎◌, [], false, map, Some, IsTrue, IfOk, IfErr, OnOk, option_copied};
 ghost use Rattle.std.specs.List.{flat_map, list_any};
-ghost use Rattle.gb_folder.specs.Files.{SameTearing, is_empty, is_own};
+ghost use Rattle.gb_folder.specs.Calls.{Asks, no_change};
+ghost use Rattle.gb_folder.specs.Files.{is_empty, is_own};
 ghost use Rattle.gb_history.specs.Decision.{DecidesFrom};
 ghost use Rattle.gb_history.specs.Remembered.{prints_in};
 ghost use Rattle.gb_history.specs.declared.decide.Present.{Present};
@@ -40,10 +41,9 @@ pub fn decided<F: Folder>(
 ) -> Result<(Decision, Vec<Reading>), Fault>
     requires in_order { HasNamesInOrder task.now }
     requires named { map (λ found. found.0) inputs.now ≡ map (λ property. property.name) task.now.files }
-    ensures count { F.failures folder.old ≤ F.failures folder.new }
+    ensures asks { Asks F.failures F.may_leave F.asked no_change folder.old folder.new }
     ensures blame { Blames result (F.failures folder.old) (F.failures folder.new) }
     ensures blamed { BlamesOnly (is_output_of task.now) result }
-    ensures tearing { SameTearing (F.may_leave folder.old) (F.may_leave folder.new) }
     // Over any folder: what is up to date has outputs, is not stale, and no rerun is asked.
     ensures may_decide { IfOk result (λ found. MayDecide options task.now found.0) }
     // Over any folder: where it may go on by changes its outputs were read.
@@ -74,10 +74,9 @@ fn in_full<F: Folder>(
     folder: &mut F,
     task: &TaskDeclaration,
 ) -> Result<(Decision, Vec<Reading>), Fault>
-    ensures count { F.failures folder.old ≤ F.failures folder.new }
+    ensures asks { Asks F.failures F.may_leave F.asked no_change folder.old folder.new }
     ensures blame { Blames result (F.failures folder.old) (F.failures folder.new) }
     ensures blamed { BlamesOnly (is_output_of task.now) result }
-    ensures tearing { SameTearing (F.may_leave folder.old) (F.may_leave folder.new) }
     ensures same { IsTrue F.tells → F.contents folder.new ≡ F.contents folder.old }
     ensures full { IfOk result (λ found. found.0 ≡ Decision.Full) }
     ensures none_odd { IsTrue F.tells → OnOk result (listing_faults task.now (F.contents folder.old) ≡ []) }
@@ -100,10 +99,9 @@ fn by_record<F: Folder>(
 ) -> Result<(Decision, Vec<Reading>), Fault>
     requires in_order { HasNamesInOrder task.now }
     requires named { map (λ found. found.0) inputs.now ≡ map (λ property. property.name) task.now.files }
-    ensures count { F.failures folder.old ≤ F.failures folder.new }
+    ensures asks { Asks F.failures F.may_leave F.asked no_change folder.old folder.new }
     ensures blame { Blames result (F.failures folder.old) (F.failures folder.new) }
     ensures blamed { BlamesOnly (is_output_of task.now) result }
-    ensures tearing { SameTearing (F.may_leave folder.old) (F.may_leave folder.new) }
     ensures may_decide { IfOk result (λ found. MayDecide options task.now found.0) }
     ensures read { IfOk result (λ found. AreOutputsFor task.now found.0 found.1.items) }
     ensures same { IsTrue F.tells → F.contents folder.new ≡ F.contents folder.old }
@@ -136,10 +134,9 @@ fn read_listed<F: Folder>(
     task: &TaskDeclaration,
     mut room: u64,
 ) -> Result<Vec<Reading>, Fault>
-    ensures count { F.failures folder.old ≤ F.failures folder.new }
+    ensures asks { Asks F.failures F.may_leave F.asked no_change folder.old folder.new }
     ensures blame { Blames result (F.failures folder.old) (F.failures folder.new) }
     ensures blamed { BlamesOnly (is_output_of task.now) result }
-    ensures tearing { SameTearing (F.may_leave folder.old) (F.may_leave folder.new) }
     ensures same { IsTrue F.tells → F.contents folder.new ≡ F.contents folder.old }
     ensures read { IfOk result (λ found. AreOutputs task.now found.items) }
     ensures prints { IsTrue F.tells → IfOk result (λ found.
@@ -165,10 +162,9 @@ fn read_checked<F: Folder>(
     task: &TaskDeclaration,
     mut room: u64,
 ) -> Result<Vec<Reading>, Fault>
-    ensures count { F.failures folder.old ≤ F.failures folder.new }
+    ensures asks { Asks F.failures F.may_leave F.asked no_change folder.old folder.new }
     ensures blame { Blames result (F.failures folder.old) (F.failures folder.new) }
     ensures blamed { BlamesOnly (is_output_of task.now) result }
-    ensures tearing { SameTearing (F.may_leave folder.old) (F.may_leave folder.new) }
     ensures same { IsTrue F.tells → F.contents folder.new ≡ F.contents folder.old }
     ensures read { IfOk result (λ found. AreOutputs task.now found.items) }
     ensures prints { IsTrue F.tells → IfOk result (λ found.

@@ -1,6 +1,6 @@
 //! Whether all that stands at a task's outputs can be listed.
-ghost use Rattle.std.specs.Prelude.{◌≡◌, ◌≤◌, [], IsTrue, IfErr, OnOk};
-ghost use Rattle.gb_folder.specs.Files.{SameTearing};
+ghost use Rattle.std.specs.Prelude.{◌≡◌, [], IsTrue, IfErr, OnOk};
+ghost use Rattle.gb_folder.specs.Calls.{Asks, no_change};
 ghost use Rattle.gb_meaning.specs.Tree.{listing_faults};
 ghost use Rattle.gb_plan.specs.Task.{is_output_of};
 ghost use Rattle.gb_store.specs.Faults.{Blames, BlamesOnly};
@@ -18,10 +18,9 @@ pub(crate) fn check_outputs<F: Folder>(
     folder: &mut F,
     task: &TaskDeclaration,
 ) -> Result<(), Fault>
-    ensures count { F.failures folder.old ≤ F.failures folder.new }
+    ensures asks { Asks F.failures F.may_leave F.asked no_change folder.old folder.new }
     ensures blame { Blames result (F.failures folder.old) (F.failures folder.new) }
     ensures blamed { BlamesOnly (is_output_of task.now) result }
-    ensures tearing { SameTearing (F.may_leave folder.old) (F.may_leave folder.new) }
     ensures same { IsTrue F.tells → F.contents folder.new ≡ F.contents folder.old }
     ensures none_odd { IsTrue F.tells → OnOk result (listing_faults task.now (F.contents folder.old) ≡ []) }
     ensures err { IsTrue F.tells → IfErr result (CannotRead (F.failures folder.old) (F.failures folder.new)

@@ -1,6 +1,7 @@
 //! What a started task's turn comes to, before anything is changed.
-ghost use Rattle.std.specs.Prelude.{◌≡◌, ◌≤◌, ◌||◌, true, false, IsTrue, IfOk, IfErr, OnErr, option_copied};
-ghost use Rattle.gb_folder.specs.Files.{SameTearing, is_empty};
+ghost use Rattle.std.specs.Prelude.{◌≡◌, ◌||◌, true, false, IsTrue, IfOk, IfErr, OnErr, option_copied};
+ghost use Rattle.gb_folder.specs.Calls.{Asks, no_change};
+ghost use Rattle.gb_folder.specs.Files.{is_empty};
 ghost use Rattle.gb_label.specs.Deciding.{HasNamesInOrder};
 ghost use Rattle.gb_label.specs.Looking.{IsHindered};
 ghost use Rattle.gb_label.specs.Preparing.{IsPrepared, IsRead, IsSeen, MayDecideAs, MayPrepare};
@@ -54,10 +55,9 @@ pub fn prepare<F: Folder>(
     old: Option<&Record>,
 ) -> Result<Prepared, Fault>
     requires in_order { HasNamesInOrder task.now }
-    ensures count { F.failures folder.old ≤ F.failures folder.new }
+    ensures asks { Asks F.failures F.may_leave F.asked no_change folder.old folder.new }
     ensures blame { Blames result (F.failures folder.old) (F.failures folder.new) }
     ensures blamed { BlamesOnly (λ place. is_input_of task.now place || is_output_of task.now place) result }
-    ensures tearing { SameTearing (F.may_leave folder.old) (F.may_leave folder.new) }
     // Over any folder: which it may be, when it may be up to date, and that what is skipped or has no
     // actions reads nothing.
     ensures may_be { IfOk result (MayPrepare task.now) }

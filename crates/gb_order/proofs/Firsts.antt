@@ -1,5 +1,5 @@
 -- From numbers to paths: the first word that reaches a scheduled task.
-use Rattle.std.specs.Prelude.{ℕ, zero, suc, ◌≡◌, ◌⊎◌, ◌<◌, ◌≤◌, Bool, true, false, ◌||◌, List, [], ◌∷◌, ◌++◌, map, length, get_or, refl, Contains, Some, Ok}
+use Rattle.std.specs.Prelude.{ℕ, zero, suc, ◌≡◌, ◌⊎◌, ◌<◌, ◌≤◌, Bool, true, false, ◌||◌, List, [], ◌∷◌, ◌++◌, map, length, get_or, take, refl, Contains, Some, Ok}
 use Rattle.std.specs.List.{flat_map}
 use Rattle.std.specs.BTreeMap.{BTreeMap, get}
 use Rattle.std.proofs.Common.{sym, ap, subst, ◌∙◌, inl, inr, arith}
@@ -20,8 +20,9 @@ use Rattle.gb_order.specs.Queue.{paths_in}
 use Rattle.gb_order.specs.Ranked.{TellNumbers, numbers_in}
 use Rattle.gb_order.specs.Reach.{Reaches, IsFirstStart}
 use Rattle.gb_order.specs.Reach as reach
-use Rattle.gb_order.specs.Words.{AreDone, brought_rows}
+use Rattle.gb_order.specs.Words.{AreDone, brought_rows, selected_once}
 use Rattle.gb_order.proofs.Edges.{at_path, has_at, of_kept, into_kept}
+use Rattle.gb_order.proofs.Newly.{first_index, newly_at, newly_length}
 use Rattle.gb_order.proofs.Numbers.{in_of, of_in, in_front, in_back, in_either, left_or, grouped}
 use Rattle.gb_order.proofs.Queues.{has_append, split_or}
 
@@ -158,32 +159,42 @@ module _ (tasks : List TaskDeclaration) (m : BTreeMap Path ℕ) (numbers : TellN
         (edge_back at.0 k low lt (ap (λ q. has_path (brings request.registry q) (path k)) at.2 ∙ (ap (has_path (brings request.registry from)) is ∙ h)))
 
     words_length : length lists ≡ length request.words
-    words_length = ap length done.selects ∙ length-map request.words (selected_by request.registry)
+    words_length = ap length done.selects ∙ newly_length request.registry [] request.words
 
-    list_is : (i : ℕ) → i < length request.words → row (map (numbers_in m) lists) i ≡ numbers_in m (selected_by request.registry (get_or request.words i []))
+    list_is : (i : ℕ) → i < length request.words
+        → row (map (numbers_in m) lists) i ≡ numbers_in m (selected_once request.registry (has_path (take i request.words) (get_or request.words i [])) (get_or request.words i []))
     list_is i lt =
         get_or-map (numbers_in m) lists i [] [] (omega (arith, lt, words_length))
         ∙ ap (λ ls. numbers_in m (get_or ls i [])) done.selects
-        ∙ ap (numbers_in m) (get_or-map (selected_by request.registry) request.words i [] [] lt)
+        ∙ ap (numbers_in m) (newly_at request.registry request.words i lt)
 
     selects : (i : ℕ) → i < length request.words → (p : Path) → has_path (selected_by request.registry (get_or request.words i [])) p ≡ true → has_path (selected request) p ≡ true
     selects i lt p h = some_word (selected_by request.registry) request.words i p lt h
 
-    -- the word of an index reaches a task just where its start reaches the number
+    -- the word of an index reaches a task where its start reaches the number
     to_word : (i k : ℕ) → i < length request.words → Reaches (brought_rows m tasks) (row (map (numbers_in m) lists) i) k → WordReaches request i (path k)
     to_word i k lt r = (
       get_or request.words i [],
       slice_get-get_or request.words i [] lt,
-      (to_path (selected_by request.registry (get_or request.words i [])) k (subst (λ xs. Reaches (brought_rows m tasks) xs k) (list_is i lt) r)).1,
+      by (has_path (take i request.words) (get_or request.words i [])) (subst (λ xs. Reaches (brought_rows m tasks) xs k) (list_is i lt) r),
     )
+      where
+        by : (known : Bool) → Reaches (brought_rows m tasks) (numbers_in m (selected_once request.registry known (get_or request.words i []))) k
+            → Reached (selected_by request.registry (get_or request.words i [])) (brings request.registry) (leaves_out request) (path k)
+        by true r = widen [] (selected_by request.registry (get_or request.words i [])) (brings request.registry) (leaves_out request) (λ p h. not_true h) (path k) (to_path [] k r).1
+        by false r = (to_path (selected_by request.registry (get_or request.words i [])) k r).1
 
-    from_word : (i k : ℕ) → k < length tasks → WordReaches request i (path k) → (i < length request.words) × Reaches (brought_rows m tasks) (row (map (numbers_in m) lists) i) k
+    -- where a word reaches a task, the start where the word first stands reaches the number
+    from_word : (i k : ℕ) → k < length tasks → WordReaches request i (path k) → (j : ℕ) × (j < length request.words) × (j ≤ i) × Reaches (brought_rows m tasks) (row (map (numbers_in m) lists) j) k
     from_word i k lk (word, is, r) =
-        let lt = slice_get_within request.words i word is in
-        let same : get_or request.words i [] ≡ word = get_or_from_slice_get request.words i word [] is in (
-          lt,
-          subst (λ xs. Reaches (brought_rows m tasks) xs k) (sym (list_is i lt))
-              (from_path (selected_by request.registry (get_or request.words i [])) (selects i lt) (path k)
+        let first = first_index request.words i (slice_get_within request.words i word is) in
+        let j = first.index in
+        let same : get_or request.words j [] ≡ word = first.same ∙ get_or_from_slice_get request.words i word [] is in (
+          j,
+          first.within,
+          first.upto,
+          subst (λ xs. Reaches (brought_rows m tasks) xs k) (sym (list_is j first.within ∙ ap (λ b. numbers_in m (selected_once request.registry b (get_or request.words j []))) first.fresh))
+              (from_path (selected_by request.registry (get_or request.words j [])) (selects j first.within) (path k)
               (subst (λ w. Reached (selected_by request.registry w) (brings request.registry) (leaves_out request) (path k)) (sym same) r) k lk refl),
         )
 
@@ -196,12 +207,12 @@ module _ (tasks : List TaskDeclaration) (m : BTreeMap Path ℕ) (numbers : TellN
     first_word words first k lt =
         let some = word_of (path k) (done.scheduled (path k) (has_at (paths_in tasks) k (omega (arith, lt, same_length)))) in
         let there = from_word some.0 k lt (get_or request.words some.0 [], slice_get-get_or request.words some.0 [] some.1, some.2) in
-        let is = first some.0 k (omega (arith, some.1, words_length)) there.1 in
+        let is = first there.0 k (omega (arith, there.1, words_length)) there.3 in
         let within = is.within in
         let starts_length : length (map (numbers_in m) lists) ≡ length lists = length-map lists (numbers_in m) in
         record {
           reaches = to_word (get_or words k 0) k (omega (arith, within, starts_length, words_length)) is.reaches;
-          none_before = λ i low r. is.none_before i low (from_word i k lt r).1;
+          none_before = λ i low r. let at = from_word i k lt r in is.none_before at.0 (omega (arith, low, at.2)) at.3;
         }
 
 -- ---- Tasks with their words

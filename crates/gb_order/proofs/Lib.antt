@@ -8,6 +8,7 @@ pub mod Permuted
 pub mod Queues
 pub mod Reached
 pub mod Selections
+pub mod Newly
 pub mod Firsts
 pub mod Schedules
 pub mod Rounds

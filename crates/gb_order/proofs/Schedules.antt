@@ -1,5 +1,5 @@
 -- The tasks of a queue at its end, with their words, are the scheduled ones.
-use Rattle.std.specs.Prelude.{ℕ, ◌≡◌, ◌<◌, Bool, true, false, not, cond, ◌==◌, List, [], ◌∷◌, ◌++◌, map, length, get_or, bytes_eq, refl, Result, Ok, Err, IfErr}
+use Rattle.std.specs.Prelude.{ℕ, ◌≡◌, ◌<◌, Bool, true, false, not, cond, ◌==◌, List, [], ◌∷◌, map, length, get_or, bytes_eq, refl, Result, Ok, Err, IfErr}
 use Rattle.std.specs.List.{flat_map, filter, list_any, AllByRecursion}
 use Rattle.std.proofs.Common.{sym, ap, subst, ◌∙◌, arith}
 use Rattle.std.proofs.lemmas.List.{get_or-map, length-map}
@@ -11,18 +11,15 @@ use Rattle.gb_plan.specs.declared.plan.Planned.{Planned}
 use Rattle.gb_plan.specs.declared.task.TaskDeclaration.{TaskDeclaration}
 use Rattle.gb_plan.specs.Task.{Text, Path, has_path}
 use Rattle.gb_plan.specs.Graph.{Registry, Request, order, paths_of, selected, selected_by, words_of, absolute, leaves_out, no_repeats, IsFirstWord, IsRegistered}
-use Rattle.gb_plan.specs.Refusal.{open_of, Queued}
+use Rattle.gb_plan.specs.Refusal.{Queued}
 use Rattle.gb_plan.proofs.Tests.{not_true, in_filter, each_all}
 use Rattle.gb_plan.proofs.Registered.{in_with_tasks}
 use Rattle.gb_order.specs.Queue.{added, IsAsked, paths_in}
-use Rattle.gb_order.specs.Words.{AreDone, AreScheduled, AreWorded, AsksFor, asked, joined_paths}
+use Rattle.gb_order.specs.Words.{AreDone, AreScheduled, AreWorded, AsksFor, asked, joined_paths, newly_selected}
+use Rattle.gb_order.proofs.Newly.{added_none, has_newly}
 use Rattle.gb_order.proofs.Queues.{added_distinct, queue_scheduled, has_append, split_or}
 
 -- ---- What is asked for
-
-pub joined_map : (f : Text → List Path) (words : List Text) → joined_paths (map f words) ≡ flat_map f words
-joined_map f [] = refl
-joined_map f (word ∷ words) = ap (λ ps. f word ++ ps) (joined_map f words)
 
 selects_registered : (registry : Registry) (word : Text) (p : Path) → has_path (selected_by registry word) p ≡ true → has_path (paths_of registry) p ≡ true
 selects_registered registry word p h =
@@ -38,15 +35,15 @@ all_registered registry (word ∷ words) p h = split_or (has_path (selected_by r
     (λ e. selects_registered registry word p e)
     (λ e. all_registered registry words p e)
 
-pub lists_registered : (registry : Registry) (words : List Text) (lists : List (List Path)) → lists ≡ map (selected_by registry) words → (p : Path) → has_path (joined_paths lists) p ≡ true → has_path (paths_of registry) p ≡ true
-lists_registered registry words lists is p h = all_registered registry words p (ap (λ ps. has_path ps p) (sym (ap joined_paths is ∙ joined_map (selected_by registry) words)) ∙ h)
+pub lists_registered : (registry : Registry) (words : List Text) (lists : List (List Path)) → lists ≡ newly_selected registry [] words → (p : Path) → has_path (joined_paths lists) p ≡ true → has_path (paths_of registry) p ≡ true
+lists_registered registry words lists is p h = all_registered registry words p (sym (has_newly registry words p) ∙ (ap (λ ls. has_path (joined_paths ls) p) (sym is) ∙ h))
 
-pub asks_for : (registry : Registry) (requested excluded : List Text) (lists others : List (List Path)) → lists ≡ map (selected_by registry) (words_of registry requested) → others ≡ map (selected_by registry) excluded
+pub asks_for : (registry : Registry) (requested excluded : List Text) (lists others : List (List Path)) → lists ≡ newly_selected registry [] (words_of registry requested) → others ≡ newly_selected registry [] excluded
     → AsksFor (asked registry requested excluded) registry lists others
 asks_for registry requested excluded lists others is are = record {
   of = refl;
-  selects = ap joined_paths is ∙ joined_map (selected_by registry) (words_of registry requested);
-  leaves = ap joined_paths are ∙ joined_map (selected_by registry) excluded;
+  selects = λ shut. ap (λ ls. added shut [] (joined_paths ls)) is ∙ added_none registry shut (words_of registry requested);
+  leaves = λ p. ap (λ ls. has_path (joined_paths ls) p) are ∙ has_newly registry excluded p;
 }
 
 -- a queue that takes in all of these paths begins with what is selected
@@ -55,16 +52,16 @@ pub is_asked : (request : Request) (registry : Registry) (lists others : List (L
 is_asked request registry lists others asks shut told empty queue none is = record {
   of = asks.of;
   begins =
-      is ∙ ap (λ e. added shut e (joined_paths lists)) none ∙ added_distinct shut [] (joined_paths lists)
-      ∙ ap distinct (filter_agree (λ p. not (shut p)) (λ p. not (leaves_out request p)) (λ p. ap not (shuts p)) (joined_paths lists) ∙ ap (open_of request) asks.selects);
+      is ∙ ap (λ e. added shut e (joined_paths lists)) none ∙ asks.selects shut ∙ added_distinct shut [] (selected request)
+      ∙ ap distinct (filter_agree (λ p. not (shut p)) (λ p. not (leaves_out request p)) (λ p. ap not (shuts p)) (selected request));
   shuts = shuts;
 }
   where
     shuts : (p : Path) → shut p ≡ leaves_out request p
-    shuts p = told p ∙ ap (λ ps. has_path ps p) asks.leaves
+    shuts p = told p ∙ asks.leaves p
 
 pub are_done : (request : Request) (registry : Registry) (found : List TaskDeclaration) (lists : List (List Path)) → request.registry ≡ registry → AllByRecursion (IsRegistered registry) found
-    → Queued request (paths_in found) [] → lists ≡ map (selected_by request.registry) request.words → AreDone request found lists
+    → Queued request (paths_in found) [] → lists ≡ newly_selected request.registry [] request.words → AreDone request found lists
 are_done request registry found lists of declared queued selects =
     let same = queue_scheduled request (paths_in found) queued in
     record {
@@ -90,7 +87,7 @@ module _ (request : Request) (found : List TaskDeclaration) (lists : List (List 
   all_mapped_back P f (x ∷ xs) all = (all.0, all_mapped_back P f xs all.1)
 
   selects : (p : Path) → these p ≡ has_path (selected request) p
-  selects p = told p ∙ ap (λ ps. has_path ps p) (ap joined_paths done.selects ∙ joined_map (selected_by request.registry) request.words)
+  selects p = told p ∙ (ap (λ ls. has_path (joined_paths ls) p) done.selects ∙ has_newly request.registry request.words p)
 
   pub are_scheduled : no_repeats (paths_in found) ≡ true → AreScheduled request planned
   are_scheduled once = record {

@@ -1,12 +1,12 @@
 -- What words ask for, and what the tasks of a queue are called by number.
-use Rattle.std.specs.Prelude.{ℕ, ◌≡◌, ◌<◌, Bool, true, List, ◌++◌, map, length, slice_index, slice_index_or}
+use Rattle.std.specs.Prelude.{ℕ, ◌≡◌, ◌<◌, Bool, true, List, [], ◌∷◌, ◌++◌, if◌then◌else◌, map, length, slice_index, slice_index_or}
 use Rattle.std.specs.List.{flat_map, AllByRecursion}
 use Rattle.std.specs.BTreeMap.{BTreeMap}
 use Rattle.gb_plan.specs.declared.plan.Planned.{Planned}
 use Rattle.gb_plan.specs.declared.task.TaskDeclaration.{TaskDeclaration}
 use Rattle.gb_plan.specs.Task.{Text, Path, has_path}
 use Rattle.gb_plan.specs.Graph.{Registry, Request, order, selected, selected_by, words_of, no_repeats, is_scheduled_in, IsFirstWord, IsRegistered, IsScheduled}
-use Rattle.gb_order.specs.Queue.{paths_in}
+use Rattle.gb_order.specs.Queue.{added, paths_in}
 use Rattle.gb_order.specs.Ranked.{numbers_in}
 
 -- what is asked for by these words, without those that others select
@@ -16,6 +16,16 @@ asked registry requested excluded = record {
   words = words_of registry requested;
   excluded = flat_map (selected_by registry) excluded;
 }
+
+-- what a word selects, or nothing where it is known
+abbrev pub selected_once : Registry → Bool → Text → List Path
+selected_once registry known word = if known then [] else selected_by registry word
+
+-- what each word selects that stands neither among those before nor among these before it
+abbrev pub newly_selected : Registry → List Text → List Text → List (List Path)
+newly_selected registry before [] = []
+newly_selected registry before (word ∷ words) =
+    selected_once registry (has_path before word) word ∷ newly_selected registry (before ++ word ∷ []) words
 
 -- all of the lists, one behind another
 abbrev pub joined_paths : List (List Path) → List Path
@@ -34,18 +44,19 @@ pub record AreWorded (tasks : List TaskDeclaration) (words : List ℕ) (these : 
   pub selection :
       AllByRecursion (λ (p : Planned). p.is_selected ≡ these p.task.path) planned
 
--- the request asks this registry for what these lists have, without what those have
+-- The request asks this registry for what these lists have, without what those have. What stands in them more
+-- than once goes into no queue again.
 pub record AsksFor (request : Request) (registry : Registry) (requested excluded : List (List Path)) : Type 0 where
   pub of : request.registry ≡ registry
-  pub selects : joined_paths requested ≡ selected request
-  pub leaves : joined_paths excluded ≡ request.excluded
+  pub selects : (shut : Path → Bool) → added shut [] (joined_paths requested) ≡ added shut [] (selected request)
+  pub leaves : (path : Path) → has_path (joined_paths excluded) path ≡ has_path request.excluded path
 
--- These are the declarations of the scheduled tasks, and the lists what the words of the request select.
+-- These are the declarations of the scheduled tasks, and the lists what the words of the request newly select.
 pub record AreDone (request : Request) (tasks : List TaskDeclaration) (lists : List (List Path)) : Type 0 where
   pub declared : AllByRecursion (IsRegistered request.registry) tasks
   pub scheduled : (path : Path) → has_path (paths_in tasks) path ≡ true → IsScheduled request path
   pub back : (path : Path) → IsScheduled request path → has_path (paths_in tasks) path ≡ true
-  pub selects : lists ≡ map (selected_by request.registry) request.words
+  pub selects : lists ≡ newly_selected request.registry [] request.words
 
 -- The scheduled tasks of what was asked, in any order.
 pub record AreScheduled (request : Request) (planned : List Planned) : Type 0 where

@@ -1,14 +1,14 @@
 //! What the words of a request select, and the queue that begins with it.
-ghost use Rattle.std.specs.Prelude.{◌≡◌, ◌⊎◌, ◌||◌, [], true, Some, Ok, Err, IfOk, IfErr, OnOk, map};
+ghost use Rattle.std.specs.Prelude.{◌≡◌, ◌⊎◌, ◌||◌, [], true, false, Some, Ok, Err, IfOk, IfErr, OnOk, bytes_eq};
 ghost use Rattle.std.specs.List.{flat_map};
 ghost use Rattle.std.specs.BTreeSet.{contains};
 ghost use Rattle.gb_core.specs.Lists.{byte_order, first_of};
 ghost use Rattle.gb_report.specs.declared.fault.Fault.TheVariants.{OutOfMemory};
 ghost use Rattle.gb_plan.specs.Task.{Path, has_path};
-ghost use Rattle.gb_plan.specs.Graph.{selected_by, words_of};
+ghost use Rattle.gb_plan.specs.Graph.{words_of};
 ghost use Rattle.gb_plan.specs.Refusal.{request_of, word_faults};
 ghost use Rattle.gb_order.specs.Queue.{added};
-ghost use Rattle.gb_order.specs.Words.{asked, joined_paths};
+ghost use Rattle.gb_order.specs.Words.{asked, joined_paths, newly_selected, selected_once};
 
 use crate::queue::enqueue;
 use crate::tasks::Tasks;
@@ -19,23 +19,46 @@ use gb_report::fault::Fault;
 use std::alloc::{AllocError, Global};
 use std::collections::BTreeSet;
 
-/// What words select, word by word.
+/// What words select, word by word. A word that stood before has nothing.
 #[derive(Drop)]
 pub(crate) struct Selection {
     pub(crate) requested: Vec<TaskPaths>,
     pub(crate) excluded: Vec<TaskPaths>,
 }
 
+/// What a word selects that did not stand before; one that did selects nothing more.
+fn select_once<T: Tasks>(
+    alloc: Global,
+    tasks: &T,
+    before: &mut BTreeSet<Text>,
+    word: &Text,
+) -> Result<TaskPaths, Fault>
+    ensures selected { IfOk result (λ paths. paths
+        ≡ selected_once (T.registry tasks.now) (contains byte_order before.old word.now) word.now) }
+    ensures before { OnOk result ((text : Path) → contains byte_order before.new text
+        ≡ (contains byte_order before.old text || bytes_eq text word.now)) }
+    ensures good { OnOk result (contains byte_order before.old word.now ≡ false
+        → word_faults (T.registry tasks.now) word.now ≡ []) }
+    ensures bad { IfErr result (λ fault. (fault ≡ OutOfMemory)
+        ⊎ (first_of (word_faults (T.registry tasks.now) word.now) ≡ Some fault)) }
+{
+    if !before.insert(word.copy()?)? {
+        return Ok(TaskPaths::new(alloc));
+    }
+    tasks.select(alloc, word)
+}
+
 fn select_all<T: Tasks>(alloc: Global, tasks: &T, words: &[Text]) -> Result<Vec<TaskPaths>, Fault>
     ensures selected { IfOk result (λ found.
-        found.items ≡ map (selected_by (T.registry tasks.now)) words.now) }
+        found.items ≡ newly_selected (T.registry tasks.now) [] words.now) }
     ensures good { OnOk result (flat_map (word_faults (T.registry tasks.now)) words.now ≡ []) }
     ensures bad { IfErr result (λ fault. (fault ≡ OutOfMemory)
         ⊎ (first_of (flat_map (word_faults (T.registry tasks.now)) words.now) ≡ Some fault)) }
 {
+    let mut before = BTreeSet::new(alloc);
     let mut found = Vec::new(alloc);
     for word in words {
-        found.push(tasks.select(alloc, word)?)?;
+        found.push(select_once(alloc, tasks, &mut before, word)?)?;
     }
     Ok(found)
 }
@@ -50,9 +73,9 @@ pub(crate) fn select<T: Tasks>(
     ensures request { OnOk result (request_of (T.registry tasks.now) requested.now excluded.now
         ≡ Ok (asked (T.registry tasks.now) requested.now excluded.now)) }
     ensures requested { IfOk result (λ found. found.requested.items
-        ≡ map (selected_by (T.registry tasks.now)) (words_of (T.registry tasks.now) requested.now)) }
+        ≡ newly_selected (T.registry tasks.now) [] (words_of (T.registry tasks.now) requested.now)) }
     ensures excluded { IfOk result (λ found.
-        found.excluded.items ≡ map (selected_by (T.registry tasks.now)) excluded.now) }
+        found.excluded.items ≡ newly_selected (T.registry tasks.now) [] excluded.now) }
     ensures fault { IfErr result (λ fault. (fault ≡ OutOfMemory)
         ⊎ (request_of (T.registry tasks.now) requested.now excluded.now ≡ Err fault)) }
 {

@@ -6,3 +6,5 @@ pub mod Placed
 pub mod Digests
 pub mod Since
 pub mod Going
+pub mod Asked
+pub mod Answering

@@ -3,3 +3,4 @@ pub mod Said
 pub mod Standing
 pub mod Laws
 pub mod Digests
+pub mod Answered

@@ -1,8 +1,8 @@
 //! Records taken out and put in.
-ghost use Rattle.std.specs.Prelude.{◌≡◌, ◌≤◌, ℕ, List, Some, None, false, length, IsTrue, IfOk, IfErr, IsErrOf, OnOk};
+ghost use Rattle.std.specs.Prelude.{◌≡◌, ℕ, List, Some, None, false, length, IsTrue, IfOk, IfErr, IsErrOf, OnOk};
 ghost use Rattle.gb_core.specs.Path.{is_task_path};
 ghost use Rattle.gb_core.specs.Place.{is_place};
-ghost use Rattle.gb_folder.specs.Files.{SameTearing};
+ghost use Rattle.gb_folder.specs.Calls.{Asks, put_at, taken_at};
 ghost use Rattle.gb_history.specs.Places.{record_place};
 ghost use Rattle.gb_history.specs.Text.{record_text};
 ghost use Rattle.gb_meaning.specs.Headline.{TearsAreSeen};
@@ -28,8 +28,7 @@ pub fn take_out<F: Folder>(
     path: &TaskPath,
     was_read: bool,
 ) -> Result<(), Unwritten>
-    ensures count { F.failures folder.old ≤ F.failures folder.new }
-    ensures tearing { SameTearing (F.may_leave folder.old) (F.may_leave folder.new) }
+    ensures asks { Asks F.failures F.may_leave F.asked (taken_at (record_place path.now)) folder.old folder.new }
     ensures unread { was_read ≡ false → folder.new ≡ folder.old }
     ensures out { IsTrue F.tells → OnOk result
         (F.contents folder.new ≡ taken_out was_read path.now (F.contents folder.old)) }
@@ -71,8 +70,7 @@ pub fn put_in<F: Folder>(
     path: &TaskPath,
     run: &Record,
 ) -> Result<(), Unwritten>
-    ensures count { F.failures folder.old ≤ F.failures folder.new }
-    ensures tearing { SameTearing (F.may_leave folder.old) (F.may_leave folder.new) }
+    ensures asks { Asks F.failures F.may_leave F.asked (put_at (record_place path.now) (record_text path.now run.now)) folder.old folder.new }
     ensures written { IsTrue F.tells → OnOk result
         (F.contents folder.new ≡ written_in path.now run.now (F.contents folder.old)) }
     ensures said { OnOk result (IsText path.now (said_of run.now) (record_text path.now run.now)) }

@@ -1,11 +1,12 @@
 //! Records read.
 ghost use Rattle.std.specs.Prelude.{◌≡◌, ◌≤◌, Option, Some, None, Ok, Err, length, IsTrue, IfOk, IfErr};
 ghost use Rattle.std.specs.List.{AllZip, list_any};
-ghost use Rattle.gb_folder.specs.Files.{SameTearing};
+ghost use Rattle.gb_folder.specs.Calls.{Asks, no_change};
 ghost use Rattle.gb_history.specs.Places.{record_place};
 ghost use Rattle.gb_meaning.specs.Events.{max_record};
 ghost use Rattle.gb_store.specs.Changes.{is_at};
 ghost use Rattle.gb_store.specs.Faults.{Blames, BlamesOnly, IsOfMachine};
+ghost use Rattle.gb_records.specs.Answered.{WasAnswered};
 ghost use Rattle.gb_records.specs.Faults.{none_for};
 ghost use Rattle.gb_records.specs.Said.{IsReadAs, IsReadAt};
 
@@ -29,14 +30,16 @@ pub fn read_records<F: Folder>(
     folder: &mut F,
     paths: &[TaskPath],
 ) -> Result<Vec<Option<Record>>, Fault>
-    ensures count { F.failures folder.old ≤ F.failures folder.new }
+    ensures asks { Asks F.failures F.may_leave F.asked no_change folder.old folder.new }
     ensures blame { Blames result (F.failures folder.old) (F.failures folder.new) }
     ensures blamed { BlamesOnly (λ place. list_any (λ path. is_at (record_place path) place) paths.now)
         result }
-    ensures tearing { SameTearing (F.may_leave folder.old) (F.may_leave folder.new) }
     ensures same { IsTrue F.tells → F.contents folder.new ≡ F.contents folder.old }
     ensures read { IsTrue F.tells → IfOk result
         (λ records. AllZip (IsReadAt (F.contents folder.old).files) paths.now records.items) }
+    // Over any folder: each record is what a call at its place answered.
+    ensures answered { IfOk result (λ records. AllZip
+        (WasAnswered F.failures F.may_leave F.asked folder.old folder.new) paths.now records.items) }
     ensures err { IfErr result (IsOfMachine (F.failures folder.old) (F.failures folder.new)) }
 {
     let mut records = Vec::new(alloc);
@@ -52,12 +55,13 @@ fn read_at<F: Folder>(
     folder: &mut F,
     path: &TaskPath,
 ) -> Result<Option<Record>, Fault>
-    ensures count { F.failures folder.old ≤ F.failures folder.new }
+    ensures asks { Asks F.failures F.may_leave F.asked no_change folder.old folder.new }
     ensures blame { Blames result (F.failures folder.old) (F.failures folder.new) }
     ensures blamed { BlamesOnly (is_at (record_place path.now)) result }
-    ensures tearing { SameTearing (F.may_leave folder.old) (F.may_leave folder.new) }
     ensures same { IsTrue F.tells → F.contents folder.new ≡ F.contents folder.old }
     ensures read { IsTrue F.tells → IfOk result (IsReadAt (F.contents folder.old).files path.now) }
+    ensures answered { IfOk result
+        (WasAnswered F.failures F.may_leave F.asked folder.old folder.new path.now) }
     ensures err { IfErr result (IsOfMachine (F.failures folder.old) (F.failures folder.new)) }
 {
     let place = match record_place(alloc, path) {

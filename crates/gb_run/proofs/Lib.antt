@@ -15,3 +15,4 @@ pub mod Digested
 pub mod ByPlace
 pub mod Keeping
 pub mod Standing
+pub mod Asked

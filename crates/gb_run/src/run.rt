@@ -1,6 +1,7 @@
 //! The run of a task's actions, one after another.
-ghost use Rattle.std.specs.Prelude.{◌≡◌, ◌≤◌, ◌⊎◌, ◌++◌, [], Ok, IsTrue, IfOk, IfErr, OnOk, OnErr, map};
-ghost use Rattle.gb_folder.specs.Files.{Files, SameTearing, are_placed};
+ghost use Rattle.std.specs.Prelude.{◌≡◌, ◌⊎◌, ◌++◌, [], Ok, IsTrue, IfOk, IfErr, OnOk, OnErr, map};
+ghost use Rattle.gb_folder.specs.Calls.{Asks, changes_at};
+ghost use Rattle.gb_folder.specs.Files.{Files, are_placed};
 ghost use Rattle.gb_store.specs.Changes.{ChangesOnly};
 ghost use Rattle.gb_store.specs.Faults.{Blames, BlamesOnly};
 ghost use Rattle.gb_plan.specs.Ready.{IsReady, IsReadyAction};
@@ -59,10 +60,9 @@ pub fn run_in_full<A: Actions, F: Folder>(
     ensures made { IfOk result (λ made. (kinds : Kinds) → Agrees A.meanings table.now kinds → (held : Files)
         × (made_of kinds task.now.actions task.now.values files task.now.outputs ≡ Ok held)
         × (made.items ≡ prints_at task.now.outputs held)) }
-    ensures count { F.failures folder.old ≤ F.failures folder.new }
+    ensures asks { Asks F.failures F.may_leave F.asked (changes_at (is_output_of task.now)) folder.old folder.new }
     ensures blame { Blames result (F.failures folder.old) (F.failures folder.new) }
     ensures blamed { BlamesOnly (is_output_of task.now) result }
-    ensures tearing { SameTearing (F.may_leave folder.old) (F.may_leave folder.new) }
     ensures changes { IsTrue F.tells
         → ChangesOnly (is_output_of task.now) (F.contents folder.old) (F.contents folder.new) }
     ensures ok { IsTrue F.tells → OnOk result ((kinds : Kinds) → Agrees A.meanings table.now kinds
@@ -99,10 +99,9 @@ fn run_one<A: Actions, F: Folder>(
     requires named { map (λ tree. tree.0) running.old.request.files ≡ seen_files task.now.files }
     requires full { IsFullLike task.now running.old.request running.old.request }
     requires placed { IsTrue (are_placed running.old.taken) }
-    ensures count { F.failures folder.old ≤ F.failures folder.new }
+    ensures asks { Asks F.failures F.may_leave F.asked (changes_at (is_output_of task.now)) folder.old folder.new }
     ensures blame { Blames result (F.failures folder.old) (F.failures folder.new) }
     ensures blamed { BlamesOnly (is_output_of task.now) result }
-    ensures tearing { SameTearing (F.may_leave folder.old) (F.may_leave folder.new) }
     ensures changes { IsTrue F.tells
         → ChangesOnly (is_output_of task.now) (F.contents folder.old) (F.contents folder.new) }
     ensures full { OnOk result (IsFullLike task.now running.old.request running.new.request) }

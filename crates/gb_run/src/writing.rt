@@ -1,7 +1,8 @@
 //! Files put into the folder, one after another, and what a write that fails leaves.
 ghost use Rattle.std.specs.Prelude.{◌≡◌, ◌≤◌, ◌⊎◌, [], ◌∷◌, Some, false, IsTrue, IfErr, OnOk, length};
 ghost use Rattle.std.specs.List.{AllByRecursion, list_any};
-ghost use Rattle.gb_folder.specs.Files.{SameTearing, is_blocked};
+ghost use Rattle.gb_folder.specs.Calls.{Asks, put_at, changes_at};
+ghost use Rattle.gb_folder.specs.Files.{is_blocked};
 ghost use Rattle.gb_folder.specs.Limits.{max_file};
 ghost use Rattle.gb_store.specs.Changes.{IsHindered, is_at, shown};
 ghost use Rattle.gb_store.specs.Faults.{Blames, BlamesOnly};
@@ -18,10 +19,9 @@ use gb_store::faults::fault_of;
 /// Puts files into the folder, one after another, up to the first that cannot be written.
 pub fn write_files<F: Folder>(folder: &mut F, files: &[(Place, &Bytes)]) -> Result<(), Fault>
     requires small { AllByRecursion (λ file. length file.1.now ≤ max_file) files.now }
-    ensures count { F.failures folder.old ≤ F.failures folder.new }
+    ensures asks { Asks F.failures F.may_leave F.asked (changes_at (λ place. list_any (λ file. is_at file.0 place) files.now)) folder.old folder.new }
     ensures blame { Blames result (F.failures folder.old) (F.failures folder.new) }
     ensures blamed { BlamesOnly (λ place. list_any (λ file. is_at file.0 place) files.now) result }
-    ensures tearing { SameTearing (F.may_leave folder.old) (F.may_leave folder.new) }
     ensures ok { IsTrue F.tells → OnOk result
         (F.contents folder.new ≡ with_all (F.contents folder.old) (shown files.now)) }
     ensures room { IsTrue F.tells → OnOk result (has_room (F.contents folder.old).files (shown files.now)) }
@@ -39,10 +39,9 @@ pub fn write_files<F: Folder>(folder: &mut F, files: &[(Place, &Bytes)]) -> Resu
 /// it whatever memory is left.
 fn write_file<F: Folder>(folder: &mut F, place: &Place, bytes: &Bytes) -> Result<(), Fault>
     requires small { length bytes.now ≤ max_file }
-    ensures count { F.failures folder.old ≤ F.failures folder.new }
+    ensures asks { Asks F.failures F.may_leave F.asked (put_at place.now bytes.now) folder.old folder.new }
     ensures blame { Blames result (F.failures folder.old) (F.failures folder.new) }
     ensures blamed { BlamesOnly (is_at place.now) result }
-    ensures tearing { SameTearing (F.may_leave folder.old) (F.may_leave folder.new) }
     ensures ok { IsTrue F.tells → OnOk result
         (F.contents folder.new ≡ with_all (F.contents folder.old) ((place.now, bytes.now) ∷ [])) }
     ensures free { IsTrue F.tells → OnOk result (is_blocked (F.contents folder.old).files place.now ≡ false) }

@@ -1,6 +1,6 @@
 //! A folder read: its settings, and the scripts of their projects.
-ghost use Rattle.std.specs.Prelude.{◌≡◌, ◌≤◌, ◌⊎◌, [], Ok, Err, IsTrue, IfOk, MatchResult};
-ghost use Rattle.gb_folder.specs.Files.{SameTearing};
+ghost use Rattle.std.specs.Prelude.{◌≡◌, ◌⊎◌, [], Ok, Err, IsTrue, IfOk, MatchResult};
+ghost use Rattle.gb_folder.specs.Calls.{Asks, no_change};
 ghost use Rattle.gb_registry.specs.Configure.{configure_faults};
 ghost use Rattle.gb_registry.specs.Tables.{tables_of};
 ghost use Rattle.gb_script.specs.Script.{SaysAsSettings};
@@ -37,10 +37,9 @@ pub fn read_registry<A: Actions, T: Transforms, F: Folder>(
     tables: &Tables<A::Stored, T::Map, T::FlatMap, T::Zip, T::Test>,
     given: Vec<(Name, Text)>,
 ) -> Result<Registry, Fault>
-    ensures count { F.failures folder.old ≤ F.failures folder.new }
+    ensures asks { Asks F.failures F.may_leave F.asked no_change folder.old folder.new }
     ensures blame { Blames result (F.failures folder.old) (F.failures folder.new) }
     ensures blamed { BlamesOnly is_script_place result }
-    ensures tearing { SameTearing (F.may_leave folder.old) (F.may_leave folder.new) }
     ensures same { IsTrue F.tells → F.contents folder.new ≡ F.contents folder.old }
     ensures good { IfOk result (λ registry.
         configure_faults (tables_of T.meanings A.meanings tables.now) registry ≡ []) }
@@ -59,10 +58,9 @@ pub fn read_registry<A: Actions, T: Transforms, F: Folder>(
 
 /// The settings of a folder.
 fn read_settings_of<F: Folder>(alloc: Global, folder: &mut F) -> Result<Settings, Fault>
-    ensures count { F.failures folder.old ≤ F.failures folder.new }
+    ensures asks { Asks F.failures F.may_leave F.asked no_change folder.old folder.new }
     ensures blame { Blames result (F.failures folder.old) (F.failures folder.new) }
     ensures blamed { BlamesOnly (is_at settings_place) result }
-    ensures tearing { SameTearing (F.may_leave folder.old) (F.may_leave folder.new) }
     ensures same { IsTrue F.tells → F.contents folder.new ≡ F.contents folder.old }
     ensures said { IsTrue F.tells
         → Tells (TextSays SaysAsSettings (F.contents folder.old).files settings_place)

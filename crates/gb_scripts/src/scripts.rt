@@ -1,9 +1,9 @@
 //! The scripts of projects.
-ghost use Rattle.std.specs.Prelude.{◌≡◌, ◌≤◌, ◌⊎◌, Ok, Err, IsTrue, IfOk, MatchResult, length};
+ghost use Rattle.std.specs.Prelude.{◌≡◌, ◌⊎◌, Ok, Err, IsTrue, IfOk, MatchResult, length};
 ghost use Rattle.std.specs.List.{list_all};
 ghost use Rattle.std.specs.Option.{option_copied};
 ghost use Rattle.gb_core.specs.Place.{is_place};
-ghost use Rattle.gb_folder.specs.Files.{SameTearing};
+ghost use Rattle.gb_folder.specs.Calls.{Asks, no_change};
 ghost use Rattle.gb_script.specs.Script.{Says};
 ghost use Rattle.gb_store.specs.Faults.{Blames, BlamesOnly, IsOfMachine};
 ghost use Rattle.gb_scripts.specs.Scripts.{ScriptsSay, is_script_place, script_place, script_places};
@@ -24,10 +24,9 @@ pub fn read_scripts<F: Folder>(
     projects: &[(ProjectPath, Option<Place>)],
 ) -> Result<Vec<Script>, Fault>
     requires places { IsTrue (list_all (λ place. is_place place) (script_places projects.now)) }
-    ensures count { F.failures folder.old ≤ F.failures folder.new }
+    ensures asks { Asks F.failures F.may_leave F.asked no_change folder.old folder.new }
     ensures blame { Blames result (F.failures folder.old) (F.failures folder.new) }
     ensures blamed { BlamesOnly is_script_place result }
-    ensures tearing { SameTearing (F.may_leave folder.old) (F.may_leave folder.new) }
     ensures same { IsTrue F.tells → F.contents folder.new ≡ F.contents folder.old }
     ensures one_each { IfOk result (λ scripts. length scripts.items ≡ length projects.now) }
     ensures said { IsTrue F.tells → MatchResult result
@@ -49,10 +48,9 @@ fn read_script_of<F: Folder>(
     project: &(ProjectPath, Option<Place>),
 ) -> Result<Script, Fault>
     requires place { IsTrue (is_place (script_place project.now.1)) }
-    ensures count { F.failures folder.old ≤ F.failures folder.new }
+    ensures asks { Asks F.failures F.may_leave F.asked no_change folder.old folder.new }
     ensures blame { Blames result (F.failures folder.old) (F.failures folder.new) }
     ensures blamed { BlamesOnly is_script_place result }
-    ensures tearing { SameTearing (F.may_leave folder.old) (F.may_leave folder.new) }
     ensures same { IsTrue F.tells → F.contents folder.new ≡ F.contents folder.old }
     ensures said { IsTrue F.tells
         → Tells (TextSays Says (F.contents folder.old).files (script_place project.now.1))

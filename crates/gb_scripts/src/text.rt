@@ -1,6 +1,6 @@
 //! The texts of settings and scripts, read where they stand.
-ghost use Rattle.std.specs.Prelude.{◌≡◌, ◌≤◌, ◌⊎◌, Some, Ok, Err, IsTrue, MatchResult, length};
-ghost use Rattle.gb_folder.specs.Files.{SameTearing};
+ghost use Rattle.std.specs.Prelude.{◌≡◌, ◌⊎◌, Some, Ok, Err, IsTrue, MatchResult, length};
+ghost use Rattle.gb_folder.specs.Calls.{Asks, no_change};
 ghost use Rattle.gb_script.specs.Script.{Says, SaysAsSettings};
 ghost use Rattle.gb_store.specs.Changes.{is_at};
 ghost use Rattle.gb_store.specs.Faults.{Blames, BlamesOnly};
@@ -21,10 +21,9 @@ pub fn settings_at<F: Folder>(
     folder: &mut F,
     place: Place,
 ) -> Result<Settings, Fault>
-    ensures count { F.failures folder.old ≤ F.failures folder.new }
+    ensures asks { Asks F.failures F.may_leave F.asked no_change folder.old folder.new }
     ensures blame { Blames result (F.failures folder.old) (F.failures folder.new) }
     ensures blamed { BlamesOnly (is_at place) result }
-    ensures tearing { SameTearing (F.may_leave folder.old) (F.may_leave folder.new) }
     ensures same { IsTrue F.tells → F.contents folder.new ≡ F.contents folder.old }
     ensures said { IsTrue F.tells
         → Tells (TextSays SaysAsSettings (F.contents folder.old).files place)
@@ -41,10 +40,9 @@ pub fn settings_at<F: Folder>(
 
 /// The script at a place. Where no file stands, it is empty.
 pub fn script_at<F: Folder>(alloc: Global, folder: &mut F, place: Place) -> Result<Script, Fault>
-    ensures count { F.failures folder.old ≤ F.failures folder.new }
+    ensures asks { Asks F.failures F.may_leave F.asked no_change folder.old folder.new }
     ensures blame { Blames result (F.failures folder.old) (F.failures folder.new) }
     ensures blamed { BlamesOnly (is_at place) result }
-    ensures tearing { SameTearing (F.may_leave folder.old) (F.may_leave folder.new) }
     ensures same { IsTrue F.tells → F.contents folder.new ≡ F.contents folder.old }
     ensures said { IsTrue F.tells
         → Tells (TextSays Says (F.contents folder.old).files place)

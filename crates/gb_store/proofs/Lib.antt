@@ -2,3 +2,4 @@ pub mod Machine
 pub mod Emptied
 pub mod Loops
 pub mod Removing
+pub mod Asking

@@ -1,8 +1,9 @@
 //! Which files stand beneath a place.
-ghost use Rattle.std.specs.Prelude.{◌≡◌, ◌≤◌, ◌⊎◌, false, IsTrue, IfOk, IfErr, OnOk};
+ghost use Rattle.std.specs.Prelude.{◌≡◌, ◌⊎◌, false, IsTrue, IfOk, IfErr, OnOk};
 ghost use Rattle.std.specs.List.{AllPass};
 ghost use Rattle.gb_core.specs.Place.{is_under};
-ghost use Rattle.gb_folder.specs.Files.{SameTearing, is_odd_under, places_under};
+ghost use Rattle.gb_folder.specs.Calls.{Asks, no_change};
+ghost use Rattle.gb_folder.specs.Files.{is_odd_under, places_under};
 ghost use Rattle.gb_store.specs.Changes.{is_at};
 ghost use Rattle.gb_store.specs.Faults.{Blames, BlamesOnly, IsOfMachine};
 
@@ -18,10 +19,9 @@ pub fn listed_at<F: Folder>(
     folder: &mut F,
     place: &Place,
 ) -> Result<Vec<Place>, Fault>
-    ensures count { F.failures folder.old ≤ F.failures folder.new }
+    ensures asks { Asks F.failures F.may_leave F.asked no_change folder.old folder.new }
     ensures blame { Blames result (F.failures folder.old) (F.failures folder.new) }
     ensures blamed { BlamesOnly (is_at place.now) result }
-    ensures tearing { SameTearing (F.may_leave folder.old) (F.may_leave folder.new) }
     ensures under { IfOk result (λ places. AllPass (λ at. is_under at place.now) places.items) }
     ensures same { IsTrue F.tells → F.contents folder.new ≡ F.contents folder.old }
     ensures listed { IsTrue F.tells → IfOk result

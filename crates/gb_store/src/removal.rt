@@ -1,7 +1,7 @@
 //! Taking files away.
-ghost use Rattle.std.specs.Prelude.{◌≡◌, ◌≢◌, ◌≤◌, ◌⊎◌, Bool, List, ℕ, [], ◌∷◌, None, true, IsTrue, IfErr, OnOk};
+ghost use Rattle.std.specs.Prelude.{◌≡◌, ◌≢◌, ◌⊎◌, Bool, List, ℕ, [], ◌∷◌, None, true, IsTrue, IfErr, OnOk};
 ghost use Rattle.std.specs.List.{AllByRecursion};
-ghost use Rattle.gb_folder.specs.Files.{SameTearing};
+ghost use Rattle.gb_folder.specs.Calls.{Asks, taken_at, takes_at};
 ghost use Rattle.gb_store.specs.Changes.{ChangesOnly, IsCutShort, IsHindered, is_among, is_at, without_all};
 ghost use Rattle.gb_store.specs.Faults.{Blames, BlamesOnly, IsOfMachine, told_at};
 
@@ -12,10 +12,9 @@ use gb_report::fault::Fault;
 
 /// Takes the files at these places away, one after another. A place where none stands counts as done.
 pub fn remove_all<F: Folder>(folder: &mut F, places: &[Place]) -> Result<(), Fault>
-    ensures count { F.failures folder.old ≤ F.failures folder.new }
+    ensures asks { Asks F.failures F.may_leave F.asked (takes_at (is_among places.now)) folder.old folder.new }
     ensures blame { Blames result (F.failures folder.old) (F.failures folder.new) }
     ensures blamed { BlamesOnly (is_among places.now) result }
-    ensures tearing { SameTearing (F.may_leave folder.old) (F.may_leave folder.new) }
     ensures ok { IsTrue F.tells → OnOk result (F.contents folder.new ≡ without_all (F.contents folder.old) places.now) }
     ensures err { IsTrue F.tells → IfErr result (IsOfMachine (F.failures folder.old) (F.failures folder.new)) }
     ensures cut { IsTrue F.tells → IfErr result
@@ -32,10 +31,9 @@ pub fn remove_all<F: Folder>(folder: &mut F, places: &[Place]) -> Result<(), Fau
 /// Takes the file at a place away, if one stands there. The place is copied first, so that a failure of the device
 /// is told at it whatever memory is left.
 fn remove_at<F: Folder>(folder: &mut F, place: &Place) -> Result<(), Fault>
-    ensures count { F.failures folder.old ≤ F.failures folder.new }
+    ensures asks { Asks F.failures F.may_leave F.asked (taken_at place.now) folder.old folder.new }
     ensures blame { Blames result (F.failures folder.old) (F.failures folder.new) }
     ensures blamed { BlamesOnly (is_at place.now) result }
-    ensures tearing { SameTearing (F.may_leave folder.old) (F.may_leave folder.new) }
     ensures ok { IsTrue F.tells → OnOk result (F.contents folder.new ≡ without_all (F.contents folder.old) (place.now ∷ [])) }
     ensures err { IsTrue F.tells → IfErr result (IsOfMachine (F.failures folder.old) (F.failures folder.new)) }
     ensures hindered { IsTrue F.tells → IfErr result

@@ -1,5 +1,5 @@
 //! Values by name.
-ghost use Rattle.std.specs.Prelude.{◌≡◌, [], ◌∷◌, ◌++◌, ◌↔◌, None, OnOk, OnErr, IsErrOf, IsSome};
+ghost use Rattle.std.specs.Prelude.{◌≡◌, [], ◌∷◌, ◌++◌, ◌↔◌, None, OnOk, OnErr, IfOk, IsErrOf, IsSome, map, string_bytes};
 ghost use Rattle.std.specs.FinMap.Entries.{find};
 ghost use Rattle.std.specs.Option.{option_copied};
 ghost use Rattle.gb_core.specs.Lists.{byte_order};
@@ -73,12 +73,34 @@ impl<S: Drop> NamedTable<S> {
         ensures taken { IsErrOf result AddFault.Taken ↔ IsSome (find byte_order name.now self.old) }
         ensures err { OnErr result (self.new ≡ self.old) }
     {
-        if self.entries.contains_key(name.as_str()) {
+        self.add_under(name.as_str(), stored)
+    }
+
+    /// The same under the text of a name, as [`NamedTable::into_entries`] gives it.
+    pub fn add_under(&mut self, name: &str, stored: S) -> Result<(), AddFault>
+        ensures ok { OnOk result (self.new ≡ self.old ++ (name.now, stored) ∷ []) }
+        ensures absent { OnOk result (find byte_order name.now self.old ≡ None) }
+        ensures taken { IsErrOf result AddFault.Taken ↔ IsSome (find byte_order name.now self.old) }
+        ensures err { OnErr result (self.new ≡ self.old) }
+    {
+        if self.entries.contains_key(name) {
             return Err(AddFault::Taken);
         }
-        let key = name.as_str().to_string(self.alloc)?;
+        let key = name.to_string(self.alloc)?;
         self.entries.insert(key, stored)?;
         Ok(())
+    }
+
+    /// The values with the texts of their names, in order.
+    pub fn into_entries(self) -> Result<Vec<(String, S)>, AllocError>
+        ensures { IfOk result (λ entries. map (λ e. (string_bytes e.0, e.1)) entries.items ≡ self) }
+    {
+        let NamedTable { alloc, entries } = self;
+        let mut named = Vec::with_capacity(alloc, entries.len())?;
+        for entry in entries {
+            named.push(entry)?;
+        }
+        Ok(named)
     }
 
     /// The value of the name. Takes no memory.

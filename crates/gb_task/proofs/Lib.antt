@@ -22,3 +22,4 @@ mod Idle
 mod Answering
 mod Cut
 mod Settling
+pub mod Asking

@@ -4,3 +4,4 @@ pub mod Clearing
 pub mod Turned
 pub mod Settled
 pub mod Anew
+pub mod Asking

@@ -3,9 +3,10 @@
 //! What the label read is taken, and what it did not keep is read now. So the decision is made once more, on
 //! the digests of exactly these contents: a file that somebody saved in between is a change like any other,
 //! and where outputs or other properties were changed the run is one in full.
-ghost use Rattle.std.specs.Prelude.{◌≡◌, ◌≤◌, ◌||◌, false, map, IsTrue, IfOk, IfErr, OnOk};
+ghost use Rattle.std.specs.Prelude.{◌≡◌, ◌||◌, false, map, IsTrue, IfOk, IfErr, OnOk};
 ghost use Rattle.std.specs.List.{list_any};
-ghost use Rattle.gb_folder.specs.Files.{SameTearing, is_own};
+ghost use Rattle.gb_folder.specs.Calls.{Asks, no_change};
+ghost use Rattle.gb_folder.specs.Files.{is_own};
 ghost use Rattle.gb_label.specs.Deciding.{HasNamesInOrder};
 ghost use Rattle.gb_meaning.specs.Kinds.{Kinds};
 ghost use Rattle.gb_meaning.specs.Memory.{World};
@@ -53,10 +54,9 @@ pub(crate) fn settle_anew<F: Folder>(
     requires not_own { list_any (λ output. is_own output.place) task.now.outputs ≡ false }
     requires inputs { AreInputs task.now seen.inputs.items }
     requires outputs { AreOutputs task.now seen.outputs.items }
-    ensures count { F.failures folder.old ≤ F.failures folder.new }
+    ensures asks { Asks F.failures F.may_leave F.asked no_change folder.old folder.new }
     ensures blame { Blames result (F.failures folder.old) (F.failures folder.new) }
     ensures blamed { BlamesOnly (λ place. is_input_of task.now place || is_output_of task.now place) result }
-    ensures tearing { SameTearing (F.may_leave folder.old) (F.may_leave folder.new) }
     // Over any folder: the digests are those of what is worked on, and the changes are decided on them.
     ensures anew { IfOk result (IsAnew options task.now last.now) }
     ensures same { IsTrue F.tells → F.contents folder.new ≡ F.contents folder.old }

@@ -1,7 +1,8 @@
 //! The turn of a task that may go on from what its last run left.
-ghost use Rattle.std.specs.Prelude.{◌≡◌, ◌≤◌, ◌||◌, [], ℕ, List, false, true, not, IsTrue};
+ghost use Rattle.std.specs.Prelude.{◌≡◌, ◌||◌, [], ℕ, List, false, true, not, IsTrue};
 ghost use Rattle.std.specs.List.{AllByRecursion, list_any};
-ghost use Rattle.gb_folder.specs.Files.{HasRisen, SameTearing, is_empty, is_own};
+ghost use Rattle.gb_folder.specs.Calls.{Asks};
+ghost use Rattle.gb_folder.specs.Files.{HasRisen, is_empty, is_own};
 ghost use Rattle.gb_history.specs.Places.{record_place};
 ghost use Rattle.gb_incremental.specs.Asking.{CanGoOn};
 ghost use Rattle.gb_label.specs.Deciding.{HasNamesInOrder};
@@ -15,6 +16,7 @@ ghost use Rattle.gb_records.specs.Said.{IsText};
 ghost use Rattle.gb_report.specs.declared.report.Outcome.TheVariants.{Failed};
 ghost use Rattle.gb_store.specs.Changes.{ChangesOnly};
 ghost use Rattle.gb_store.specs.Faults.{Blames, BlamesOnly};
+ghost use Rattle.gb_task.specs.Asking.{IsTextAnew, in_turn_with};
 ghost use Rattle.gb_task.specs.Turned.{ComesAt, HasTurned, IsToGoOn, IsToldOf, Registering, is_of_turn, outcome_of, report_of, setting_with};
 ghost use Rattle.gb_turn.specs.Reading.{AreInputs, AreInputsSeen, AreOutputs, AreOutputsSeen, is_input_of};
 
@@ -57,12 +59,13 @@ pub fn take_turn_by_changes<A: Actions, F: Folder>(
     ensures path { result.path ≡ task.now.path }
     ensures has_actions { result.has_actions ≡ not (is_empty task.now.actions) }
     ensures outcome { IsToldOf outcome_of result.outcome }
-    ensures count { F.failures folder.old ≤ F.failures folder.new }
+    ensures asks { Asks F.failures F.may_leave F.asked
+        (in_turn_with task.now (IsTextAnew A.meanings table.now options task.now last.now))
+        folder.old folder.new }
     ensures blame { (place : List ℕ) → result.outcome ≡ Failed (Fault.Device place)
         → HasRisen (F.failures folder.old) (F.failures folder.new) }
     ensures blamed { (place : List ℕ) → result.outcome ≡ Failed (Fault.Device place)
         → IsTrue (is_input_of task.now place || is_output_of task.now place) }
-    ensures tearing { SameTearing (F.may_leave folder.old) (F.may_leave folder.new) }
     ensures changes { IsTrue F.tells
         → ChangesOnly (is_of_turn task.now) (F.contents folder.old) (F.contents folder.new) }
     // Where the task goes on from what its record says, this is its turn.
@@ -107,10 +110,11 @@ fn go_on<A: Actions, F: Folder>(
     requires inputs { AreInputs task.now seen.inputs.items }
     requires outputs { AreOutputs task.now seen.outputs.items }
     requires no_lines { lines.old ≡ [] }
-    ensures count { F.failures folder.old ≤ F.failures folder.new }
+    ensures asks { Asks F.failures F.may_leave F.asked
+        (in_turn_with task.now (IsTextAnew A.meanings table.now options task.now last.now))
+        folder.old folder.new }
     ensures blame { Blames result (F.failures folder.old) (F.failures folder.new) }
     ensures blamed { BlamesOnly (λ place. is_input_of task.now place || is_output_of task.now place) result }
-    ensures tearing { SameTearing (F.may_leave folder.old) (F.may_leave folder.new) }
     ensures changes { IsTrue F.tells
         → ChangesOnly (is_of_turn task.now) (F.contents folder.old) (F.contents folder.new) }
     ensures turn { IsTrue F.tells → (kinds : Kinds) (registry_of : Registering)

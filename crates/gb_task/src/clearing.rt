@@ -1,7 +1,8 @@
 //! What was left of a task's last run, taken away.
-ghost use Rattle.std.specs.Prelude.{◌≡◌, ◌≤◌, None, false, IsTrue};
+ghost use Rattle.std.specs.Prelude.{◌≡◌, None, false, IsTrue};
 ghost use Rattle.std.specs.List.{list_any};
-ghost use Rattle.gb_folder.specs.Files.{SameTearing, is_own};
+ghost use Rattle.gb_folder.specs.Calls.{Asks, takes_at};
+ghost use Rattle.gb_folder.specs.Files.{is_own};
 ghost use Rattle.gb_history.specs.Places.{record_place};
 ghost use Rattle.gb_meaning.specs.Headline.{TearsAreSeen};
 ghost use Rattle.gb_meaning.specs.Memory.{Memory, recalled};
@@ -28,10 +29,9 @@ pub fn clear<F: Folder>(
     was_read: bool,
 ) -> Result<(), Fault>
     requires not_own { list_any (λ output. is_own output.place) task.now.outputs ≡ false }
-    ensures count { F.failures folder.old ≤ F.failures folder.new }
+    ensures asks { Asks F.failures F.may_leave F.asked (takes_at (is_of_turn task.now)) folder.old folder.new }
     ensures blame { Blames result (F.failures folder.old) (F.failures folder.new) }
     ensures blamed { BlamesOnly (is_output_of task.now) result }
-    ensures tearing { SameTearing (F.may_leave folder.old) (F.may_leave folder.new) }
     ensures changes { IsTrue F.tells
         → ChangesOnly (is_of_turn task.now) (F.contents folder.old) (F.contents folder.new) }
     ensures cleared { IsTrue F.tells → TearsAreSeen IsText record_place (F.may_leave folder.old)

@@ -1,7 +1,8 @@
 //! A full run of a task.
-ghost use Rattle.std.specs.Prelude.{◌≡◌, ◌≤◌, ◌||◌, [], ℕ, List, false, not, map, IsTrue, IfOk, IfErr, OnOk};
+ghost use Rattle.std.specs.Prelude.{◌≡◌, ◌||◌, [], ℕ, List, false, not, map, IsTrue, IfOk, IfErr, OnOk};
 ghost use Rattle.std.specs.List.{list_any};
-ghost use Rattle.gb_folder.specs.Files.{HasRisen, SameTearing, is_empty, is_own};
+ghost use Rattle.gb_folder.specs.Calls.{Asks, changes_at};
+ghost use Rattle.gb_folder.specs.Files.{HasRisen, is_empty, is_own};
 ghost use Rattle.gb_history.specs.Places.{record_place};
 ghost use Rattle.gb_label.specs.Deciding.{HasNamesInOrder};
 ghost use Rattle.gb_meaning.specs.Headline.{Agrees, TearsAreSeen};
@@ -17,6 +18,7 @@ ghost use Rattle.gb_report.specs.declared.report.Outcome.TheVariants.{Failed};
 ghost use Rattle.gb_run.specs.Course.{EndsWell, Fails, course_of};
 ghost use Rattle.gb_store.specs.Changes.{ChangesOnly};
 ghost use Rattle.gb_store.specs.Faults.{Blames, BlamesOnly};
+ghost use Rattle.gb_task.specs.Asking.{IsInFull, IsTextIn, in_turn_with};
 ghost use Rattle.gb_task.specs.Keeping.{IsRecordOf};
 ghost use Rattle.gb_task.specs.Turned.{ComesAt, HasTurned, IsDue, IsToldOf, Registering, is_of_turn, outcome_of, report_of, setting_with};
 ghost use Rattle.gb_turn.specs.Reading.{AreInputs, AreInputsSeen, digests_in, is_input_of};
@@ -63,12 +65,13 @@ pub fn take_full_turn<A: Actions, F: Folder>(
     ensures path { result.path ≡ task.now.path }
     ensures has_actions { result.has_actions ≡ not (is_empty task.now.actions) }
     ensures outcome { IsToldOf outcome_of result.outcome }
-    ensures count { F.failures folder.old ≤ F.failures folder.new }
+    ensures asks { Asks F.failures F.may_leave F.asked
+        (in_turn_with task.now (IsInFull A.meanings table.now task.now))
+        folder.old folder.new }
     ensures blame { (place : List ℕ) → result.outcome ≡ Failed (Fault.Device place)
         → HasRisen (F.failures folder.old) (F.failures folder.new) }
     ensures blamed { (place : List ℕ) → result.outcome ≡ Failed (Fault.Device place)
         → IsTrue (is_input_of task.now place || is_output_of task.now place) }
-    ensures tearing { SameTearing (F.may_leave folder.old) (F.may_leave folder.new) }
     ensures changes { IsTrue F.tells
         → ChangesOnly (is_of_turn task.now) (F.contents folder.old) (F.contents folder.new) }
     // Where the full run is due, this is the task's turn.
@@ -118,10 +121,11 @@ fn run_with_record<A: Actions, F: Folder>(
     requires apart { reads_output_of task.now task.now ≡ false }
     requires inputs { AreInputs task.now inputs.items }
     requires no_lines { lines.old ≡ [] }
-    ensures count { F.failures folder.old ≤ F.failures folder.new }
+    ensures asks { Asks F.failures F.may_leave F.asked
+        (in_turn_with task.now (IsInFull A.meanings table.now task.now))
+        folder.old folder.new }
     ensures blame { Blames result (F.failures folder.old) (F.failures folder.new) }
     ensures blamed { BlamesOnly (λ place. is_input_of task.now place || is_output_of task.now place) result }
-    ensures tearing { SameTearing (F.may_leave folder.old) (F.may_leave folder.new) }
     ensures changes { IsTrue F.tells
         → ChangesOnly (is_of_turn task.now) (F.contents folder.old) (F.contents folder.new) }
     ensures turn { IsTrue F.tells → (kinds : Kinds) (registry_of : Registering) (options : Options)
@@ -155,10 +159,11 @@ pub(crate) fn run_on<A: Actions, F: Folder>(
     requires named { map (λ tree. tree.0) inputs.trees ≡ seen_files task.now.files }
     requires digests { inputs.prints.items ≡ digests_in inputs.trees }
     requires no_lines { lines.old ≡ [] }
-    ensures count { F.failures folder.old ≤ F.failures folder.new }
+    ensures asks { Asks F.failures F.may_leave F.asked
+        (in_turn_with task.now (IsTextIn A.meanings table.now task.now inputs.trees))
+        folder.old folder.new }
     ensures blame { Blames result (F.failures folder.old) (F.failures folder.new) }
     ensures blamed { BlamesOnly (is_output_of task.now) result }
-    ensures tearing { SameTearing (F.may_leave folder.old) (F.may_leave folder.new) }
     ensures changes { IsTrue F.tells
         → ChangesOnly (is_of_turn task.now) (F.contents folder.old) (F.contents folder.new) }
     ensures turn { IsTrue F.tells → (kinds : Kinds) (registry_of : Registering) (options : Options)
@@ -194,10 +199,9 @@ fn make_anew<A: Actions, F: Folder>(
     requires named { map (λ tree. tree.0) trees ≡ seen_files task.now.files }
     requires digests { prints.items ≡ digests_in trees }
     requires no_lines { lines.old ≡ [] }
-    ensures count { F.failures folder.old ≤ F.failures folder.new }
+    ensures asks { Asks F.failures F.may_leave F.asked (changes_at (is_output_of task.now)) folder.old folder.new }
     ensures blame { Blames result (F.failures folder.old) (F.failures folder.new) }
     ensures blamed { BlamesOnly (is_output_of task.now) result }
-    ensures tearing { SameTearing (F.may_leave folder.old) (F.may_leave folder.new) }
     // Over any folder, whoever else writes in it: the record is true.
     ensures made { IfOk result (λ run. (kinds : Kinds) → Agrees A.meanings table.now kinds
         → IsRecordOf kinds task.now trees run) }

@@ -1,8 +1,9 @@
 //! A run of a task by changes that were decided on what it works on.
-ghost use Rattle.std.specs.Prelude.{◌≡◌, ◌≤◌, [], ℕ, List, false, true, map, IsTrue, IfOk, IfErr, OnOk};
+ghost use Rattle.std.specs.Prelude.{◌≡◌, [], ℕ, List, false, true, map, IsTrue, IfOk, IfErr, OnOk};
 ghost use Rattle.std.specs.List.{AllByRecursion, list_any};
 ghost use Rattle.gb_action.specs.Files.{Trees};
-ghost use Rattle.gb_folder.specs.Files.{Files, IsFolder, SameTearing, are_placed, is_own};
+ghost use Rattle.gb_folder.specs.Calls.{Asks, changes_at};
+ghost use Rattle.gb_folder.specs.Files.{Files, IsFolder, are_placed, is_own};
 ghost use Rattle.gb_history.specs.Places.{record_place};
 ghost use Rattle.gb_incremental.specs.Asking.{CanGoOn, GoesOn};
 ghost use Rattle.gb_incremental.specs.Changing.{Fails};
@@ -20,6 +21,7 @@ ghost use Rattle.gb_report.specs.declared.report.Options.{Options};
 ghost use Rattle.gb_run.specs.Course.{EndsWell, course_of};
 ghost use Rattle.gb_store.specs.Changes.{ChangesOnly};
 ghost use Rattle.gb_store.specs.Faults.{Blames, BlamesOnly};
+ghost use Rattle.gb_task.specs.Asking.{IsTextBy, in_turn_with};
 ghost use Rattle.gb_task.specs.Keeping.{IsRecordOf};
 ghost use Rattle.gb_task.specs.Turned.{ComesAt, HasTurned, IsDueByChanges, Registering, is_of_turn, report_of, setting_with};
 ghost use Rattle.gb_turn.specs.Reading.{digests_in, prints_seen, seen_of};
@@ -62,10 +64,11 @@ pub(crate) fn go_by<A: Actions, F: Folder>(
     requires formed { map (λ output. (output.name, output.form)) outputs.seen ≡ seen_outputs task.now.outputs }
     requires stood { outputs.prints.items ≡ prints_seen outputs.seen }
     requires no_lines { lines.old ≡ [] }
-    ensures count { F.failures folder.old ≤ F.failures folder.new }
+    ensures asks { Asks F.failures F.may_leave F.asked
+        (in_turn_with task.now (IsTextBy A.meanings table.now task.now inputs.trees changes outputs.seen))
+        folder.old folder.new }
     ensures blame { Blames result (F.failures folder.old) (F.failures folder.new) }
     ensures blamed { BlamesOnly (is_output_of task.now) result }
-    ensures tearing { SameTearing (F.may_leave folder.old) (F.may_leave folder.new) }
     ensures changes { IsTrue F.tells
         → ChangesOnly (is_of_turn task.now) (F.contents folder.old) (F.contents folder.new) }
     // Where the run by these changes is due, this is the task's turn.
@@ -106,10 +109,9 @@ fn make_by_changes<A: Actions, F: Folder>(
     requires formed { map (λ output. (output.name, output.form)) outputs.seen ≡ seen_outputs task.now.outputs }
     requires stood { outputs.prints.items ≡ prints_seen outputs.seen }
     requires no_lines { lines.old ≡ [] }
-    ensures count { F.failures folder.old ≤ F.failures folder.new }
+    ensures asks { Asks F.failures F.may_leave F.asked (changes_at (is_output_of task.now)) folder.old folder.new }
     ensures blame { Blames result (F.failures folder.old) (F.failures folder.new) }
     ensures blamed { BlamesOnly (is_output_of task.now) result }
-    ensures tearing { SameTearing (F.may_leave folder.old) (F.may_leave folder.new) }
     // Over any folder, whoever else writes in it: the record is true, where what was read at the outputs was
     // made of old trees from which the changes lead to these.
     ensures made { IfOk result (λ run. (kinds : Kinds) → Agrees A.meanings table.now kinds

@@ -1,6 +1,7 @@
 //! The record of a task, taken out as its run begins and put in as it ends.
-ghost use Rattle.std.specs.Prelude.{◌≡◌, ◌≢◌, ◌≤◌, ℕ, List, None, Some, Err, false, true, IsTrue, IfErr, OnErr};
-ghost use Rattle.gb_folder.specs.Files.{SameTearing, is_empty};
+ghost use Rattle.std.specs.Prelude.{◌≡◌, ◌≢◌, ℕ, List, None, Some, Err, false, true, IsTrue, IfErr, OnErr};
+ghost use Rattle.gb_folder.specs.Calls.{Asks, put_at, taken_at};
+ghost use Rattle.gb_folder.specs.Files.{is_empty};
 ghost use Rattle.gb_history.specs.Places.{record_place};
 ghost use Rattle.gb_history.specs.Text.{record_text};
 ghost use Rattle.gb_meaning.specs.Headline.{TearsAreSeen};
@@ -25,9 +26,8 @@ pub fn forget<F: Folder>(
     path: &TaskPath,
     was_read: bool,
 ) -> Result<(), Fault>
-    ensures count { F.failures folder.old ≤ F.failures folder.new }
+    ensures asks { Asks F.failures F.may_leave F.asked (taken_at (record_place path.now)) folder.old folder.new }
     ensures blame { (place : List ℕ) → result ≢ Err (Fault.Device place) }
-    ensures tearing { SameTearing (F.may_leave folder.old) (F.may_leave folder.new) }
     ensures changes { IsTrue F.tells
         → ChangesOnly (is_at (record_place path.now)) (F.contents folder.old) (F.contents folder.new) }
     ensures err { IsTrue F.tells → IfErr result
@@ -57,9 +57,8 @@ pub fn remember<F: Folder>(
     task: &TaskDeclaration,
     run: &Record,
 ) -> Result<(), Fault>
-    ensures count { F.failures folder.old ≤ F.failures folder.new }
+    ensures asks { Asks F.failures F.may_leave F.asked (put_at (record_place task.now.path) (record_text task.now.path run.now)) folder.old folder.new }
     ensures blame { (place : List ℕ) → result ≢ Err (Fault.Device place) }
-    ensures tearing { SameTearing (F.may_leave folder.old) (F.may_leave folder.new) }
     ensures changes { IsTrue F.tells
         → ChangesOnly (is_at (record_place task.now.path)) (F.contents folder.old) (F.contents folder.new) }
     ensures err { IsTrue F.tells → IfErr result

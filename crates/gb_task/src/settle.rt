@@ -1,8 +1,9 @@
 //! What is settled of a task's turn before anything is changed.
-ghost use Rattle.std.specs.Prelude.{◌≡◌, ◌≤◌, ◌||◌, false, IsTrue, option_copied};
+ghost use Rattle.std.specs.Prelude.{◌≡◌, ◌||◌, false, IsTrue, option_copied};
 ghost use Rattle.std.specs.List.{list_any};
 ghost use Rattle.gb_case.specs.Case.{IsKnown};
-ghost use Rattle.gb_folder.specs.Files.{SameTearing, is_empty, is_own};
+ghost use Rattle.gb_folder.specs.Calls.{Asks, no_change};
+ghost use Rattle.gb_folder.specs.Files.{is_empty, is_own};
 ghost use Rattle.gb_label.specs.Deciding.{HasNamesInOrder};
 ghost use Rattle.gb_meaning.specs.Kinds.{Kinds};
 ghost use Rattle.gb_meaning.specs.Label.{Moment, some_outcome};
@@ -50,8 +51,7 @@ pub fn settle<F: Folder>(
     requires in_order { HasNamesInOrder task.now }
     requires not_own { list_any (λ output. is_own output.place) task.now.outputs ≡ false }
     requires path { path ≡ task.now.path }
-    ensures count { F.failures folder.old ≤ F.failures folder.new }
-    ensures tearing { SameTearing (F.may_leave folder.old) (F.may_leave folder.new) }
+    ensures asks { Asks F.failures F.may_leave F.asked no_change folder.old folder.new }
     // Over any folder: what is told is of the task, what is skipped or has no actions is told so, and of what
     // has actions and runs no other outcome is told than it may answer.
     ensures of_task { IsOfTask task.now (F.failures folder.old) (F.failures folder.new) result }

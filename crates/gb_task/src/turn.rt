@@ -1,10 +1,11 @@
 //! A started task's turn.
-ghost use Rattle.std.specs.Prelude.{◌≡◌, ◌≢◌, ◌≤◌, ◌||◌, ℕ, List, None, false, not, is_some, IsTrue, option_copied};
+ghost use Rattle.std.specs.Prelude.{◌≡◌, ◌≢◌, ◌||◌, ℕ, List, None, false, not, is_some, IsTrue, option_copied};
 ghost use Rattle.std.specs.List.{AllByRecursion, list_any};
 ghost use Rattle.gb_action.specs.Changes.{Changes};
 ghost use Rattle.gb_case.specs.Case.{IsCaseFor, IsKnown};
 ghost use Rattle.gb_case.specs.Turns.{IsRunFor, goes_by_changes};
-ghost use Rattle.gb_folder.specs.Files.{HasRisen, SameTearing, is_empty, is_own};
+ghost use Rattle.gb_folder.specs.Calls.{Asks};
+ghost use Rattle.gb_folder.specs.Files.{HasRisen, is_empty, is_own};
 ghost use Rattle.gb_history.specs.Places.{record_place};
 ghost use Rattle.gb_incremental.specs.Asking.{CanGoOn};
 ghost use Rattle.gb_label.specs.Deciding.{HasNamesInOrder};
@@ -20,6 +21,7 @@ ghost use Rattle.gb_report.specs.Outcome.{is_executed, is_started};
 ghost use Rattle.gb_report.specs.declared.report.Options.{Options};
 ghost use Rattle.gb_report.specs.declared.report.Outcome.TheVariants.{Failed};
 ghost use Rattle.gb_store.specs.Changes.{ChangesOnly};
+ghost use Rattle.gb_task.specs.Asking.{IsTextOf, in_turn_with};
 ghost use Rattle.gb_task.specs.Settled.{IsAnswer, IsAnsweredAlone};
 ghost use Rattle.gb_task.specs.Turned.{ComesAt, HasTurned, IsToldOf, Registering, is_of_turn, outcome_of, setting_with};
 ghost use Rattle.gb_turn.specs.Reading.{is_input_of};
@@ -62,12 +64,13 @@ pub fn take_turn<A: Actions, F: Folder>(
     requires path { path ≡ task.now.path }
     ensures path { result.path ≡ task.now.path }
     ensures has_actions { result.has_actions ≡ not (is_empty task.now.actions) }
-    ensures count { F.failures folder.old ≤ F.failures folder.new }
+    ensures asks { Asks F.failures F.may_leave F.asked
+        (in_turn_with task.now (IsTextOf A.meanings table.now options task.now (option_copied last.entry)))
+        folder.old folder.new }
     ensures blame { (place : List ℕ) → result.outcome ≡ Failed (Fault.Device place)
         → HasRisen (F.failures folder.old) (F.failures folder.new) }
     ensures blamed { (place : List ℕ) → result.outcome ≡ Failed (Fault.Device place)
         → IsTrue (is_input_of task.now place || is_output_of task.now place) }
-    ensures tearing { SameTearing (F.may_leave folder.old) (F.may_leave folder.new) }
     ensures started { IsTrue (is_started result.outcome) }
     // Over any folder: what is skipped or has no actions is told so; what has actions and runs answers as it
     // may, and prints nothing where its outcome leaves no choice.
@@ -121,12 +124,13 @@ fn run<A: Actions, F: Folder>(
     ensures path { result.path ≡ task.now.path }
     ensures has_actions { result.has_actions ≡ not (is_empty task.now.actions) }
     ensures outcome { IsToldOf outcome_of result.outcome }
-    ensures count { F.failures folder.old ≤ F.failures folder.new }
+    ensures asks { Asks F.failures F.may_leave F.asked
+        (in_turn_with task.now (IsTextOf A.meanings table.now options task.now (option_copied last.entry)))
+        folder.old folder.new }
     ensures blame { (place : List ℕ) → result.outcome ≡ Failed (Fault.Device place)
         → HasRisen (F.failures folder.old) (F.failures folder.new) }
     ensures blamed { (place : List ℕ) → result.outcome ≡ Failed (Fault.Device place)
         → IsTrue (is_input_of task.now place || is_output_of task.now place) }
-    ensures tearing { SameTearing (F.may_leave folder.old) (F.may_leave folder.new) }
     ensures changes { IsTrue F.tells
         → ChangesOnly (is_of_turn task.now) (F.contents folder.old) (F.contents folder.new) }
     ensures turn { IsTrue F.tells → (kinds : Kinds) (registry_of : Registering)

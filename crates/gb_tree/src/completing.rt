@@ -1,9 +1,9 @@
 //! What was read is completed: of the files whose bytes were not kept, the bytes are read and digested anew.
-ghost use Rattle.std.specs.Prelude.{◌≡◌, ◌≤◌, map, IsTrue, IfOk, IfErr};
+ghost use Rattle.std.specs.Prelude.{◌≡◌, map, IsTrue, IfOk, IfErr};
 ghost use Rattle.std.specs.List.{AllByRecursion};
 ghost use Rattle.std.specs.FinMap.Entries.{is_sorted};
 ghost use Rattle.gb_core.specs.Lists.{byte_order};
-ghost use Rattle.gb_folder.specs.Files.{SameTearing};
+ghost use Rattle.gb_folder.specs.Calls.{Asks, no_change};
 ghost use Rattle.gb_tree.specs.Tree.{Blames, IsTreeFaultOfMachine, bytes_at, contents_at, is_among};
 ghost use Rattle.gb_tree.specs.Prints.{digests_of};
 ghost use Rattle.gb_tree.specs.Reading.{IsReading, IsSeenIn, entries_seen, is_digest_of};
@@ -26,10 +26,9 @@ fn complete<F: Folder>(
     seen: SeenFile,
 ) -> Result<(RelPath, Bytes, [u8; 32]), TreeFault>
     requires { IsTrue (is_digest_of seen.kept seen.digest) }
-    ensures count { F.failures folder.old ≤ F.failures folder.new }
+    ensures asks { Asks F.failures F.may_leave F.asked no_change folder.old folder.new }
     ensures blame { Blames (λ at. at ≡ seen.place)
         (F.failures folder.old) (F.failures folder.new) result }
-    ensures tearing { SameTearing (F.may_leave folder.old) (F.may_leave folder.new) }
     ensures same { IsTrue F.tells → F.contents folder.new ≡ F.contents folder.old }
     ensures path { IfOk result (λ made. made.0 ≡ seen.path) }
     ensures digest { IfOk result (λ made. made.2 ≡ sha256 made.1) }
@@ -59,10 +58,9 @@ pub(crate) fn complete_all<F: Folder>(
     seen: Vec<SeenFile>,
 ) -> Result<(Files, Vec<(RelPath, [u8; 32])>), TreeFault>
     requires { IsReading seen.items }
-    ensures count { F.failures folder.old ≤ F.failures folder.new }
+    ensures asks { Asks F.failures F.may_leave F.asked no_change folder.old folder.new }
     ensures blame { Blames (λ at. IsTrue (is_among (entries_seen seen.items) at))
         (F.failures folder.old) (F.failures folder.new) result }
-    ensures tearing { SameTearing (F.may_leave folder.old) (F.may_leave folder.new) }
     ensures same { IsTrue F.tells → F.contents folder.new ≡ F.contents folder.old }
     ensures digests { IfOk result (λ made. made.1.items ≡ digests_of made.0) }
     ensures ordered { IfOk result (λ made. IsTrue (is_sorted byte_order made.1.items)) }

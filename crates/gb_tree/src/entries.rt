@@ -6,7 +6,7 @@ ghost use Rattle.std.specs.Ordering.{is_lt};
 ghost use Rattle.std.specs.FinMap.Entries.{is_sorted};
 ghost use Rattle.gb_core.specs.Place.{is_beneath, is_under};
 ghost use Rattle.gb_core.specs.Lists.{byte_order, first_of};
-ghost use Rattle.gb_folder.specs.Files.{SameTearing};
+ghost use Rattle.gb_folder.specs.Calls.{Asks, no_change};
 ghost use Rattle.gb_folder.specs.Limits.{max_files};
 ghost use Rattle.gb_tree.specs.Tree.{Blames, IsRefused, odd_roots, too_many};
 ghost use Rattle.gb_tree.specs.Property.{distinct, doubled, entries_in, entries_of, entry_faults, found, held, in_order, is_in, is_under_any, lets_in, matches_any, paths_of};
@@ -36,10 +36,9 @@ pub(crate) fn entries_of<F: Folder>(
     include: &[Pattern],
     exclude: &[Pattern],
 ) -> Result<Vec<(RelPath, Place)>, TreeFault>
-    ensures count { F.failures folder.old ≤ F.failures folder.new }
+    ensures asks { Asks F.failures F.may_leave F.asked no_change folder.old folder.new }
     ensures blame { Blames (λ at. IsTrue (is_under_any roots.now at))
         (F.failures folder.old) (F.failures folder.new) result }
-    ensures tearing { SameTearing (F.may_leave folder.old) (F.may_leave folder.new) }
     ensures under { IfOk result
         (λ entries. AllByRecursion (λ entry. IsTrue (is_under_any roots.now entry.1)) entries.items) }
     ensures ordered { IfOk result (λ entries. IsTrue (is_sorted byte_order entries.items)) }
@@ -91,10 +90,9 @@ fn found_few<F: Folder>(
     exclude: &[Pattern],
     roots: &[Place],
 ) -> Result<Vec<(RelPath, Place)>, TreeFault>
-    ensures count { F.failures folder.old ≤ F.failures folder.new }
+    ensures asks { Asks F.failures F.may_leave F.asked no_change folder.old folder.new }
     ensures blame { Blames (λ at. IsTrue (is_under_any roots.now at))
         (F.failures folder.old) (F.failures folder.new) result }
-    ensures tearing { SameTearing (F.may_leave folder.old) (F.may_leave folder.new) }
     ensures under { IfOk result
         (λ entries. AllByRecursion (λ entry. IsTrue (is_under_any roots.now entry.1)) entries.items) }
     ensures same { IsTrue F.tells → F.contents folder.new ≡ F.contents folder.old }
@@ -125,10 +123,9 @@ fn found<F: Folder>(
     exclude: &[Pattern],
     roots: &[Place],
 ) -> Result<Vec<(RelPath, Place)>, TreeFault>
-    ensures count { F.failures folder.old ≤ F.failures folder.new }
+    ensures asks { Asks F.failures F.may_leave F.asked no_change folder.old folder.new }
     ensures blame { Blames (λ at. IsTrue (is_under_any roots.now at))
         (F.failures folder.old) (F.failures folder.new) result }
-    ensures tearing { SameTearing (F.may_leave folder.old) (F.may_leave folder.new) }
     ensures under { IfOk result
         (λ entries. AllByRecursion (λ entry. IsTrue (is_under_any roots.now entry.1)) entries.items) }
     ensures few { IfOk result (λ entries. length entries.items ≤ max_files + 1) }

@@ -1,7 +1,7 @@
 //! Files as they were read once, of which the bytes are kept as far as there is room.
-ghost use Rattle.std.specs.Prelude.{◌≡◌, ◌≤◌, ◌↔◌, [], map, IsTrue, IfOk, IfErr};
+ghost use Rattle.std.specs.Prelude.{◌≡◌, ◌↔◌, [], map, IsTrue, IfOk, IfErr};
 ghost use Rattle.std.specs.List.{AllByRecursion};
-ghost use Rattle.gb_folder.specs.Files.{SameTearing};
+ghost use Rattle.gb_folder.specs.Calls.{Asks, no_change};
 ghost use Rattle.gb_tree.specs.Tree.{Blames, IsTreeFaultOfMachine, contents_at, is_among};
 ghost use Rattle.gb_tree.specs.Prints.{digests_of};
 
@@ -89,10 +89,9 @@ impl Reading {
         alloc: Global,
         folder: &mut F,
     ) -> Result<(Snapshot, Prints), TreeFault>
-        ensures count { F.failures folder.old ≤ F.failures folder.new }
+        ensures asks { Asks F.failures F.may_leave F.asked no_change folder.old folder.new }
         ensures blame { Blames (λ at. IsTrue (is_among (entries_seen self.1) at))
             (F.failures folder.old) (F.failures folder.new) result }
-        ensures tearing { SameTearing (F.may_leave folder.old) (F.may_leave folder.new) }
         ensures same { IsTrue F.tells → F.contents folder.new ≡ F.contents folder.old }
         ensures named { IfOk result (λ made. made.0.0 ≡ self.0) }
         ensures prints { IfOk result (λ made. made.1 ≡ (self.0, digests_of made.0.1)) }

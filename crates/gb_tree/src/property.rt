@@ -1,7 +1,7 @@
 //! The files of a file property.
-ghost use Rattle.std.specs.Prelude.{◌≡◌, ◌≤◌, [], IsTrue, IfOk, IfErr, OnOk};
+ghost use Rattle.std.specs.Prelude.{◌≡◌, [], IsTrue, IfOk, IfErr, OnOk};
 ghost use Rattle.std.specs.List.{AllByRecursion};
-ghost use Rattle.gb_folder.specs.Files.{SameTearing};
+ghost use Rattle.gb_folder.specs.Calls.{Asks, no_change};
 ghost use Rattle.gb_tree.specs.Tree.{Blames, IsRefused};
 ghost use Rattle.gb_tree.specs.Prints.{digests_of};
 ghost use Rattle.gb_tree.specs.Property.{entries_of, is_under_any, tree_faults, tree_of};
@@ -45,10 +45,9 @@ pub fn snapshot<F: Folder>(
     include: &[Pattern],
     exclude: &[Pattern],
 ) -> Result<Snapshot, TreeFault>
-    ensures count { F.failures folder.old ≤ F.failures folder.new }
+    ensures asks { Asks F.failures F.may_leave F.asked no_change folder.old folder.new }
     ensures blame { Blames (λ at. IsTrue (is_under_any roots.now at))
         (F.failures folder.old) (F.failures folder.new) result }
-    ensures tearing { SameTearing (F.may_leave folder.old) (F.may_leave folder.new) }
     ensures same { IsTrue F.tells → F.contents folder.new ≡ F.contents folder.old }
     ensures files { IsTrue F.tells → IfOk result
         (λ snapshot. snapshot
@@ -75,10 +74,9 @@ pub fn prints_of<F: Folder>(
     include: &[Pattern],
     exclude: &[Pattern],
 ) -> Result<Prints, TreeFault>
-    ensures count { F.failures folder.old ≤ F.failures folder.new }
+    ensures asks { Asks F.failures F.may_leave F.asked no_change folder.old folder.new }
     ensures blame { Blames (λ at. IsTrue (is_under_any roots.now at))
         (F.failures folder.old) (F.failures folder.new) result }
-    ensures tearing { SameTearing (F.may_leave folder.old) (F.may_leave folder.new) }
     ensures same { IsTrue F.tells → F.contents folder.new ≡ F.contents folder.old }
     ensures named { IfOk result (λ prints. prints.0 ≡ name.now) }
     ensures prints { IsTrue F.tells → IfOk result (λ prints. prints
@@ -110,10 +108,9 @@ pub fn reading_of<F: Folder>(
     exclude: &[Pattern],
     room: &mut u64,
 ) -> Result<Reading, TreeFault>
-    ensures count { F.failures folder.old ≤ F.failures folder.new }
+    ensures asks { Asks F.failures F.may_leave F.asked no_change folder.old folder.new }
     ensures blame { Blames (λ at. IsTrue (is_under_any roots.now at))
         (F.failures folder.old) (F.failures folder.new) result }
-    ensures tearing { SameTearing (F.may_leave folder.old) (F.may_leave folder.new) }
     ensures same { IsTrue F.tells → F.contents folder.new ≡ F.contents folder.old }
     ensures named { IfOk result (λ reading. reading.0 ≡ name.now) }
     ensures under { IfOk result

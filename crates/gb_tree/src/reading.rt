@@ -5,7 +5,8 @@ ghost use Rattle.std.specs.List.Sorted.{IsStrictlySortedBy};
 ghost use Rattle.std.specs.FinMap.Entries.{is_sorted};
 ghost use Rattle.gb_core.specs.Place.{is_under};
 ghost use Rattle.gb_core.specs.Lists.{byte_order};
-ghost use Rattle.gb_folder.specs.Files.{SameTearing, file_at, is_odd_under, places_under};
+ghost use Rattle.gb_folder.specs.Calls.{Asks, no_change};
+ghost use Rattle.gb_folder.specs.Files.{file_at, is_odd_under, places_under};
 ghost use Rattle.gb_tree.specs.Tree.{Blames, IsRefused, IsTreeFaultOfMachine, bytes_at, contents_at, is_among, is_large, too_large};
 ghost use Rattle.gb_tree.specs.Prints.{digests_of};
 ghost use Rattle.sha2.specs.Sha256.{sha256};
@@ -31,10 +32,9 @@ pub(crate) fn listed<F: Folder>(
     folder: &mut F,
     place: &Place,
 ) -> Result<Vec<Place>, TreeFault>
-    ensures count { F.failures folder.old ≤ F.failures folder.new }
+    ensures asks { Asks F.failures F.may_leave F.asked no_change folder.old folder.new }
     ensures blame { Blames (λ at. at ≡ place.now)
         (F.failures folder.old) (F.failures folder.new) result }
-    ensures tearing { SameTearing (F.may_leave folder.old) (F.may_leave folder.new) }
     ensures under { IfOk result (λ places. AllPass (λ at. is_under at place.now) places.items) }
     ensures ordered { IfOk result (λ places. IsStrictlySortedBy byte_order places.items) }
     ensures same { IsTrue F.tells → F.contents folder.new ≡ F.contents folder.old }
@@ -58,10 +58,9 @@ pub(crate) fn read_file<F: Folder>(
     folder: &mut F,
     place: &Place,
 ) -> Result<Bytes, TreeFault>
-    ensures count { F.failures folder.old ≤ F.failures folder.new }
+    ensures asks { Asks F.failures F.may_leave F.asked no_change folder.old folder.new }
     ensures blame { Blames (λ at. at ≡ place.now)
         (F.failures folder.old) (F.failures folder.new) result }
-    ensures tearing { SameTearing (F.may_leave folder.old) (F.may_leave folder.new) }
     ensures same { IsTrue F.tells → F.contents folder.new ≡ F.contents folder.old }
     ensures read { IsTrue F.tells → IfOk result
         (λ bytes. bytes ≡ bytes_at (F.contents folder.old).files place.now) }
@@ -85,10 +84,9 @@ pub(crate) fn read_all<F: Folder>(
     entries: &[(RelPath, Place)],
 ) -> Result<Files, TreeFault>
     requires { IsTrue (is_sorted byte_order entries.now) }
-    ensures count { F.failures folder.old ≤ F.failures folder.new }
+    ensures asks { Asks F.failures F.may_leave F.asked no_change folder.old folder.new }
     ensures blame { Blames (λ at. IsTrue (is_among entries.now at))
         (F.failures folder.old) (F.failures folder.new) result }
-    ensures tearing { SameTearing (F.may_leave folder.old) (F.may_leave folder.new) }
     ensures same { IsTrue F.tells → F.contents folder.new ≡ F.contents folder.old }
     ensures read { IsTrue F.tells → IfOk result
         (λ files. files ≡ contents_at (F.contents folder.old).files entries.now) }
@@ -115,10 +113,9 @@ pub(crate) fn read_piece<F: Folder>(
     at: u64,
     len: u64,
 ) -> Result<Vec<u8>, TreeFault>
-    ensures count { F.failures folder.old ≤ F.failures folder.new }
+    ensures asks { Asks F.failures F.may_leave F.asked no_change folder.old folder.new }
     ensures blame { Blames (λ at. at ≡ place.now)
         (F.failures folder.old) (F.failures folder.new) result }
-    ensures tearing { SameTearing (F.may_leave folder.old) (F.may_leave folder.new) }
     ensures same { IsTrue F.tells → F.contents folder.new ≡ F.contents folder.old }
     ensures within { IfOk result (λ piece. length piece.items ≤ len) }
     ensures read { IsTrue F.tells → IfOk result
@@ -140,10 +137,9 @@ fn digest_file<F: Folder>(
     folder: &mut F,
     place: &Place,
 ) -> Result<[u8; 32], TreeFault>
-    ensures count { F.failures folder.old ≤ F.failures folder.new }
+    ensures asks { Asks F.failures F.may_leave F.asked no_change folder.old folder.new }
     ensures blame { Blames (λ at. at ≡ place.now)
         (F.failures folder.old) (F.failures folder.new) result }
-    ensures tearing { SameTearing (F.may_leave folder.old) (F.may_leave folder.new) }
     ensures same { IsTrue F.tells → F.contents folder.new ≡ F.contents folder.old }
     ensures digest { IsTrue F.tells → IfOk result
         (λ digest. digest ≡ sha256 (bytes_at (F.contents folder.old).files place.now)) }
@@ -177,10 +173,9 @@ pub(crate) fn digest_all<F: Folder>(
     entries: &[(RelPath, Place)],
 ) -> Result<Vec<(RelPath, [u8; 32])>, TreeFault>
     requires { IsTrue (is_sorted byte_order entries.now) }
-    ensures count { F.failures folder.old ≤ F.failures folder.new }
+    ensures asks { Asks F.failures F.may_leave F.asked no_change folder.old folder.new }
     ensures blame { Blames (λ at. IsTrue (is_among entries.now at))
         (F.failures folder.old) (F.failures folder.new) result }
-    ensures tearing { SameTearing (F.may_leave folder.old) (F.may_leave folder.new) }
     ensures same { IsTrue F.tells → F.contents folder.new ≡ F.contents folder.old }
     ensures ordered { IfOk result (λ digests. IsTrue (is_sorted byte_order digests.items)) }
     ensures digests { IsTrue F.tells → IfOk result

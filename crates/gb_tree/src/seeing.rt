@@ -1,10 +1,11 @@
 //! Files are read once each, one after another: the digest of each is taken, and its bytes are kept
 //! where there is room.
-ghost use Rattle.std.specs.Prelude.{◌≡◌, ◌≤◌, ◌⊎◌, ◌++◌, [], None, Some, false, true, map, IsTrue, IsSome, IfOk, IfErr, OnOk};
+ghost use Rattle.std.specs.Prelude.{◌≡◌, ◌⊎◌, ◌++◌, [], None, Some, false, true, map, IsTrue, IsSome, IfOk, IfErr, OnOk};
 ghost use Rattle.std.specs.List.{AllByRecursion};
 ghost use Rattle.std.specs.FinMap.Entries.{is_sorted};
 ghost use Rattle.gb_core.specs.Lists.{byte_order};
-ghost use Rattle.gb_folder.specs.Files.{SameTearing, file_at};
+ghost use Rattle.gb_folder.specs.Calls.{Asks, no_change};
+ghost use Rattle.gb_folder.specs.Files.{file_at};
 ghost use Rattle.gb_tree.specs.Tree.{Blames, IsRefused, IsTreeFaultOfMachine, bytes_at, is_among, is_large, too_large};
 ghost use Rattle.gb_tree.specs.Reading.{IsReading, IsSeenIn, KeepsOnly, entries_seen, is_digest_of};
 ghost use Rattle.sha2.specs.Sha256.{sha256};
@@ -64,10 +65,9 @@ fn see_bytes<F: Folder>(
     place: &Place,
     room: &mut u64,
 ) -> Result<([u8; 32], Option<Bytes>), TreeFault>
-    ensures count { F.failures folder.old ≤ F.failures folder.new }
+    ensures asks { Asks F.failures F.may_leave F.asked no_change folder.old folder.new }
     ensures blame { Blames (λ at. at ≡ place.now)
         (F.failures folder.old) (F.failures folder.new) result }
-    ensures tearing { SameTearing (F.may_leave folder.old) (F.may_leave folder.new) }
     ensures same { IsTrue F.tells → F.contents folder.new ≡ F.contents folder.old }
     ensures digested { IfOk result (λ found. IsTrue (is_digest_of found.1 found.0)) }
     ensures digest { IsTrue F.tells → IfOk result
@@ -111,10 +111,9 @@ fn see_file<F: Folder>(
     place: &Place,
     room: &mut u64,
 ) -> Result<SeenFile, TreeFault>
-    ensures count { F.failures folder.old ≤ F.failures folder.new }
+    ensures asks { Asks F.failures F.may_leave F.asked no_change folder.old folder.new }
     ensures blame { Blames (λ at. at ≡ place.now)
         (F.failures folder.old) (F.failures folder.new) result }
-    ensures tearing { SameTearing (F.may_leave folder.old) (F.may_leave folder.new) }
     ensures same { IsTrue F.tells → F.contents folder.new ≡ F.contents folder.old }
     ensures path { IfOk result (λ seen. seen.path ≡ path.now) }
     ensures place { IfOk result (λ seen. seen.place ≡ place.now) }
@@ -142,10 +141,9 @@ pub(crate) fn see_all<F: Folder>(
     room: &mut u64,
 ) -> Result<Vec<SeenFile>, TreeFault>
     requires { IsTrue (is_sorted byte_order entries.now) }
-    ensures count { F.failures folder.old ≤ F.failures folder.new }
+    ensures asks { Asks F.failures F.may_leave F.asked no_change folder.old folder.new }
     ensures blame { Blames (λ at. IsTrue (is_among entries.now at))
         (F.failures folder.old) (F.failures folder.new) result }
-    ensures tearing { SameTearing (F.may_leave folder.old) (F.may_leave folder.new) }
     ensures same { IsTrue F.tells → F.contents folder.new ≡ F.contents folder.old }
     ensures placed { IfOk result (λ seen. entries_seen seen.items ≡ entries.now) }
     ensures reading { IfOk result (λ seen. IsReading seen.items) }

@@ -1,7 +1,7 @@
 //! One reading is completed for a run.
-ghost use Rattle.std.specs.Prelude.{◌≡◌, ◌≤◌, IsTrue, IfOk, IfErr};
+ghost use Rattle.std.specs.Prelude.{◌≡◌, IsTrue, IfOk, IfErr};
 ghost use Rattle.std.specs.List.{AllByRecursion};
-ghost use Rattle.gb_folder.specs.Files.{SameTearing};
+ghost use Rattle.gb_folder.specs.Calls.{Asks, no_change};
 ghost use Rattle.gb_store.specs.Faults.{Blames, BlamesOnly, IsOfMachine};
 ghost use Rattle.gb_tree.specs.Prints.{digests_of};
 ghost use Rattle.gb_tree.specs.Reading.{IsSeenIn, entries_seen};
@@ -21,10 +21,9 @@ pub(crate) fn complete<F: Folder>(
     folder: &mut F,
     reading: Reading,
 ) -> Result<(Snapshot, Prints), Fault>
-    ensures count { F.failures folder.old ≤ F.failures folder.new }
+    ensures asks { Asks F.failures F.may_leave F.asked no_change folder.old folder.new }
     ensures blame { Blames result (F.failures folder.old) (F.failures folder.new) }
     ensures blamed { BlamesOnly (is_among (entries_seen reading.1)) result }
-    ensures tearing { SameTearing (F.may_leave folder.old) (F.may_leave folder.new) }
     ensures same { IsTrue F.tells → F.contents folder.new ≡ F.contents folder.old }
     ensures named { IfOk result (λ made. made.0.0 ≡ reading.0) }
     ensures digests { IfOk result (λ made. made.1 ≡ (reading.0, digests_of made.0.1)) }

@@ -1,7 +1,7 @@
 //! The inputs of a task: read by the label, and completed for a run.
-ghost use Rattle.std.specs.Prelude.{◌≡◌, ◌≤◌, [], map, IsTrue, IfOk, IfErr, OnOk};
+ghost use Rattle.std.specs.Prelude.{◌≡◌, [], map, IsTrue, IfOk, IfErr, OnOk};
 ghost use Rattle.std.specs.List.{AllByRecursion};
-ghost use Rattle.gb_folder.specs.Files.{SameTearing};
+ghost use Rattle.gb_folder.specs.Calls.{Asks, no_change};
 ghost use Rattle.gb_meaning.specs.Tree.{input_faults, tree_faults, tree_of, trees_of};
 ghost use Rattle.gb_plan.specs.Task.{seen_files};
 ghost use Rattle.gb_store.specs.Faults.{Blames, BlamesOnly, IsOfMachine};
@@ -28,10 +28,9 @@ fn read_one<F: Folder>(
     property: &FileProperty,
     room: &mut u64,
 ) -> Result<Reading, Fault>
-    ensures count { F.failures folder.old ≤ F.failures folder.new }
+    ensures asks { Asks F.failures F.may_leave F.asked no_change folder.old folder.new }
     ensures blame { Blames result (F.failures folder.old) (F.failures folder.new) }
     ensures blamed { BlamesOnly (is_under_any property.now.roots) result }
-    ensures tearing { SameTearing (F.may_leave folder.old) (F.may_leave folder.new) }
     ensures same { IsTrue F.tells → F.contents folder.new ≡ F.contents folder.old }
     ensures named { IfOk result (λ reading. reading.0 ≡ property.now.name) }
     ensures within { IfOk result
@@ -69,10 +68,9 @@ pub fn read_inputs<F: Folder>(
     task: &TaskDeclaration,
     room: &mut u64,
 ) -> Result<Vec<Reading>, Fault>
-    ensures count { F.failures folder.old ≤ F.failures folder.new }
+    ensures asks { Asks F.failures F.may_leave F.asked no_change folder.old folder.new }
     ensures blame { Blames result (F.failures folder.old) (F.failures folder.new) }
     ensures blamed { BlamesOnly (is_input_of task.now) result }
-    ensures tearing { SameTearing (F.may_leave folder.old) (F.may_leave folder.new) }
     ensures read { IfOk result (λ readings. AreInputs task.now readings.items) }
     ensures same { IsTrue F.tells → F.contents folder.new ≡ F.contents folder.old }
     ensures prints { IsTrue F.tells → IfOk result (λ readings.
@@ -109,10 +107,9 @@ pub fn complete_inputs<F: Folder>(
     readings: Vec<Reading>,
 ) -> Result<Inputs, Fault>
     requires { AreInputs task.now readings.items }
-    ensures count { F.failures folder.old ≤ F.failures folder.new }
+    ensures asks { Asks F.failures F.may_leave F.asked no_change folder.old folder.new }
     ensures blame { Blames result (F.failures folder.old) (F.failures folder.new) }
     ensures blamed { BlamesOnly (is_input_of task.now) result }
-    ensures tearing { SameTearing (F.may_leave folder.old) (F.may_leave folder.new) }
     // Over any folder: the names of the properties, and the digests of the very trees.
     ensures named { IfOk result (λ inputs. map (λ tree. tree.0) inputs.trees ≡ seen_files task.now.files) }
     ensures digests { IfOk result (λ inputs. inputs.prints.items ≡ digests_in inputs.trees) }

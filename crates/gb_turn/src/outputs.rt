@@ -1,8 +1,8 @@
 //! The outputs of a task: read by the label, completed for a run by changes, and recorded.
-ghost use Rattle.std.specs.Prelude.{◌≡◌, ◌≤◌, [], map, IsTrue, IfOk, IfErr, OnOk};
+ghost use Rattle.std.specs.Prelude.{◌≡◌, [], map, IsTrue, IfOk, IfErr, OnOk};
 ghost use Rattle.std.specs.List.{AllByRecursion, flat_map};
 ghost use Rattle.gb_core.specs.Place.{is_under};
-ghost use Rattle.gb_folder.specs.Files.{SameTearing};
+ghost use Rattle.gb_folder.specs.Calls.{Asks, no_change};
 ghost use Rattle.gb_history.specs.Remembered.{prints_in};
 ghost use Rattle.gb_plan.specs.Task.{is_output_of, seen_outputs};
 ghost use Rattle.gb_store.specs.Faults.{Blames, BlamesOnly, IsOfMachine};
@@ -30,10 +30,9 @@ fn read_one<F: Folder>(
     output: &Output,
     room: &mut u64,
 ) -> Result<Reading, Fault>
-    ensures count { F.failures folder.old ≤ F.failures folder.new }
+    ensures asks { Asks F.failures F.may_leave F.asked no_change folder.old folder.new }
     ensures blame { Blames result (F.failures folder.old) (F.failures folder.new) }
     ensures blamed { BlamesOnly (λ at. is_under at output.now.place) result }
-    ensures tearing { SameTearing (F.may_leave folder.old) (F.may_leave folder.new) }
     ensures same { IsTrue F.tells → F.contents folder.new ≡ F.contents folder.old }
     ensures named { IfOk result (λ reading. reading.0 ≡ output.now.name) }
     ensures within { IfOk result
@@ -61,10 +60,9 @@ pub fn read_outputs<F: Folder>(
     task: &TaskDeclaration,
     room: &mut u64,
 ) -> Result<Vec<Reading>, Fault>
-    ensures count { F.failures folder.old ≤ F.failures folder.new }
+    ensures asks { Asks F.failures F.may_leave F.asked no_change folder.old folder.new }
     ensures blame { Blames result (F.failures folder.old) (F.failures folder.new) }
     ensures blamed { BlamesOnly (is_output_of task.now) result }
-    ensures tearing { SameTearing (F.may_leave folder.old) (F.may_leave folder.new) }
     ensures read { IfOk result (λ readings. AreOutputs task.now readings.items) }
     ensures same { IsTrue F.tells → F.contents folder.new ≡ F.contents folder.old }
     ensures prints { IsTrue F.tells → IfOk result (λ readings. prints_read readings.items
@@ -99,10 +97,9 @@ fn complete_one<F: Folder>(
     output: &Output,
     reading: Reading,
 ) -> Result<(OutputFiles, Prints), Fault>
-    ensures count { F.failures folder.old ≤ F.failures folder.new }
+    ensures asks { Asks F.failures F.may_leave F.asked no_change folder.old folder.new }
     ensures blame { Blames result (F.failures folder.old) (F.failures folder.new) }
     ensures blamed { BlamesOnly (is_among (entries_seen reading.1)) result }
-    ensures tearing { SameTearing (F.may_leave folder.old) (F.may_leave folder.new) }
     ensures same { IsTrue F.tells → F.contents folder.new ≡ F.contents folder.old }
     ensures named { IfOk result (λ made. made.0.name ≡ output.now.name) }
     ensures formed { IfOk result (λ made. made.0.form ≡ output.now.form) }
@@ -131,10 +128,9 @@ pub fn complete_outputs<F: Folder>(
     readings: Vec<Reading>,
 ) -> Result<Outputs, Fault>
     requires { AreOutputs task.now readings.items }
-    ensures count { F.failures folder.old ≤ F.failures folder.new }
+    ensures asks { Asks F.failures F.may_leave F.asked no_change folder.old folder.new }
     ensures blame { Blames result (F.failures folder.old) (F.failures folder.new) }
     ensures blamed { BlamesOnly (is_output_of task.now) result }
-    ensures tearing { SameTearing (F.may_leave folder.old) (F.may_leave folder.new) }
     // Over any folder: the names and forms of the outputs, and the digests of the very files.
     ensures formed { IfOk result (λ outputs. map (λ output. (output.name, output.form)) outputs.seen
         ≡ seen_outputs task.now.outputs) }

@@ -1,12 +1,16 @@
 use Rattle.std.proofs.Common.{◌≡◌, ℕ, List, true, Err, ap, sym, subst, ◌∙◌, inl}
 use Rattle.std.proofs.lemmas.Result.{err_from_is_err_and}
-use Rattle.std.specs.List.{AllByRecursion}
+use Rattle.std.specs.List.{AllByRecursion, list_all}
 use Rattle.gb_folder.specs.Files.{is_own, places_under}
 use Rattle.gb_store.proofs.Emptied.{all_under}
-use Rattle.gb_store.proofs.Machine.{at_err, changes_chain, changes_none}
+use Rattle.gb_store.proofs.Machine.{at_err, changes_chain, changes_none, among_all}
 use Rattle.gb_meaning.specs.Edits.{LossStep, own_place}
 use Rattle.gb_events.specs.Answers.{edit_answer}
 use Rattle.gb_events.proofs.Editing.{lost_from, not_listed, shows}
+use Rattle.gb_folder.proofs.Asked.{asks_reading, asks_then, takes_where}
+use Rattle.gb_store.specs.Changes.{is_among}
+use Rattle.std.proofs.lemmas.List.Sums.{list_all-from_AllPass}
+use Rattle.gb_core.specs.Place.{is_under}
 use Rattle.gb_events.proofs.edits.lose.Goals as goal
 
 pub returns-in_err-places-clause-step : goal.returns-in_err-places-clause-step
@@ -25,7 +29,7 @@ returns-clause-step g c = λ tells.
     let old = contents c.args.folder.now in
     let listed : c.as_slice.result.now ≡ places_under old.files own_place = c.as_slice.ensures.value ∙ c.in_ok-places.ensures.listed tells ∙ ap (places_under old.files) c.in_ok-own.ensures in
     lost_from _ _ c.remove_all.result c.as_slice.result.now _ _ _ old (contents c.listed_at.new.folder) (contents c.remove_all.new.folder) (g.met.F.Folder.sound c.args.folder.now) listed (c.listed_at.ensures.same tells)
-    c.listed_at.ensures.tearing c.listed_at.ensures.count c.remove_all.ensures.count (c.remove_all.ensures.ok tells) (c.remove_all.ensures.err tells) (c.remove_all.ensures.cut tells)
+    c.listed_at.ensures.asks.tearing c.listed_at.ensures.asks.count c.remove_all.ensures.asks.count (c.remove_all.ensures.ok tells) (c.remove_all.ensures.err tells) (c.remove_all.ensures.cut tells)
 
 pub returns-clause-elsewhere : goal.returns-clause-elsewhere
 returns-clause-elsewhere g c = λ tells.
@@ -34,3 +38,15 @@ returns-clause-elsewhere g c = λ tells.
     let listed : c.as_slice.result.now ≡ places_under old.files own_place = c.as_slice.ensures.value ∙ c.in_ok-places.ensures.listed tells ∙ ap (places_under old.files) c.in_ok-own.ensures in
     changes_chain is_own _ _ _ (changes_none is_own old (contents c.listed_at.new.folder) (c.listed_at.ensures.same tells))
     (c.remove_all.ensures.changes tells is_own (subst (λ (places : List (List ℕ)). AllByRecursion (λ place. is_own place ≡ true) places) (sym listed) (all_under old.files own_place)))
+
+pub returns-in_err-places-clause-asks : goal.returns-in_err-places-clause-asks
+returns-in_err-places-clause-asks g c = asks_reading c.listed_at.ensures.asks
+
+pub returns-clause-asks : goal.returns-clause-asks
+returns-clause-asks g c =
+    let own : list_all is_own c.as_slice.result.now ≡ true =
+    ap (list_all is_own) c.as_slice.ensures.value
+    ∙ subst (λ (place : List ℕ). list_all (λ at. is_under at place) c.in_ok-places.places.items ≡ true) c.in_ok-own.ensures
+    (list_all-from_AllPass (λ at. is_under at c.in_ok-own.own) c.in_ok-places.places.items c.in_ok-places.ensures.under) in
+    asks_then (asks_reading c.listed_at.ensures.asks)
+    (takes_where (is_among c.as_slice.result.now) is_own (λ place is. among_all is_own c.as_slice.result.now place own is) c.remove_all.ensures.asks)

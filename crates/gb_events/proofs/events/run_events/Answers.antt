@@ -16,6 +16,8 @@ use Rattle.gb_events.proofs.Blaming.{blamed_more}
 use Rattle.gb_events.proofs.Editing.{shows}
 use Rattle.gb_invocation.proofs.Passing.{setting_by}
 use Rattle.gb_events.proofs.Running.{RunsFrom, heard_more, keeps_more, more_ahead, outlined_more, runs_hold, runs_nowhere, runs_on, take_all, taken_all, to_the_end}
+use Rattle.gb_events.specs.Asked.{EventsAsk}
+use Rattle.gb_events.proofs.Asked.{asks_more_events}
 use Rattle.gb_events.proofs.events.run_events.Goals as goal
 
 pub loop-event-preserved : goal.loop-event-preserved
@@ -45,6 +47,11 @@ loop-event-preserved g c =
       outlined = subst (λ (told : List Answer). AllZip AnswerIsOutlined (take (index + 1) c.args.events.now) told) (sym items)
           (subst (λ (events : List Event). AllZip AnswerIsOutlined events (c.loop-event.answers.items ++ c.take.result ∷ [])) taken_here
           (outlined_more (take index c.args.events.now) c.loop-event.answers.items c.event-item.result c.take.result so_far.outlined c.take.ensures.outlined));
+      asks =
+          subst (λ (told : List Answer). EventsAsk F.failures F.may_leave F.asked g.A.Actions.meanings c.args.tables.now.actions (take (index + 1) c.args.events.now) told c.args.folder.now c.take.new.folder) (sym items)
+          (subst (λ (events : List Event). EventsAsk F.failures F.may_leave F.asked g.A.Actions.meanings c.args.tables.now.actions events (c.loop-event.answers.items ++ c.take.result ∷ []) c.args.folder.now c.take.new.folder) taken_here
+          (asks_more_events g.F.Folder.failures g.F.Folder.may_leave g.F.Folder.asked g.A.Actions.meanings c.args.tables.now.actions (take index c.args.events.now) c.loop-event.answers.items c.event-item.result c.take.result c.args.folder.now c.loop-event.folder c.take.new.folder
+          (taken_all index c.args.events.now c.loop-event.answers.items so_far.each c.loop-event-test.true) so_far.asks c.take.ensures.asks));
       elsewhere = λ tells.
           subst (λ (told : List Answer). AllKeepElsewhere registers (take (index + 1) c.args.events.now) told start.contents next.contents) (sym items)
           (subst (λ (events : List Event). AllKeepElsewhere registers events (c.loop-event.answers.items ++ c.take.result ∷ []) start.contents next.contents) taken_here
@@ -85,3 +92,9 @@ returns-clause-promise g c = λ tells kinds agrees tears.
     headline (setting_by kinds registers (F.may_leave c.args.folder.now)) (shows (F.contents c.args.folder.now) (F.failures c.args.folder.now))
     (shows (F.contents c.loop-event.folder) (F.failures c.loop-event.folder)) c.args.events.now c.loop-event.answers.items
     (returns-clause-holds g c tells kinds agrees tears)
+
+pub returns-clause-asks : goal.returns-clause-asks
+returns-clause-asks g c =
+    let F = g.F.Folder in
+    subst (λ (events : List Event). EventsAsk F.failures F.may_leave F.asked g.A.Actions.meanings c.args.tables.now.actions events c.loop-event.answers.items c.args.folder.now c.loop-event.folder)
+    (take_all c.loop-event.event-index c.args.events.now c.loop-event-test.false) c.loop-event.invariant.asks

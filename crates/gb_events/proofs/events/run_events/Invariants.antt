@@ -11,6 +11,7 @@ use Rattle.gb_meaning.specs.Headline.{Agrees, AllKeepElsewhere, HasFailed, HaveH
 use Rattle.gb_meaning.specs.Kinds.{Kinds}
 use Rattle.gb_records.specs.Said.{IsText}
 use Rattle.gb_registry.specs.Tables.{tables_of}
+use Rattle.gb_events.specs.Asked.{EventsAsk}
 use Rattle.gb_events.specs.Answers.{AnswerIsOutlined}
 use Rattle.gb_events.proofs.Editing.{shows}
 use Rattle.gb_invocation.proofs.Passing.{setting_by}
@@ -27,6 +28,7 @@ invariant-loop-event g l =
       each : length l.answers.items ≡ l.event-index;
       count : F.failures l.fn.folder ≤ F.failures l.folder;
       tearing : SameTearing (F.may_leave l.fn.folder) (F.may_leave l.folder);
+      asks : EventsAsk F.failures F.may_leave F.asked g.A.Actions.meanings l.tables.actions (take l.event-index l.events) l.answers.items l.fn.folder l.folder;
       device : HasFailed (times_blamed_in_all l.answers.items) (F.failures l.fn.folder) (F.failures l.folder);
       heard : HaveHeardAll l.answers.items (map g.L.TaskListener.ear l.fn.listeners.items) (map g.L.TaskListener.ear l.listeners.items);
       outlined : AllZip AnswerIsOutlined (take l.event-index l.events) l.answers.items;

@@ -15,6 +15,8 @@ use Rattle.gb_events.proofs.Losing.{loss_leads}
 use Rattle.gb_events.proofs.Outside.{put_leads, remove_leads}
 use Rattle.gb_invocation.proofs.Passing.{setting_by}
 use Rattle.gb_events.proofs.Running.{edit_outlined, report_outlined}
+use Rattle.gb_events.specs.Asked.{EventAsks}
+use Rattle.gb_events.proofs.Asked.{invocation_asks}
 use Rattle.gb_events.proofs.events.take.Goals as goal
 
 pub returns-in-Put-clause-keeps : goal.returns-in-Put-clause-keeps
@@ -86,7 +88,7 @@ pub returns-in-Lost-clause-device : goal.returns-in-Lost-clause-device
 returns-in-Lost-clause-device g c =
     let F = g.F.Folder in
     subst (λ (answer : Answer). HasFailed (times_blamed answer) (F.failures c.args.folder.now) (F.failures c.lose.new.folder)) (sym c.edited-in-Lost.ensures)
-    (edit_blames c.lose.result (F.failures c.args.folder.now) (F.failures c.lose.new.folder) c.lose.ensures.count c.lose.ensures.blame)
+    (edit_blames c.lose.result (F.failures c.args.folder.now) (F.failures c.lose.new.folder) c.lose.ensures.asks.count c.lose.ensures.blame)
 
 pub returns-in-Put-clause-outlined : goal.returns-in-Put-clause-outlined
 returns-in-Put-clause-outlined g c =
@@ -105,3 +107,29 @@ returns-in-Invoke-clause-outlined g c =
     subst (λ (event : Event). AnswerIsOutlined event c.built.result) (sym c.in-Invoke.is)
     (subst (λ (answer : Answer). AnswerIsOutlined (events.Invoke c.in-Invoke.invocation) answer) (sym c.built.ensures)
     (report_outlined c.in-Invoke.invocation c.invoke.result c.invoke.ensures.outlined))
+
+pub returns-in-Put-clause-asks : goal.returns-in-Put-clause-asks
+returns-in-Put-clause-asks g c =
+    let F = g.F.Folder in
+    subst (λ (event : Event). EventAsks F.failures F.may_leave F.asked g.A.Actions.meanings c.args.tables.now.actions event c.edited.result c.args.folder.now c.put.new.folder) (sym c.in-Put.is)
+    c.put.ensures.asks
+
+pub returns-in-Remove-clause-asks : goal.returns-in-Remove-clause-asks
+returns-in-Remove-clause-asks g c =
+    let F = g.F.Folder in
+    subst (λ (event : Event). EventAsks F.failures F.may_leave F.asked g.A.Actions.meanings c.args.tables.now.actions event c.edited-in-Remove.result c.args.folder.now c.remove.new.folder) (sym c.in-Remove.is)
+    c.remove.ensures.asks
+
+pub returns-in-Lost-clause-asks : goal.returns-in-Lost-clause-asks
+returns-in-Lost-clause-asks g c =
+    let F = g.F.Folder in
+    subst (λ (event : Event). EventAsks F.failures F.may_leave F.asked g.A.Actions.meanings c.args.tables.now.actions event c.edited-in-Lost.result c.args.folder.now c.lose.new.folder) (sym c.in-Lost.is)
+    c.lose.ensures.asks
+
+pub returns-in-Invoke-clause-asks : goal.returns-in-Invoke-clause-asks
+returns-in-Invoke-clause-asks g c =
+    let F = g.F.Folder in
+    let rows = c.args.tables.now.actions in
+    subst (λ (event : Event). EventAsks F.failures F.may_leave F.asked g.A.Actions.meanings rows event c.built.result c.args.folder.now c.invoke.new.folder) (sym c.in-Invoke.is)
+    (subst (λ (answer : Answer). EventAsks F.failures F.may_leave F.asked g.A.Actions.meanings rows (events.Invoke c.in-Invoke.invocation) answer c.args.folder.now c.invoke.new.folder) (sym c.built.ensures)
+    (invocation_asks g.F.Folder.failures g.F.Folder.may_leave g.F.Folder.asked g.A.Actions.meanings rows c.in-Invoke.invocation c.invoke.result c.args.folder.now c.invoke.new.folder c.invoke.ensures.asks))

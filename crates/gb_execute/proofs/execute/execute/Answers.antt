@@ -15,6 +15,9 @@ use Rattle.gb_execute.specs.Failing.{times_blamed}
 use Rattle.gb_execute.specs.Reports.{IsOf}
 use Rattle.gb_execute.proofs.Skipping.{dry_blames, dry_built, dry_of}
 use Rattle.gb_execute.proofs.Hearing.{untold}
+use Rattle.gb_execute.proofs.Asking.{build_asks}
+use Rattle.gb_execute.specs.Asking.{in_turns}
+use Rattle.gb_folder.specs.Calls.{Asks}
 use Rattle.gb_execute.proofs.execute.execute.Goals as goal
 
 pub returns-then-options-clause-of_tasks : goal.returns-then-options-clause-of_tasks
@@ -69,3 +72,10 @@ returns-clause-changes g c = λ tells.
     let F = g.F.Folder in
     subst (λ (ps : List Planned). ChangesOnly (is_of_turns ps) (F.contents c.args.folder.now) (F.contents c.take_turns-all_heard.new.folder)) c.as_slice-tasks.ensures
     (c.take_turns-all_heard.ensures.changes tells)
+
+pub returns-clause-asks : goal.returns-clause-asks
+returns-clause-asks g c =
+    let F = g.F.Folder in
+    build_asks g.A.Actions.meanings c.args.table.now c.args.options c.args.plan.now c.args.records.now c.if-options.false
+    (subst (λ (ps : List Planned). Asks F.failures F.may_leave F.asked (in_turns g.A.Actions.meanings c.args.table.now c.args.options ps c.args.records.now) c.args.folder.now c.take_turns-all_heard.new.folder)
+    c.as_slice-tasks.ensures c.take_turns-all_heard.ensures.asks)

@@ -20,6 +20,11 @@ use Rattle.gb_execute.specs.Reports.{IsOf, report_with}
 use Rattle.gb_execute.proofs.Hearing.{heard_passed, heard_started, untold}
 use Rattle.gb_execute.proofs.Outlining.{outline_passed, outline_started}
 use Rattle.gb_execute.proofs.Taking.{own_apart, read_so, turn_passed, turn_started}
+use Rattle.gb_execute.proofs.Asking.{turn_asks}
+use Rattle.gb_folder.specs.Calls.{Asks}
+use Rattle.gb_history.specs.Remembered.{Remembered}
+use Rattle.gb_task.specs.Asking.{IsTextOf, in_turn_with}
+use Rattle.std.specs.Prelude.{Option}
 use Rattle.gb_execute.proofs.one.take_one.Goals as goal
 use Rattle.gb_execute.proofs.one.take_one.Goals.{then-begun, else-begun}
 
@@ -150,3 +155,17 @@ returns-clause-turn g c = λ tells kinds registry_of moment planned is agrees se
   where
     not_not : (b : Bool) → b ≡ true → b ≡ true
     not_not b e = e
+
+pub returns-clause-asks : goal.returns-clause-asks
+returns-clause-asks g c =
+    let F = g.F.Folder in
+    let build = c.args.build.now in
+    let tasks = build.tasks.now in
+    let index = c.args.index in
+    let task = slice_index_or tasks index c.index-build-index.result in
+    let within : index < length build.records.now = omega (arith, c.requires.each, c.requires.index) in
+    let last : option_copied c.as_ref-last.result ≡ slice_index_or build.records.now index None =
+    c.as_ref-last.ensures.value ∙ get_or_default build.records.now index c.index-build-index-2.result None within in
+    turn_asks g.A.Actions.meanings build.table.now build.options tasks build.records.now index task (slice_get-get_or tasks index c.index-build-index.result c.requires.index)
+    (subst (λ (read : Option Remembered). Asks F.failures F.may_leave F.asked (in_turn_with task.task (IsTextOf g.A.Actions.meanings build.table.now build.options task.task read))
+    c.args.folder.now c.take_turn-report.new.folder) last c.take_turn-report.ensures.asks)

@@ -6,7 +6,7 @@ use Rattle.std.proofs.Math.ListN.{get_or-eq_default}
 use Rattle.std.proofs.lemmas.Bool.{cases_order}
 use Rattle.gb_core.specs.Path.{is_task_path}
 use Rattle.gb_folder.specs.Files.{Contents, IsFolder, are_placed, is_own}
-use Rattle.gb_folder.proofs.Changes.{SameTearing-chain, SameTearing-same}
+use Rattle.gb_folder.proofs.Asked.{asks_nothing, asks_then}
 use Rattle.gb_listen.specs.Telling.{AllTold}
 use Rattle.gb_meaning.specs.Events.{State}
 use Rattle.gb_meaning.specs.Outline.{AreOutlines, moment_by}
@@ -74,9 +74,8 @@ loop-path-init g c =
       outline = subst (λ (rs : List TaskReport). AreOutlines c.args.build.now.options tasks [] [] rs) (sym none) tt;
       places = tt;
       heard = subst (λ (rs : List TaskReport). AllTold (heard_of false rs) true ears ears) (sym none) (untold ears);
-      count = omega arith;
+      asks = asks_nothing start;
       device = subst (λ (rs : List TaskReport). HasFailed (times_blamed rs) (F.failures start) (F.failures start)) (sym none) (inl (omega arith));
-      tearing = SameTearing-same (F.may_leave start);
       changes = λ tells. changes_none (is_of_turns []) (F.contents start) (F.contents start) refl;
       build = λ tells kinds registry_of remembered clear seen agrees tears worth.
           let old : State = record { contents = F.contents start; remembered = remembered; failures = F.failures start } in
@@ -151,10 +150,9 @@ loop-path-preserved g c =
       heard = subst (λ (b : Bool). AllTold (heard_of false c.push_reserved.new.reports.items) b first last) (sym both)
           (subst (λ (hs : List Heard). AllTold hs (c.loop-path.all_heard && c.take_one-taken.result.all_heard) first last)
           (sym (ap (heard_of false) items ∙ heard_more reports report)) told);
-      count = omega (arith, inv.count, c.take_one-taken.ensures.count);
+      asks = asks_then inv.asks c.take_one-taken.ensures.asks;
       device = subst (λ (rs : List TaskReport). HasFailed (times_blamed rs) (F.failures start) (F.failures next)) (sym items)
-          (failed_more reports report (F.failures start) (F.failures now) (F.failures next) inv.device c.take_one-taken.ensures.count c.take_one-taken.ensures.blame);
-      tearing = SameTearing-chain (F.may_leave start) (F.may_leave now) (F.may_leave next) inv.tearing c.take_one-taken.ensures.tearing;
+          (failed_more reports report (F.failures start) (F.failures now) (F.failures next) inv.device c.take_one-taken.ensures.asks.count c.take_one-taken.ensures.blame);
       changes = λ tells.
           subst (λ (ps : List Planned). ChangesOnly (is_of_turns ps) (F.contents start) (F.contents next)) (sym take_is)
           (changes_more (take i tasks) planned (F.contents start) (F.contents now) (F.contents next) (inv.changes tells) (c.take_one-taken.ensures.changes tells planned is));
@@ -168,11 +166,11 @@ loop-path-preserved g c =
           (subst (λ (rs : List TaskReport). IsUnderway kinds registry_of (F.may_leave start) clear seen build.options tasks old (take i tasks ++ planned ∷ []) (drop (i + 1) tasks) rs
           (record { contents = F.contents next; failures = F.failures next })) (sym items)
           (goes_on kinds registry_of (F.may_leave start) clear seen build.options tasks old (take i tasks) (drop (i + 1) tasks) planned (whole_at tasks i planned is) reports
-          (record { contents = F.contents now; failures = F.failures now }) u report (record { contents = F.contents next; failures = F.failures next }) c.take_one-taken.ensures.count
+          (record { contents = F.contents now; failures = F.failures now }) u report (record { contents = F.contents next; failures = F.failures next }) c.take_one-taken.ensures.asks.count
           (g.met.F.Folder.sound next) (differs_outside planned.task (F.contents now).files (F.contents next).files changes.elsewhere) changes.odd c.requires.can.sound.outputs_apart
-          (F.may_leave now) inv.tearing (once_behind (take i tasks) (drop (i + 1) tasks) planned (subst (λ (ps : List Planned). no_repeats (order ps) ≡ true) (whole_at tasks i planned is) c.requires.can.once))
+          (F.may_leave now) inv.asks.tearing (once_behind (take i tasks) (drop (i + 1) tasks) planned (subst (λ (ps : List Planned). no_repeats (order ps) ≡ true) (whole_at tasks i planned is) c.requires.can.once))
           (λ given still.
-          c.take_one-taken.ensures.turn tells kinds registry_of u.moment planned is agrees (seen_later (F.may_leave start) (F.may_leave now) inv.tearing tears) u.folder u.failures still.standing
+          c.take_one-taken.ensures.turn tells kinds registry_of u.moment planned is agrees (seen_later (F.may_leave start) (F.may_leave now) inv.asks.tearing tears) u.folder u.failures still.standing
           (subst (λ (os : List (Path × Outcome)). AreEndings tasks os c.loop-path.starts.endings) (sym u.outcomes) inv.endings)
           (knows c.what_is_read_is_known.ensures kinds tasks build.records.now seen u.seen_now (F.contents start) remembered u.moment.world i planned is (worth given.0) is_path still.same.0
           (subst (λ (folder : Contents). IsFolder folder.files) (sym u.folder) (folder_where (λ place. not (is_own place)) (F.contents now).files (g.met.F.Folder.sound now)))

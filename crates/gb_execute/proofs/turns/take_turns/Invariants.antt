@@ -2,7 +2,8 @@ use Rattle.std.proofs.Common.{◌≡◌, ◌≤◌, Bool, false, List, [], IsTru
 use Rattle.std.specs.List.{AllByRecursion, AllZip}
 use Rattle.std.specs.Vec.{vec_capacity}
 use Rattle.std.specs.Vec.Iter.{into_iter_items}
-use Rattle.gb_folder.specs.Files.{Bytes, SameTearing}
+use Rattle.gb_folder.specs.Calls.{Asks}
+use Rattle.gb_folder.specs.Files.{Bytes}
 use Rattle.gb_history.specs.Places.{record_place}
 use Rattle.gb_listen.specs.Telling.{AllTold}
 use Rattle.gb_meaning.specs.Headline.{Agrees, HasFailed, TearsAreSeen}
@@ -15,6 +16,7 @@ use Rattle.gb_records.specs.Said.{IsText}
 use Rattle.gb_start.specs.Plans.{AreEndings, AreOfPlan}
 use Rattle.gb_store.specs.Changes.{ChangesOnly}
 use Rattle.gb_task.specs.Turned.{Registering}
+use Rattle.gb_execute.specs.Asking.{in_turns}
 use Rattle.gb_execute.specs.Building.{is_of_turns}
 use Rattle.gb_execute.specs.Built.{AreWorth}
 use Rattle.gb_execute.specs.Failing.{times_blamed}
@@ -42,9 +44,8 @@ invariant-loop-path g l =
       outline : AreOutlines l.build.options tasks [] done l.reports.items;
       places : AllByRecursion HasOwnPlaces done;
       heard : AllTold (heard_of false l.reports.items) l.all_heard (map ear l.fn.listeners.items) (map ear l.listeners.items);
-      count : F.failures start ≤ F.failures l.folder;
+      asks : Asks F.failures F.may_leave F.asked (in_turns g.A.Actions.meanings l.build.table.now l.build.options tasks l.build.records.now) start l.folder;
       device : HasFailed (times_blamed l.reports.items) (F.failures start) (F.failures l.folder);
-      tearing : SameTearing (F.may_leave start) (F.may_leave l.folder);
       changes : IsTrue F.tells → ChangesOnly (is_of_turns done) (F.contents start) (F.contents l.folder);
       build : IsTrue F.tells → (kinds : Kinds) (registry_of : Registering) (remembered : Memory) (clear : Bool) (seen : List Bytes) → Agrees g.A.Actions.meanings l.build.table.now kinds
           → TearsAreSeen IsText record_place (F.may_leave start) → (IsTrue clear → AreWorth kinds tasks l.build.records.now seen (F.contents start) remembered)

@@ -1,7 +1,10 @@
-use Rattle.std.proofs.Common.{take}
+use Rattle.std.proofs.Common.{take, MatchOption}
 use Rattle.gb_order.specs.Order.{rows}
-use Rattle.gb_graph.specs.Meetings.{IsLeast, IsMet}
+use Rattle.gb_graph.specs.Meetings.{IsLeast, IsMet, IsWithin, found_by}
 use Rattle.gb_graph.proofs.least.least_met.Given as goal
 
-abbrev pub invariant-loop-at : goal.invariant-loop-at
-invariant-loop-at l = IsLeast (IsMet l.search (rows l.chains) l.tasks l.outputs (take l.at-index l.places)) l.least
+abbrev pub invariant-loop-place : goal.invariant-loop-place
+invariant-loop-place l = record {
+  least : IsLeast (IsMet l.search (rows l.chains) l.tasks l.outputs (take l.place l.places)) (found_by l.tasks l.places l.least);
+  within : MatchOption l.least (Unit {0}) (IsWithin l.tasks l.places);
+}

@@ -1,4 +1,4 @@
-use Rattle.std.proofs.Common.{◌≡◌, true, false, arith, ap, sym, ◌∙◌, inl, inr}
+use Rattle.std.proofs.Common.{◌≡◌, ◌++◌, ◌∷◌, [], true, false, arith, ap, sym, ◌∙◌, inl, inr}
 use Rattle.std.proofs.lemmas.Bool.{cases_Bool}
 use Rattle.gb_graph.specs.Places.{is_before, place_at}
 use Rattle.gb_graph.specs.declared.places.TaskPlace.{TaskPlace}
@@ -10,7 +10,7 @@ use Rattle.gb_graph.proofs.overlaps.end_from.Goals as goal
 pub returns-then-not-is_before-clause-above : goal.returns-then-not-is_before-clause-above
 returns-then-not-is_before-clause-above c =
     let row = c.args.row.now in
-    let text = c.args.text.now in
+    let text = c.args.text.now ++ c.args.sign ∷ [] in
     let end = c.loop-end.end in
     let told : is_before (place_at row end) text ≡ false =
     ap (λ x. is_before x text) (place_found row end c.index-row-end.result c.loop-end-test.true ∙ ap (λ (d : TaskPlace). d.place) (sym c.index-row-end.is)) ∙ sym c.is_before.ensures ∙ c.if-not-is_before.true in
@@ -22,7 +22,7 @@ returns-then-not-is_before-clause-above c =
 pub loop-end-preserved : goal.loop-end-preserved
 loop-end-preserved c =
     let row = c.args.row.now in
-    let text = c.args.text.now in
+    let text = c.args.text.now ++ c.args.sign ∷ [] in
     let end = c.loop-end.end in
     let told : is_before (place_at row end) text ≡ true =
     ap (λ x. is_before x text) (place_found row end c.index-row-end.result c.loop-end-test.true ∙ ap (λ (d : TaskPlace). d.place) (sym c.index-row-end.is)) ∙ sym c.is_before.ensures ∙ c.if-not-is_before.false in

@@ -1,5 +1,6 @@
 use Rattle.std.proofs.Common.{◌≡◌, ◌<◌, ◌+◌, ◌-◌, ◌/◌, length, true, false, arith, ap, sym, ◌∙◌, inl, inr}
 use Rattle.std.proofs.lemmas.Bool.{cases_Bool}
+use Rattle.gb_graph.specs.Overlaps.{with_sign}
 use Rattle.gb_graph.specs.Places.{is_before, place_at}
 use Rattle.gb_graph.specs.declared.places.TaskPlace.{TaskPlace}
 use Rattle.gb_graph.proofs.Rows.{place_found}
@@ -9,7 +10,7 @@ use Rattle.gb_graph.proofs.overlaps.first_from.Goals as goal
 pub loop-low-preserved-then-is_before : goal.loop-low-preserved-then-is_before
 loop-low-preserved-then-is_before c =
     let row = c.args.row.now in
-    let text = c.args.text.now in
+    let text = with_sign c.args.text.now c.args.sign in
     let mid = c.loop-low.low + (c.loop-low.high - c.loop-low.low) / 2 in
     let lt : mid < length row = omega arith in
     let told : is_before (place_at row mid) text ≡ true =
@@ -24,7 +25,7 @@ loop-low-preserved-then-is_before c =
 pub loop-low-preserved : goal.loop-low-preserved
 loop-low-preserved c =
     let row = c.args.row.now in
-    let text = c.args.text.now in
+    let text = with_sign c.args.text.now c.args.sign in
     let mid = c.loop-low.low + (c.loop-low.high - c.loop-low.low) / 2 in
     let lt : mid < length row = omega arith in
     let told : is_before (place_at row mid) text ≡ false =

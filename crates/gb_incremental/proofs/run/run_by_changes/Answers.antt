@@ -30,6 +30,7 @@ use Rattle.gb_incremental.proofs.Further.{begins_so, ends_so, fails_further, goe
 use Rattle.gb_incremental.proofs.Going.{IsGoing, fails_early, fails_late}
 use Rattle.gb_incremental.proofs.Owned.{digests_owned}
 use Rattle.gb_incremental.proofs.Telling.{IsTelling, tells_all, tells_more, tells_none}
+use Rattle.gb_folder.proofs.Asked.{asks_then}
 use Rattle.gb_incremental.proofs.run.run_by_changes.Goals as goal
 
 pub returns-in_err-full_request-clause-err : goal.returns-in_err-full_request-clause-err
@@ -62,8 +63,7 @@ returns-in_err-digests_stood-clause-err g c = λ tells.
 
 pub loop-action-init : goal.loop-action-init
 loop-action-init g c = record {
-  count = omega arith;
-  tearing = search rules;
+  asks = search rules;
   full = search rules;
   seen = search rules;
   ready = search rules;
@@ -87,8 +87,7 @@ loop-action-preserved g c =
     let next : deque_iter_rest old.action-iterator ≡ action ∷ left = c.in-Some.ensures.steps in
     let now = c.run_one.new in
     record {
-      count = omega arith;
-      tearing = SameTearing-chain _ _ _ old.invariant.tearing c.run_one.ensures.tearing;
+      asks = asks_then old.invariant.asks c.run_one.ensures.asks;
       full =
           subst (λ (files : Trees). IsFullRequest task files c.args.changes now.running.request) old.invariant.full.files
           (subst (λ (lists : List Changes). IsFullRequest task old.running.request.files lists now.running.request) old.invariant.full.lists c.in_ok-run_one.ensures.full);
@@ -156,7 +155,7 @@ returns-in_err-run_one-clause-err g c = λ tells.
     action left folder old.lines
     (subst (λ (actions : List Action). IsGoing kinds task c.args.files c.args.changes (F.contents start).files actions folder old.lines) next (old.invariant.went tells kinds agrees before goes_on))
     (F.may_leave start) (F.may_leave old.folder) (F.failures start) (F.failures old.folder) (F.failures now.folder) c.in_err-run_one.field-0.0 new now.lines
-    old.invariant.tearing old.invariant.count c.run_one.ensures.count
+    old.invariant.asks.tearing old.invariant.asks.count c.run_one.ensures.asks.count
     (λ quiet.
     let did = c.in_err-run_one.ensures.unread tells kinds agrees quiet in (
       subst (λ (trees : Trees). (c.in_err-run_one.field-0.0 ≡ faults.OutOfMemory) ⊎ ((text : Text) × (c.in_err-run_one.field-0.0 ≡ faults.ActionFailed text) × (made_by kinds task action trees ≡ Err text))) old.invariant.full.files did.0,

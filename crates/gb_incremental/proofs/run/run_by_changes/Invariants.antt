@@ -1,6 +1,7 @@
 use Rattle.std.proofs.Common.{◌≡◌, ◌≤◌, IsTrue}
 use Rattle.std.specs.List.{AllByRecursion}
 use Rattle.std.specs.VecDeque.Iter.{deque_iter_rest}
+use Rattle.gb_folder.specs.Calls.{Asks, changes_at}
 use Rattle.gb_action.specs.Files.{Trees}
 use Rattle.std.specs.FinMap.Entries.{is_sorted}
 use Rattle.gb_core.specs.Lists.{byte_order}
@@ -21,8 +22,7 @@ invariant-loop-action g l =
     let contents = g.F.Folder.contents in
     let left = deque_iter_rest l.action-iterator in
     record {
-      count : g.F.Folder.failures l.fn.folder ≤ g.F.Folder.failures l.folder;
-      tearing : SameTearing (g.F.Folder.may_leave l.fn.folder) (g.F.Folder.may_leave l.folder);
+      asks : Asks g.F.Folder.failures g.F.Folder.may_leave g.F.Folder.asked (changes_at (is_output_of l.task)) l.fn.folder l.folder;
       full : IsFullRequest l.task l.fn.files l.fn.changes l.running.request;
       seen : l.running.seen ≡ l.fn.outputs;
       ready : AllByRecursion (IsReadyAction g.A.Actions.meanings l.table l.task) left;

@@ -7,7 +7,7 @@ use Rattle.gb_report.specs.declared.fault.Fault.TheVariants as faults
 use Rattle.gb_action.specs.declared.request.Request.{Request}
 use Rattle.gb_plan.specs.Task.{is_output_of}
 use Rattle.gb_tree.specs.Prints.{digests_of}
-use Rattle.gb_store.specs.Changes.{ChangesOnly}
+use Rattle.gb_store.specs.Changes.{ChangesOnly, is_at as at_place}
 use Rattle.gb_store.proofs.Machine.{among_passes, at_err, handed_on}
 use Rattle.gb_meaning.specs.Headline.{Agrees}
 use Rattle.gb_meaning.specs.Kinds.{Kinds}
@@ -22,6 +22,8 @@ use Rattle.gb_incremental.proofs.Same.{all_shown, same_held, same_steps, steps_a
 use Rattle.gb_incremental.proofs.Stepped.{changes_after, changes_cut}
 use Rattle.gb_incremental.proofs.Telling.{makes_so}
 use Rattle.gb_incremental.proofs.Turning.{ends, stops_asked, stops_for_memory, stops_placing, stops_printing, stops_taking}
+use Rattle.gb_folder.proofs.Asked.{asks_where}
+use Rattle.std.specs.List.{list_any}
 use Rattle.gb_incremental.proofs.run.run_writer.Goals as goal
 
 -- errors of one result are one
@@ -215,3 +217,30 @@ returns-clause-makes g c = λ kinds agrees standing sorted good turn is.
     makes_so kinds task action request.files request.changes.lists seen standing sorted good turn reply (c.in_ok-reply.ensures.answered kinds agrees) _ (sym held ∙ c.in_ok-steps.ensures.ok)
     (c.go_back.ensures.digests ∙ c.in_ok-follow_steps.ensures (output_files task standing) (c.in_ok-reply.ensures.digests ∙ is)
     ∙ ap (λ (ss : List Step). digests_of (after_steps (output_files task standing) ss)) steps)
+
+pub returns-in_err-take_steps-clause-asks : goal.returns-in_err-take_steps-clause-asks
+returns-in_err-take_steps-clause-asks g c =
+    let task = c.args.task.now in
+    let row = c.as_slice-6.result.now in
+    let at = steps_at c.as_slice.result.now task.outputs c.as_slice-3.result.now c.as_slice-4.result.now (shown_steps row) c.as_slice.ensures (ap shown_steps c.as_slice-6.ensures.value ∙ c.in_ok-steps.ensures.steps) in
+    asks_where (λ place. list_any (λ step. at_place step.0 place) row) (is_output_of task)
+    (λ place is. among_passes (λ step. step.0) (is_output_of task) row place (all_shown (λ q. is_output_of task q ≡ true) row at) is)
+    c.take_steps.ensures.asks
+
+pub returns-in_err-append-clause-asks : goal.returns-in_err-append-clause-asks
+returns-in_err-append-clause-asks g c =
+    let task = c.args.task.now in
+    let row = c.as_slice-6.result.now in
+    let at = steps_at c.as_slice.result.now task.outputs c.as_slice-3.result.now c.as_slice-4.result.now (shown_steps row) c.as_slice.ensures (ap shown_steps c.as_slice-6.ensures.value ∙ c.in_ok-steps.ensures.steps) in
+    asks_where (λ place. list_any (λ step. at_place step.0 place) row) (is_output_of task)
+    (λ place is. among_passes (λ step. step.0) (is_output_of task) row place (all_shown (λ q. is_output_of task q ≡ true) row at) is)
+    c.take_steps.ensures.asks
+
+pub returns-clause-asks : goal.returns-clause-asks
+returns-clause-asks g c =
+    let task = c.args.task.now in
+    let row = c.as_slice-6.result.now in
+    let at = steps_at c.as_slice.result.now task.outputs c.as_slice-3.result.now c.as_slice-4.result.now (shown_steps row) c.as_slice.ensures (ap shown_steps c.as_slice-6.ensures.value ∙ c.in_ok-steps.ensures.steps) in
+    asks_where (λ place. list_any (λ step. at_place step.0 place) row) (is_output_of task)
+    (λ place is. among_passes (λ step. step.0) (is_output_of task) row place (all_shown (λ q. is_output_of task q ≡ true) row at) is)
+    c.take_steps.ensures.asks

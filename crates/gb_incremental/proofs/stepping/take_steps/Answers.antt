@@ -1,9 +1,9 @@
-use Rattle.std.proofs.Common.{arith, List, Option, IfErr, ap, subst, ◌∙◌, Bor}
+use Rattle.std.proofs.Common.{List, Option, IfErr, ap, subst, ◌∙◌, Bor}
 use Rattle.std.proofs.lemmas.Result.{err_from_is_err_and}
 use Rattle.std.proofs.lemmas.List.{take_all}
 use Rattle.std.specs.List.{AllByRecursion}
 use Rattle.gb_folder.specs.Files.{Bytes, Place}
-use Rattle.gb_folder.proofs.Changes.{SameTearing-chain}
+use Rattle.gb_folder.proofs.Asked.{asks_then}
 use Rattle.gb_report.specs.declared.fault.Fault.{Fault}
 use Rattle.gb_store.specs.Changes.{is_at}
 use Rattle.gb_store.proofs.Loops.{any_here, step_here}
@@ -11,6 +11,7 @@ use Rattle.gb_store.proofs.Machine.{at_err, handed_on}
 use Rattle.gb_incremental.specs.Steps.{folder_after}
 use Rattle.gb_incremental.specs.Stepping.{HasRoom, IsCutShort, IsSmall}
 use Rattle.gb_incremental.specs.Texts.{shown_steps}
+use Rattle.gb_incremental.proofs.Asked.{stepped_here}
 use Rattle.gb_incremental.proofs.Stepped.{cut_at, put_more, room_more}
 use Rattle.gb_incremental.proofs.stepping.take_steps.Goals as goal
 
@@ -20,8 +21,7 @@ loop-step-preserved g c =
     let index = c.loop-step.step-index in
     let item = c.step-item.result in
     record {
-      count = omega arith;
-      tearing = SameTearing-chain _ _ _ c.loop-step.invariant.tearing c.take_step.ensures.tearing;
+      asks = asks_then c.loop-step.invariant.asks (stepped_here steps index item c.loop-step-test.true c.step-item.is c.take_step.ensures.asks);
       small = (subst (λ (ss : List (Place × Option (Bor Bytes))). AllByRecursion IsSmall (shown_steps ss)) (step_here (λ ss. ss) steps index item c.loop-step-test.true c.step-item.is) c.loop-step.invariant.small).1;
       put = λ tells. put_more steps index item c.loop-step-test.true c.step-item.is _ _ _ (c.loop-step.invariant.put tells) (c.in_ok-take_step.ensures.ok tells);
       room = λ tells. room_more steps index item c.loop-step-test.true c.step-item.is _ _ (c.loop-step.invariant.put tells) (c.loop-step.invariant.room tells) (c.in_ok-take_step.ensures.free tells);
@@ -32,8 +32,10 @@ take_step-requires g c = record {
   small = (subst (λ (ss : List (Place × Option (Bor Bytes))). AllByRecursion IsSmall (shown_steps ss)) (step_here (λ ss. ss) c.args.steps.now c.loop-step.step-index c.step-item.result c.loop-step-test.true c.step-item.is) c.loop-step.invariant.small).0;
 }
 
-pub returns-in_err-take_step-clause-tearing : goal.returns-in_err-take_step-clause-tearing
-returns-in_err-take_step-clause-tearing g c = SameTearing-chain _ _ _ c.loop-step.invariant.tearing c.take_step.ensures.tearing
+pub returns-in_err-take_step-clause-asks : goal.returns-in_err-take_step-clause-asks
+returns-in_err-take_step-clause-asks g c =
+    asks_then c.loop-step.invariant.asks
+    (stepped_here c.args.steps.now c.loop-step.step-index c.step-item.result c.loop-step-test.true c.step-item.is c.take_step.ensures.asks)
 
 pub returns-in_err-take_step-clause-blamed : goal.returns-in_err-take_step-clause-blamed
 returns-in_err-take_step-clause-blamed g c = λ place device.
@@ -47,10 +49,7 @@ returns-in_err-take_step-clause-cut g c = λ tells.
     let F = g.F.Folder in
     let IsFault : Fault → Type 0 = λ fault. IsCutShort (F.may_leave c.args.folder.now) (shown_steps c.args.steps.now) (F.contents c.args.folder.now) fault (F.contents c.take_step.new.folder) in
     at_err (λ r. IfErr r IsFault) c.from_residual.result p.0 c.in_err-take_step.field-0.0 p.1 p.2
-    (cut_at c.args.steps.now c.loop-step.step-index c.step-item.result c.loop-step-test.true c.step-item.is _ _ _ _ _ _ c.loop-step.invariant.tearing (c.loop-step.invariant.put tells) (c.loop-step.invariant.room tells) (c.in_err-take_step.ensures.stopped tells))
-
-pub returns-clause-tearing : goal.returns-clause-tearing
-returns-clause-tearing g c = c.loop-step.invariant.tearing
+    (cut_at c.args.steps.now c.loop-step.step-index c.step-item.result c.loop-step-test.true c.step-item.is _ _ _ _ _ _ c.loop-step.invariant.asks.tearing (c.loop-step.invariant.put tells) (c.loop-step.invariant.room tells) (c.in_err-take_step.ensures.stopped tells))
 
 pub returns-clause-ok : goal.returns-clause-ok
 returns-clause-ok g c = λ tells.

@@ -21,6 +21,8 @@ use Rattle.gb_invocation.proofs.Blamed.{memory_blames_none}
 use Rattle.gb_invocation.proofs.BlamelessTasks.{declared_blame_none}
 use Rattle.gb_invocation.proofs.Buildable.{are_buildable}
 use Rattle.gb_invocation.proofs.Passing.{out_of_memory}
+use Rattle.gb_folder.proofs.Asked.{asks_nothing}
+use Rattle.gb_invocation.proofs.Asked.{refusal_asks, registered_asks}
 use Rattle.gb_invocation.proofs.invocation.build_registered.Goals as goal
 
 pub returns-in_err-tasks-clause-leads : goal.returns-in_err-tasks-clause-leads
@@ -116,3 +118,13 @@ returns-clause-places g c =
     each_fault (IsNotBegun registry c.args.invocation.now before after) (λ (fault : Fault). (place : List ℕ) → fault ≡ faults.Device place → IsTrue (is_own place && not c.args.invocation.now.options.dry_run))
     (λ fault why. refused_at registry c.args.invocation.now fault before after (declared_blame_none tables c.args.registry.now) why)
     c.build_requested.result (returns-clause-not_begun g c)
+
+pub returns-clause-asks : goal.returns-clause-asks
+returns-clause-asks g c =
+    registered_asks g.F.Folder.failures g.F.Folder.may_leave g.F.Folder.asked g.A.Actions.meanings c.args.tables.now.actions c.args.invocation.now (registry_in g.T.Transforms.meanings g.A.Actions.meanings c.in_ok-tasks.tasks.workspace) c.in_ok-tasks.tasks.ordered
+    c.build_requested.result c.args.folder.now c.build_requested.new.folder c.build_requested.ensures.asks
+
+pub returns-in_err-tasks-clause-asks : goal.returns-in_err-tasks-clause-asks
+returns-in_err-tasks-clause-asks g c =
+    let p = err_from_is_err_and c.from_residual.result c.from_residual.ensures.1 in
+    refusal_asks g.F.Folder.failures g.F.Folder.may_leave g.F.Folder.asked g.A.Actions.meanings c.args.tables.now.actions c.args.invocation.now c.from_residual.result p.0 c.args.folder.now c.args.folder.now p.1 (asks_nothing c.args.folder.now)

@@ -20,6 +20,8 @@ use Rattle.gb_invocation.proofs.Blamed.{failed_since, memory_blames_none, readin
 use Rattle.gb_invocation.proofs.Keeping.{begun_before, each_fault, invoked_keeps, of_fault, refusal_keeps}
 use Rattle.gb_invocation.proofs.Passing.{always, out_of_memory, refused_leads, setting_by, shows, since_read}
 use Rattle.gb_invocation.proofs.Reading.{not_read, own_is_read_first, read_first, registered}
+use Rattle.gb_folder.proofs.Asked.{asks_nothing}
+use Rattle.gb_invocation.proofs.Asked.{refusal_asks, scripts_before}
 use Rattle.gb_invocation.proofs.invocation.invoke.Goals as goal
 
 pub returns-in_err-given-clause-leads : goal.returns-in_err-given-clause-leads
@@ -54,13 +56,13 @@ returns-clause-leads g c = λ tells kinds agrees tears.
     let before = F.contents c.args.folder.now in
     let later = F.failures c.read_registry.new.folder in
     let new : Shown = shows (F.contents c.build_registered.new.folder) (F.failures c.build_registered.new.folder) in
-    since_read kinds (registry_said tables source) (registers_in tables) first second c.read_registry.ensures.tearing c.args.invocation.now before (F.failures c.args.folder.now) later
-    c.read_registry.ensures.count
+    since_read kinds (registry_said tables source) (registers_in tables) first second c.read_registry.ensures.asks.tearing c.args.invocation.now before (F.failures c.args.folder.now) later
+    c.read_registry.ensures.asks.count
     (registered tables before c.in_ok-given.given.items c.args.invocation.now.properties c.in_ok-given.ensures source (c.in_ok-registry.ensures.said tells))
     c.build_registered.result new c.build_registered.ensures.count
     (subst (λ (contents : Contents). Leads (setting_by kinds (always (registry_said tables source)) second) (shows contents later) (events.Invoke c.args.invocation.now) (answer_of c.build_registered.result) new)
     (c.read_registry.ensures.same tells)
-    (c.build_registered.ensures.leads tells kinds agrees (tears_alike first second c.read_registry.ensures.tearing tears)))
+    (c.build_registered.ensures.leads tells kinds agrees (tears_alike first second c.read_registry.ensures.asks.tearing tears)))
 
 pub returns-in_err-given-clause-holds : goal.returns-in_err-given-clause-holds
 returns-in_err-given-clause-holds g c = λ tells kinds agrees tears.
@@ -75,7 +77,7 @@ returns-in_err-registry-clause-holds g c = λ tells kinds agrees tears.
     let F = g.F.Folder in
     let tables = tables_of g.T.Transforms.meanings g.A.Actions.meanings c.args.tables.now in
     led_holds (setting_of tables kinds (F.may_leave c.args.folder.now)) (shows (F.contents c.args.folder.now) (F.failures c.args.folder.now))
-    (shows (F.contents c.read_registry.new.folder) (F.failures c.read_registry.new.folder)) c.args.invocation.now c.from_residual-in_err-registry.result c.read_registry.ensures.count
+    (shows (F.contents c.read_registry.new.folder) (F.failures c.read_registry.new.folder)) c.args.invocation.now c.from_residual-in_err-registry.result c.read_registry.ensures.asks.count
     (returns-in_err-registry-clause-leads g c tells kinds agrees tears)
 
 pub returns-clause-holds : goal.returns-clause-holds
@@ -83,7 +85,7 @@ returns-clause-holds g c = λ tells kinds agrees tears.
     let F = g.F.Folder in
     let tables = tables_of g.T.Transforms.meanings g.A.Actions.meanings c.args.tables.now in
     led_holds (setting_of tables kinds (F.may_leave c.args.folder.now)) (shows (F.contents c.args.folder.now) (F.failures c.args.folder.now))
-    (shows (F.contents c.build_registered.new.folder) (F.failures c.build_registered.new.folder)) c.args.invocation.now c.build_registered.result (omega (arith, c.read_registry.ensures.count, c.build_registered.ensures.count))
+    (shows (F.contents c.build_registered.new.folder) (F.failures c.build_registered.new.folder)) c.args.invocation.now c.build_registered.result (omega (arith, c.read_registry.ensures.asks.count, c.build_registered.ensures.count))
     (returns-clause-leads g c tells kinds agrees tears)
 
 pub returns-clause-keeps : goal.returns-clause-keeps
@@ -124,14 +126,14 @@ pub returns-in_err-registry-clause-device : goal.returns-in_err-registry-clause-
 returns-in_err-registry-clause-device g c =
     let F = g.F.Folder in
     let p = err_from_is_err_and c.from_residual-in_err-registry.result c.from_residual-in_err-registry.ensures.1 in
-    reading_fails c.read_registry.result c.in_err-registry.field-0.0 p.0 (F.failures c.args.folder.now) (F.failures c.read_registry.new.folder) c.read_registry.ensures.count c.in_err-registry.was
+    reading_fails c.read_registry.result c.in_err-registry.field-0.0 p.0 (F.failures c.args.folder.now) (F.failures c.read_registry.new.folder) c.read_registry.ensures.asks.count c.in_err-registry.was
     p.2 c.read_registry.ensures.blame c.from_residual-in_err-registry.result p.1
 
 pub returns-clause-device : goal.returns-clause-device
 returns-clause-device g c =
     let F = g.F.Folder in
     failed_since (times_blamed (answer_of c.build_registered.result)) (F.failures c.args.folder.now) (F.failures c.read_registry.new.folder) (F.failures c.build_registered.new.folder)
-    c.read_registry.ensures.count c.build_registered.ensures.device
+    c.read_registry.ensures.asks.count c.build_registered.ensures.device
 
 -- ---- Why it is refused
 
@@ -188,7 +190,7 @@ returns-clause-not_built g c = λ tells.
     each_fault (IsNotBegun (registry_said tables source) c.args.invocation.now later after) (λ (fault : Fault). IsNotBuilt (registers_in tables) old c.args.invocation.now fault after)
     (λ fault why. not_built (registers_in tables) (registry_said tables source) old c.args.invocation.now fault after
     (registered tables old.contents c.in_ok-given.given.items c.args.invocation.now.properties c.in_ok-given.ensures source (c.in_ok-registry.ensures.said tells))
-    (begun_before (registry_said tables source) c.args.invocation.now old.failures later after c.read_registry.ensures.count c.build_registered.ensures.count fault why))
+    (begun_before (registry_said tables source) c.args.invocation.now old.failures later after c.read_registry.ensures.asks.count c.build_registered.ensures.count fault why))
     c.build_registered.result c.build_registered.ensures.not_begun
 
 pub returns-clause-dry : goal.returns-clause-dry
@@ -220,3 +222,20 @@ returns-clause-promise g c = λ tells kinds agrees tears.
     headline (setting_of tables kinds (F.may_leave c.args.folder.now)) (shows (F.contents c.args.folder.now) (F.failures c.args.folder.now))
     (shows (F.contents c.build_registered.new.folder) (F.failures c.build_registered.new.folder)) (events.Invoke c.args.invocation.now ∷ []) (answer_of c.build_registered.result ∷ [])
     (returns-clause-holds g c tells kinds agrees tears)
+
+-- ---- What it asks
+
+pub returns-in_err-given-clause-asks : goal.returns-in_err-given-clause-asks
+returns-in_err-given-clause-asks g c =
+    let p = err_from_is_err_and c.from_residual.result c.from_residual.ensures.1 in
+    refusal_asks g.F.Folder.failures g.F.Folder.may_leave g.F.Folder.asked g.A.Actions.meanings c.args.tables.now.actions c.args.invocation.now c.from_residual.result p.0 c.args.folder.now c.args.folder.now p.1 (asks_nothing c.args.folder.now)
+
+pub returns-in_err-registry-clause-asks : goal.returns-in_err-registry-clause-asks
+returns-in_err-registry-clause-asks g c =
+    let p = err_from_is_err_and c.from_residual-in_err-registry.result c.from_residual-in_err-registry.ensures.1 in
+    refusal_asks g.F.Folder.failures g.F.Folder.may_leave g.F.Folder.asked g.A.Actions.meanings c.args.tables.now.actions c.args.invocation.now c.from_residual-in_err-registry.result p.0 c.args.folder.now c.read_registry.new.folder p.1 c.read_registry.ensures.asks
+
+pub returns-clause-asks : goal.returns-clause-asks
+returns-clause-asks g c =
+    scripts_before g.F.Folder.failures g.F.Folder.may_leave g.F.Folder.asked g.A.Actions.meanings c.args.tables.now.actions c.args.invocation.now c.build_registered.result c.args.folder.now c.read_registry.new.folder c.build_registered.new.folder
+    c.read_registry.ensures.asks c.build_registered.ensures.asks

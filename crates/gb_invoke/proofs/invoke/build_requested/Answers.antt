@@ -15,6 +15,10 @@ use Rattle.gb_invoke.proofs.Holding.{built_leads}
 use Rattle.gb_invoke.proofs.Leading.{led_holds}
 use Rattle.gb_invoke.proofs.Planning.{all_declared, can_build, own_places, plan_of, tears_alike}
 use Rattle.gb_invoke.proofs.Refusing.{by_reading, by_refusal, if_told, refused_leads, told_fails}
+use Rattle.gb_folder.specs.Calls.{Asks, no_change}
+use Rattle.gb_folder.proofs.Asked.{asks_nothing}
+use Rattle.gb_records.specs.Answered.{WasAnswered}
+use Rattle.gb_invoke.proofs.Asking.{refused_asks}
 use Rattle.gb_invoke.proofs.invoke.build_requested.Goals as goal
 
 -- ---- Refused with no plan
@@ -119,13 +123,13 @@ returns-clause-leads g c = λ tells kinds registry_of agrees tears scripts remem
     (own_places g.A.Actions.meanings c.args.table.now plan can) old new c.in_ok-report.report c.in_ok-report.ensures.dry_run (g.met.F.Folder.sound c.execute.new.folder)
     (subst (λ (contents : Contents). ChangesOnly (is_of_turns plan) contents new.contents) (c.records_for.ensures.same tells) (c.execute.ensures.changes tells))
     (λ dry. ap F.contents (c.execute.ensures.dry dry) ∙ c.records_for.ensures.same tells)
-    (omega (arith, c.records_for.ensures.count, c.execute.ensures.count)) scripts
-    mid (c.records_for.ensures.same tells) c.records_for.ensures.count (F.may_leave c.records_for.new.folder) c.records_for.ensures.tearing
+    (omega (arith, c.records_for.ensures.asks.count, c.execute.ensures.asks.count)) scripts
+    mid (c.records_for.ensures.same tells) c.records_for.ensures.asks.count (F.may_leave c.records_for.new.folder) c.records_for.ensures.asks.tearing
     c.as_slice-2.result.now
     (λ wet. subst (λ (records : List (Option Remembered)). AllZip (IsReadAt old.contents.files) (order plan) records) (sym c.as_slice-2.ensures.value)
     (subst (λ (tasks : List Planned). AllZip (IsReadAt old.contents.files) (order tasks) c.in_ok-records.records.items) c.as_slice.ensures (c.in_ok-records.ensures.read tells wet)))
     (λ remembered clear seen worth. c.in_ok-report.ensures.build tells kinds registry_of remembered clear seen agrees
-    (tears_alike (F.may_leave c.args.folder.now) (F.may_leave c.records_for.new.folder) c.records_for.ensures.tearing tears) worth)
+    (tears_alike (F.may_leave c.args.folder.now) (F.may_leave c.records_for.new.folder) c.records_for.ensures.asks.tearing tears) worth)
     remembered_now is_clear seen_now stands
 
 pub returns-in_err-plan-clause-holds : goal.returns-in_err-plan-clause-holds
@@ -141,7 +145,7 @@ returns-in_err-records-clause-holds g c = λ tells kinds registry_of agrees tear
     let F = g.F.Folder in
     let old : Shown = record { contents = F.contents c.args.folder.now; failures = F.failures c.args.folder.now } in
     let new : Shown = record { contents = F.contents c.records_for.new.folder; failures = F.failures c.records_for.new.folder } in
-    led_holds (setting_with kinds registry_of (F.may_leave c.args.folder.now)) old new c.args.invocation.now c.from_residual-in_err-records.result c.records_for.ensures.count
+    led_holds (setting_with kinds registry_of (F.may_leave c.args.folder.now)) old new c.args.invocation.now c.from_residual-in_err-records.result c.records_for.ensures.asks.count
     (returns-in_err-records-clause-leads g c tells kinds registry_of agrees tears scripts)
 
 pub returns-in_err-report-clause-holds : goal.returns-in_err-report-clause-holds
@@ -149,7 +153,7 @@ returns-in_err-report-clause-holds g c = λ tells kinds registry_of agrees tears
     let F = g.F.Folder in
     let old : Shown = record { contents = F.contents c.args.folder.now; failures = F.failures c.args.folder.now } in
     let new : Shown = record { contents = F.contents c.execute.new.folder; failures = F.failures c.execute.new.folder } in
-    led_holds (setting_with kinds registry_of (F.may_leave c.args.folder.now)) old new c.args.invocation.now c.from_residual-in_err-report.result (omega (arith, c.records_for.ensures.count, c.execute.ensures.count))
+    led_holds (setting_with kinds registry_of (F.may_leave c.args.folder.now)) old new c.args.invocation.now c.from_residual-in_err-report.result (omega (arith, c.records_for.ensures.asks.count, c.execute.ensures.asks.count))
     (returns-in_err-report-clause-leads g c tells kinds registry_of agrees tears scripts)
 
 pub returns-clause-holds : goal.returns-clause-holds
@@ -157,5 +161,44 @@ returns-clause-holds g c = λ tells kinds registry_of agrees tears scripts.
     let F = g.F.Folder in
     let old : Shown = record { contents = F.contents c.args.folder.now; failures = F.failures c.args.folder.now } in
     let new : Shown = record { contents = F.contents c.execute.new.folder; failures = F.failures c.execute.new.folder } in
-    led_holds (setting_with kinds registry_of (F.may_leave c.args.folder.now)) old new c.args.invocation.now (Ok c.in_ok-report.report) (omega (arith, c.records_for.ensures.count, c.execute.ensures.count))
+    led_holds (setting_with kinds registry_of (F.may_leave c.args.folder.now)) old new c.args.invocation.now (Ok c.in_ok-report.report) (omega (arith, c.records_for.ensures.asks.count, c.execute.ensures.asks.count))
     (returns-clause-leads g c tells kinds registry_of agrees tears scripts)
+
+-- ---- What it asks
+
+pub returns-in_err-plan-clause-asks : goal.returns-in_err-plan-clause-asks
+returns-in_err-plan-clause-asks g c =
+    let p = err_from_is_err_and c.from_residual.result c.from_residual.ensures.1 in
+    refused_asks g.A.Actions.meanings c.args.table.now (g.Ts.Tasks.registry c.args.tasks.now) c.args.invocation.now c.from_residual.result p.0 c.args.folder.now c.args.folder.now p.1
+    (asks_nothing c.args.folder.now)
+
+pub returns-in_err-records-clause-asks : goal.returns-in_err-records-clause-asks
+returns-in_err-records-clause-asks g c =
+    let p = err_from_is_err_and c.from_residual-in_err-records.result c.from_residual-in_err-records.ensures.1 in
+    refused_asks g.A.Actions.meanings c.args.table.now (g.Ts.Tasks.registry c.args.tasks.now) c.args.invocation.now c.from_residual-in_err-records.result p.0 c.args.folder.now c.records_for.new.folder p.1
+    c.records_for.ensures.asks
+
+pub returns-in_err-report-clause-asks : goal.returns-in_err-report-clause-asks
+returns-in_err-report-clause-asks g c =
+    let F = g.F.Folder in
+    let p = err_from_is_err_and c.from_residual-in_err-report.result c.from_residual-in_err-report.ensures.1 in
+    refused_asks g.A.Actions.meanings c.args.table.now (g.Ts.Tasks.registry c.args.tasks.now) c.args.invocation.now c.from_residual-in_err-report.result p.0 c.args.folder.now c.execute.new.folder p.1
+    (subst (λ now. Asks F.failures F.may_leave F.asked no_change c.args.folder.now now) (sym c.in_err-report.ensures.unbegun) c.records_for.ensures.asks)
+
+pub returns-clause-asks : goal.returns-clause-asks
+unfolding returns-clause-outlined
+returns-clause-asks g c =
+    let F = g.F.Folder in
+    let plan = c.in_ok-plan.plan in
+    let start = c.args.folder.now in
+    let mid = c.records_for.new.folder in (
+      returns-clause-outlined g c,
+      record {
+        records = c.as_slice-2.result.now;
+        begun = mid;
+        first = c.records_for.ensures.asks;
+        answered = λ wet. subst (λ (records : List (Option Remembered)). AllZip (WasAnswered F.failures F.may_leave F.asked start mid) (order plan) records) (sym c.as_slice-2.ensures.value)
+            (subst (λ (tasks : List Planned). AllZip (WasAnswered F.failures F.may_leave F.asked start mid) (order tasks) c.in_ok-records.records.items) c.as_slice.ensures (c.in_ok-records.ensures.answered wet));
+        turns = c.execute.ensures.asks;
+      },
+    )

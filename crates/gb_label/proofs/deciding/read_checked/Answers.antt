@@ -28,5 +28,5 @@ returns-clause-err g c = λ tells.
     let none : listing_faults task now ≡ [] = ap (listing_faults task) same ∙ c.in_ok-check_outputs.ensures.none_odd tells in
     err_as c.read_outputs.result (c.read_outputs.ensures.err tells) (λ fault cannot. elim (cannot_print_listed task now _ _ fault none cannot) [
       | inl grown ↦ inl (grown.0, subst (λ (folder : Contents). is_empty (flat_map (print_faults folder) task.outputs) ≡ false) same grown.1)
-      | inr read ↦ inr (cannot_before task old now _ _ _ fault same c.check_outputs.ensures.count c.read_outputs.ensures.count read)
+      | inr read ↦ inr (cannot_before task old now _ _ _ fault same c.check_outputs.ensures.asks.count c.read_outputs.ensures.asks.count read)
     ])

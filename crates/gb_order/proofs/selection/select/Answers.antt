@@ -1,12 +1,12 @@
-use Rattle.std.proofs.Common.{◌≡◌, ◌⊎◌, Err, inl, inr, map, sym, ap, ◌∙◌}
+use Rattle.std.proofs.Common.{◌≡◌, ◌⊎◌, [], Err, inl, inr, sym, ap, ◌∙◌}
 use Rattle.std.proofs.lemmas.Result.{err_from_is_err_and}
 use Rattle.std.specs.List.{flat_map}
 use Rattle.gb_core.specs.Lists.{first_of}
 use Rattle.gb_folder.specs.Files.{is_empty}
 use Rattle.gb_report.specs.declared.fault.Fault.{Fault}
 use Rattle.gb_report.specs.declared.fault.Fault.TheVariants.{OutOfMemory}
-use Rattle.gb_plan.specs.Graph.{selected_by}
 use Rattle.gb_plan.specs.Refusal.{request_of, word_faults}
+use Rattle.gb_order.specs.Words.{newly_selected}
 use Rattle.gb_order.proofs.Selections.{err_so, some_words, no_words, asked_none, asked_ok, requested_fault, excluded_fault}
 use Rattle.gb_order.proofs.selection.select.Goals as goal
 
@@ -17,7 +17,7 @@ returns g c =
     let some = ap is_empty (sym same) ∙ some_words c.words_of-words.result.now (sym c.is_empty.ensures ∙ c.if-is_empty.false) in
     record {
       request = asked_ok registry c.args.requested.now c.args.excluded.now some (ap (flat_map (word_faults registry)) (sym same) ∙ c.in_ok-requested.ensures.good) c.in_ok-excluded.ensures.good;
-      requested = c.in_ok-requested.ensures.selected ∙ ap (map (selected_by registry)) same;
+      requested = c.in_ok-requested.ensures.selected ∙ ap (newly_selected registry []) same;
       excluded = c.in_ok-excluded.ensures.selected;
       fault = tt;
     }

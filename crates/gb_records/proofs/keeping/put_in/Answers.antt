@@ -7,6 +7,7 @@ use Rattle.gb_history.specs.Text.{record_text}
 use Rattle.gb_records.specs.Said.{IsText, said_of}
 use Rattle.gb_records.specs.Standing.{StandsWith}
 use Rattle.gb_records.proofs.Calls.{LeftAt, put, stands_in, text_said}
+use Rattle.gb_records.proofs.Asked.{put_as}
 use Rattle.gb_records.proofs.keeping.put_in.Goals as goal
 
 pub returns-in-Ok-clause-stands : goal.returns-in-Ok-clause-stands
@@ -37,3 +38,13 @@ returns-clause-stands g c = λ tells seen memory entry stood of.
     (subst (λ p. LeftAt (F.may_leave c.args.folder.now) p (Some c.as_slice.result.now) old new) c.in_ok-place.ensures.place (c.write.ensures.torn tells (c.in-Err.is ∙ ap Err e))) in
     subst (λ r. StandsWith path entry memory (Err r) new.files) (sym c.unwritten_by.ensures)
     (stands_in (F.may_leave c.args.folder.now) path old new c.in-Err.fault memory entry run c.in_ok-place.ensures.path (c.in-Err.ensures.same tells) torn seen told of stood)
+
+pub returns-in-Ok-clause-asks : goal.returns-in-Ok-clause-asks
+returns-in-Ok-clause-asks g c =
+    put_as c.in_ok-place.place (record_place c.args.path.now) c.as_slice.result.now (record_text c.args.path.now c.args.run.now)
+    c.in_ok-place.ensures.place (c.as_slice.ensures.value ∙ c.in_ok-text.ensures.text) c.write.ensures.asks
+
+pub returns-clause-asks : goal.returns-clause-asks
+returns-clause-asks g c =
+    put_as c.in_ok-place.place (record_place c.args.path.now) c.as_slice.result.now (record_text c.args.path.now c.args.run.now)
+    c.in_ok-place.ensures.place (c.as_slice.ensures.value ∙ c.in_ok-text.ensures.text) c.write.ensures.asks

@@ -5,6 +5,8 @@ use Rattle.gb_records.specs.Faults.{removed_by}
 use Rattle.gb_records.specs.Standing.{ComesToNothing, StandsWithout, taken_out}
 use Rattle.gb_records.proofs.Standing.{not_there}
 use Rattle.gb_records.proofs.Calls.{LeftAt, out_of, nothing_of, gone, stands_out}
+use Rattle.gb_records.proofs.Asked.{taken_as}
+use Rattle.gb_folder.proofs.Asked.{asks_nothing}
 use Rattle.gb_records.proofs.keeping.take_out.Goals as goal
 
 pub returns-then-not-was_read-clause-stands : goal.returns-then-not-was_read-clause-stands
@@ -34,8 +36,7 @@ returns g c =
     let sound = g.met.F.Folder.sound c.args.folder.now in
     let asked = c.remove.ensures in
     record {
-      count = asked.count;
-      tearing = asked.tearing;
+      asks = taken_as c.in_ok-place.place (record_place path) at asked.asks;
       unread = λ e. absurd (true≢false (sym c.if-not-was_read.false ∙ e));
       out = λ tells.
           subst (λ r. OnOk r (new ≡ taken_out c.args.was_read path old)) (sym c.unless_missing.ensures)
@@ -54,3 +55,6 @@ returns g c =
           (λ e. subst (λ p. file_at old.files p ≡ None) at (asked.missing tells (c.in-Err.is ∙ ap Err e)))
           (λ e. subst (λ p. LeftAt (F.may_leave c.args.folder.now) p None old new) at (asked.torn tells (c.in-Err.is ∙ ap Err e))) seen stood);
     }
+
+pub returns-in-Ok-clause-asks : goal.returns-in-Ok-clause-asks
+returns-in-Ok-clause-asks g c = taken_as c.in_ok-place.place (record_place c.args.path.now) c.in_ok-place.ensures.place c.remove.ensures.asks

@@ -1,22 +1,33 @@
-use Rattle.std.proofs.Common.{arith, subst, ◌∙◌}
+use Rattle.std.proofs.Common.{subst, ◌∙◌}
 use Rattle.std.proofs.lemmas.Result.{err_from_is_err_and}
 use Rattle.gb_folder.specs.Files.{Contents}
 use Rattle.gb_records.proofs.Calls.{read_more}
-use Rattle.gb_folder.proofs.Changes.{SameTearing-chain}
+use Rattle.gb_folder.proofs.Asked.{asks_then, asks_nothing}
 use Rattle.gb_store.specs.Changes.{is_at}
 use Rattle.gb_store.proofs.Machine.{handed_on}
 use Rattle.gb_store.proofs.Loops.{any_here}
 use Rattle.gb_history.specs.Places.{record_place}
 use Rattle.gb_records.specs.Said.{IsReadAt}
+use Rattle.gb_records.specs.Answered.{WasAnswered}
+use Rattle.gb_records.proofs.Answering.{all_answered_longer, answered_longer}
+use Rattle.std.specs.List.{AllZip}
+use Rattle.std.proofs.lemmas.List.{take_all}
 use Rattle.gb_records.proofs.reading.read_records.Goals as goal
 
 pub loop-path-preserved : goal.loop-path-preserved
 loop-path-preserved g c =
     let F = g.F.Folder in
     record {
-      count = omega arith;
-      tearing = SameTearing-chain _ _ _ c.loop-path.invariant.tearing c.read_at.ensures.tearing;
+      asks = asks_then c.loop-path.invariant.asks c.read_at.ensures.asks;
       same = λ tells. c.read_at.ensures.same tells ∙ c.loop-path.invariant.same tells;
+      answered =
+          read_more (WasAnswered F.failures F.may_leave F.asked c.args.folder.now c.read_at.new.folder) c.args.paths.now c.loop-path.path-index c.path-item.result c.loop-path.records.items _ c.in_ok-read_at.field-0
+          c.loop-path-test.true
+          c.path-item.is
+          (all_answered_longer c.args.folder.now c.args.folder.now c.loop-path.folder c.read_at.new.folder (asks_nothing c.args.folder.now) c.read_at.ensures.asks _ _ c.loop-path.invariant.answered)
+          (answered_longer c.args.folder.now c.loop-path.folder c.read_at.new.folder c.read_at.new.folder c.loop-path.invariant.asks (asks_nothing c.read_at.new.folder) c.path-item.result c.in_ok-read_at.field-0
+          c.in_ok-read_at.ensures.answered)
+          c.in_ok-push.ensures.items;
       read = λ tells.
           read_more (IsReadAt (F.contents c.args.folder.now).files) c.args.paths.now c.loop-path.path-index c.path-item.result c.loop-path.records.items _ c.in_ok-read_at.field-0
           c.loop-path-test.true
@@ -31,3 +42,9 @@ returns-in_err-read_at-clause-blamed g c = λ place device.
     let p = err_from_is_err_and c.from_residual.result c.from_residual.ensures.1 in
     any_here (λ path. is_at (record_place path) place) c.args.paths.now c.loop-path.path-index c.path-item.result c.loop-path-test.true c.path-item.is
     (c.read_at.ensures.blamed place (handed_on c.from_residual.result c.read_at.result p.0 c.in_err-read_at.field-0.0 place p.1 p.2 c.in_err-read_at.was device))
+
+pub returns-clause-answered : goal.returns-clause-answered
+returns-clause-answered g c =
+    let F = g.F.Folder in
+    subst (λ paths. AllZip (WasAnswered F.failures F.may_leave F.asked c.args.folder.now c.loop-path.folder) paths c.loop-path.records.items)
+    (take_all c.loop-path.path-index c.args.paths.now c.loop-path-test.false) c.loop-path.invariant.answered

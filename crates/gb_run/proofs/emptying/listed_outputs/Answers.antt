@@ -4,10 +4,10 @@ use Rattle.std.proofs.lemmas.Bool.{and_from, and_parts}
 use Rattle.std.proofs.lemmas.List.Folds.{list_all-append}
 use Rattle.std.proofs.lemmas.List.Sums.{list_all-from_AllPass}
 use Rattle.std.specs.List.{filter, list_all}
+use Rattle.gb_folder.proofs.Asked.{asks_then}
 use Rattle.gb_core.specs.Place.{is_under}
 use Rattle.gb_core.specs.Lists.{first_of}
 use Rattle.gb_folder.specs.Files.{Contents, is_odd_under, places_under}
-use Rattle.gb_folder.proofs.Changes.{SameTearing-chain}
 use Rattle.gb_plan.specs.declared.task.Output.{Output}
 use Rattle.gb_report.specs.declared.fault.Fault.{Fault}
 use Rattle.gb_report.specs.declared.fault.Fault.TheVariants as faults
@@ -39,22 +39,13 @@ returns-in_err-listed-clause-odd g c = λ tells.
     let IsFault : Fault → Type 0 = λ fault. IsOfMachine (g.F.Folder.failures c.args.folder.now) (g.F.Folder.failures c.listed_at.new.folder) fault
     ⊎ (first_of (odd_faults outputs old) ≡ Some fault) in
     at_err (λ r. IfErr r IsFault) c.from_residual.result p.0 c.in_err-listed.field-0.0 p.1 p.2 (elim (c.in_err-listed.ensures.odd tells) [
-      | inl machine ↦ inl (machine_before _ _ _ _ c.loop-output.invariant.count c.listed_at.ensures.count machine)
+      | inl machine ↦ inl (machine_before _ _ _ _ c.loop-output.invariant.asks.count c.listed_at.ensures.asks.count machine)
       | inr odd ↦ inr (
           ap first_of (sym (c.loop-output.invariant.odd tells)
           ∙ step_here (λ os. odd_faults os old) outputs c.loop-output.output-index c.output-item.result c.loop-output-test.true c.output-item.is
           ∙ odd_by c.output-item.result (drop (c.loop-output.output-index + 1) outputs) old true (ap (λ folder. is_odd_under folder c.output-item.result.place) (sym (c.loop-output.invariant.same tells)) ∙ odd.0))
           ∙ ap Some (sym odd.1))
     ])
-
-pub returns-in_err-listed-clause-tearing : goal.returns-in_err-listed-clause-tearing
-returns-in_err-listed-clause-tearing g c = SameTearing-chain _ _ _ c.loop-output.invariant.tearing c.listed_at.ensures.tearing
-
-pub returns-in_err-append-clause-tearing : goal.returns-in_err-append-clause-tearing
-returns-in_err-append-clause-tearing g c = SameTearing-chain _ _ _ c.loop-output.invariant.tearing c.listed_at.ensures.tearing
-
-pub returns-clause-tearing : goal.returns-clause-tearing
-returns-clause-tearing g c = c.loop-output.invariant.tearing
 
 -- what stands beneath an output stands at the outputs
 at_outputs : (outputs : List Output) (i : ℕ) (output : Output) → i < length outputs → output ≡ get_or outputs i output → (places : List (List ℕ))
@@ -76,8 +67,7 @@ loop-output-preserved g c =
     let under : list_all (is_at_output outputs) c.in_ok-listed.listed.items ≡ true =
     at_outputs outputs i output c.loop-output-test.true c.output-item.is _ (list_all-from_AllPass (λ at. is_under at output.place) c.in_ok-listed.listed.items c.in_ok-listed.ensures.under) in
     record {
-      count = omega (arith, so_far.count, c.listed_at.ensures.count);
-      tearing = SameTearing-chain _ _ _ so_far.tearing c.listed_at.ensures.tearing;
+      asks = asks_then so_far.asks c.listed_at.ensures.asks;
       under =
           ap (list_all (is_at_output outputs)) items ∙ list_all-append (is_at_output outputs) c.loop-output.places.items c.in_ok-listed.listed.items
           ∙ and_from _ _ so_far.under under;

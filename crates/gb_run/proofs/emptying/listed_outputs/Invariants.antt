@@ -1,6 +1,6 @@
 use Rattle.std.proofs.Common.{◌≡◌, ◌≤◌, ◌++◌, IsTrue, drop}
 use Rattle.std.specs.List.{list_all}
-use Rattle.gb_folder.specs.Files.{SameTearing}
+use Rattle.gb_folder.specs.Calls.{Asks, no_change}
 use Rattle.gb_run.specs.Emptying.{is_at_output, odd_faults, places_at}
 use Rattle.gb_run.proofs.emptying.listed_outputs.Given as goal
 
@@ -8,8 +8,7 @@ abbrev pub invariant-loop-output : goal.invariant-loop-output
 invariant-loop-output g l =
     let old = g.F.Folder.contents l.fn.folder in
     record {
-      count : g.F.Folder.failures l.fn.folder ≤ g.F.Folder.failures l.folder;
-      tearing : SameTearing (g.F.Folder.may_leave l.fn.folder) (g.F.Folder.may_leave l.folder);
+      asks : Asks g.F.Folder.failures g.F.Folder.may_leave g.F.Folder.asked no_change l.fn.folder l.folder;
       under : IsTrue (list_all (is_at_output l.outputs) l.places.items);
       same : IsTrue g.F.Folder.tells → g.F.Folder.contents l.folder ≡ old;
       listed : IsTrue g.F.Folder.tells → l.places.items ++ places_at (drop l.output-index l.outputs) old.files ≡ places_at l.outputs old.files;

@@ -24,6 +24,7 @@ use Rattle.gb_run.specs.Step.{IsHeld, IsKept, StopsIn}
 use Rattle.gb_run.proofs.Endings.{none_left}
 use Rattle.gb_run.proofs.Keeping.{IsMaking, makes_all, makes_more}
 use Rattle.gb_run.proofs.Running.{IsRunning, ends_well, fails, fails_early, fails_late, goes_further}
+use Rattle.gb_folder.proofs.Asked.{asks_then}
 use Rattle.gb_run.proofs.run.run_in_full.Goals as goal
 
 pub returns-in_err-full_request-clause-err : goal.returns-in_err-full_request-clause-err
@@ -48,8 +49,7 @@ loop-action-preserved g c =
     let next : deque_iter_rest old.action-iterator ≡ action ∷ left = c.in-Some.ensures.steps in
     let now = c.run_one.new in
     record {
-      count = omega arith;
-      tearing = SameTearing-chain _ _ _ old.invariant.tearing c.run_one.ensures.tearing;
+      asks = asks_then old.invariant.asks c.run_one.ensures.asks;
       full =
           subst (λ (files : Trees). IsFullRequest task files c.args.changes now.running.request) old.invariant.full.files
           (subst (λ (lists : List Changes). IsFullRequest task old.running.request.files lists now.running.request) old.invariant.full.lists c.in_ok-run_one.ensures.full);
@@ -96,7 +96,7 @@ returns-in_err-run_one-clause-err g c = λ tells.
     fails course old.running.taken folder old.lines action left
     (subst (λ (actions : List Action). IsRunning course actions old.running.taken folder old.lines) next (old.invariant.ran tells kinds agrees))
     (F.may_leave start) (F.may_leave old.folder) (F.failures start) (F.failures old.folder) (F.failures now.folder) c.in_err-run_one.field-0.0 new now.lines
-    old.invariant.tearing old.invariant.count c.run_one.ensures.count
+    old.invariant.asks.tearing old.invariant.asks.count c.run_one.ensures.asks.count
     (λ rest held is_held.
     subst (λ (trees : Trees). StopsIn task.outputs rest held (kinds.makes (kind_of action) action.args task.values trees) (F.may_leave old.folder) (F.failures old.folder) c.in_err-run_one.field-0.0 (F.failures now.folder) new)
     old.invariant.full.files (c.in_err-run_one.ensures.err tells kinds agrees rest held is_held))

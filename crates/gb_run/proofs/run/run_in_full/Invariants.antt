@@ -1,6 +1,7 @@
 use Rattle.std.proofs.Common.{◌≤◌, IsTrue}
 use Rattle.std.specs.List.{AllByRecursion}
 use Rattle.std.specs.VecDeque.Iter.{deque_iter_rest}
+use Rattle.gb_folder.specs.Calls.{Asks, changes_at}
 use Rattle.gb_folder.specs.Files.{SameTearing, are_placed}
 use Rattle.gb_plan.specs.Ready.{IsReadyAction}
 use Rattle.gb_plan.specs.Task.{is_output_of}
@@ -18,8 +19,7 @@ invariant-loop-action g l =
     let contents = g.F.Folder.contents in
     let left = deque_iter_rest l.action-iterator in
     record {
-      count : g.F.Folder.failures l.fn.folder ≤ g.F.Folder.failures l.folder;
-      tearing : SameTearing (g.F.Folder.may_leave l.fn.folder) (g.F.Folder.may_leave l.folder);
+      asks : Asks g.F.Folder.failures g.F.Folder.may_leave g.F.Folder.asked (changes_at (is_output_of l.task)) l.fn.folder l.folder;
       full : IsFullRequest l.task l.fn.files l.fn.changes l.running.request;
       placed : IsTrue (are_placed l.running.taken);
       ready : AllByRecursion (IsReadyAction g.A.Actions.meanings l.table l.task) left;

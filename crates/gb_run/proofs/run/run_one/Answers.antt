@@ -1,6 +1,6 @@
 use Rattle.std.proofs.Common.{[], ◌≡◌, ◌≤◌, ℕ, true, List, Result, Ok, Err, IfErr, length, refl, sym, ap, subst, ◌∙◌, inl, inr}
 use Rattle.std.proofs.lemmas.Result.{err_from_is_err_and}
-use Rattle.std.specs.List.{AllByRecursion}
+use Rattle.std.specs.List.{AllByRecursion, list_any}
 use Rattle.gb_folder.specs.Files.{Contents, Files}
 use Rattle.gb_folder.specs.Limits.{max_file}
 use Rattle.gb_report.specs.declared.fault.Fault.{Fault}
@@ -9,6 +9,7 @@ use Rattle.gb_plan.specs.Task.{is_output_of}
 use Rattle.gb_plan.specs.declared.task.Output.{Output}
 use Rattle.gb_tree.specs.Prints.{digests_of}
 use Rattle.gb_store.specs.Changes.{ChangesOnly, shown}
+use Rattle.gb_store.specs.Changes.{is_at as at_place}
 use Rattle.gb_store.proofs.Machine.{among_passes, at_err, handed_on}
 use Rattle.gb_meaning.specs.Headline.{Agrees}
 use Rattle.gb_meaning.specs.Kinds.{Kinds, kind_of}
@@ -20,6 +21,7 @@ use Rattle.gb_run.proofs.Keeping.{keeps_on}
 use Rattle.gb_run.proofs.Placed.{all_shown, small_taken}
 use Rattle.gb_run.proofs.Stepped.{goes_on, stops_asked, stops_for_memory, stops_placing, stops_printing, stops_writing}
 use Rattle.gb_run.proofs.Written.{changes_cut, changes_with_all}
+use Rattle.gb_folder.proofs.Asked.{asks_where}
 use Rattle.gb_run.proofs.run.run_one.Goals as goal
 
 -- errors of one result are one
@@ -194,3 +196,27 @@ returns-clause-kept g c = λ kinds agrees held kept.
     subst (λ (os : List Output). (more : Files) × (put_result os held made ≡ Ok more) × IsKept more c.take_places.new.taken c.put_all.new.self) c.as_slice.ensures
     (keeps_on c.as_slice.result.now held _ _ made kept c.as_slice-2.result.now written c.in_ok-files.ensures.ok c.take_places.new.taken c.put_all.new.self c.in_ok-files.ensures.taken
     (λ files is. c.in_ok-put_all.ensures files is ∙ ap (λ (fs : Files). digests_of (put_over files fs)) (ap shown c.as_slice-3.ensures.value ∙ c.in_ok-files.ensures.files)))
+
+pub returns-in_err-write_files-clause-asks : goal.returns-in_err-write_files-clause-asks
+returns-in_err-write_files-clause-asks g c =
+    asks_where (λ place. list_any (λ file. at_place file.0 place) c.as_slice-4.result.now) (is_output_of c.args.task.now)
+    (λ place is. among_passes (λ file. file.0) (is_output_of c.args.task.now) c.as_slice-4.result.now place
+    (all_shown (λ file. is_at c.args.task.now.outputs file.0 ≡ true) c.as_slice-4.result.now (put_over [] (placed c.as_slice.result.now c.as_slice-2.result.now)) (ap shown c.as_slice-4.ensures.value ∙ c.in_ok-files.ensures.files)
+    (placed_at_these c.as_slice.result.now c.args.task.now.outputs c.as_slice-2.result.now c.as_slice.ensures)) is)
+    c.write_files.ensures.asks
+
+pub returns-in_err-append-clause-asks : goal.returns-in_err-append-clause-asks
+returns-in_err-append-clause-asks g c =
+    asks_where (λ place. list_any (λ file. at_place file.0 place) c.as_slice-4.result.now) (is_output_of c.args.task.now)
+    (λ place is. among_passes (λ file. file.0) (is_output_of c.args.task.now) c.as_slice-4.result.now place
+    (all_shown (λ file. is_at c.args.task.now.outputs file.0 ≡ true) c.as_slice-4.result.now (put_over [] (placed c.as_slice.result.now c.as_slice-2.result.now)) (ap shown c.as_slice-4.ensures.value ∙ c.in_ok-files.ensures.files)
+    (placed_at_these c.as_slice.result.now c.args.task.now.outputs c.as_slice-2.result.now c.as_slice.ensures)) is)
+    c.write_files.ensures.asks
+
+pub returns-clause-asks : goal.returns-clause-asks
+returns-clause-asks g c =
+    asks_where (λ place. list_any (λ file. at_place file.0 place) c.as_slice-4.result.now) (is_output_of c.args.task.now)
+    (λ place is. among_passes (λ file. file.0) (is_output_of c.args.task.now) c.as_slice-4.result.now place
+    (all_shown (λ file. is_at c.args.task.now.outputs file.0 ≡ true) c.as_slice-4.result.now (put_over [] (placed c.as_slice.result.now c.as_slice-2.result.now)) (ap shown c.as_slice-4.ensures.value ∙ c.in_ok-files.ensures.files)
+    (placed_at_these c.as_slice.result.now c.args.task.now.outputs c.as_slice-2.result.now c.as_slice.ensures)) is)
+    c.write_files.ensures.asks

@@ -1,14 +1,15 @@
-use Rattle.std.proofs.Common.{arith, ◌≤◌, IfErr, length, ap, subst, ◌∙◌}
+use Rattle.std.proofs.Common.{◌≤◌, IfErr, length, ap, subst, ◌∙◌}
 use Rattle.std.proofs.lemmas.Result.{err_from_is_err_and}
 use Rattle.std.proofs.lemmas.List.{take_all}
 use Rattle.gb_folder.specs.Limits.{max_file}
-use Rattle.gb_folder.proofs.Changes.{SameTearing-chain}
+use Rattle.gb_folder.proofs.Asked.{asks_then}
 use Rattle.gb_report.specs.declared.fault.Fault.{Fault}
 use Rattle.gb_store.specs.Changes.{is_at, shown}
 use Rattle.gb_store.proofs.Loops.{all_here, any_here}
 use Rattle.gb_store.proofs.Machine.{at_err, handed_on}
 use Rattle.gb_meaning.specs.Run.{has_room}
 use Rattle.gb_run.specs.Writing.{IsCutShort, with_all}
+use Rattle.gb_run.proofs.Asked.{written_here}
 use Rattle.gb_run.proofs.Written.{cut_at, put_more, room_more}
 use Rattle.gb_run.proofs.writing.write_files.Goals as goal
 
@@ -18,8 +19,7 @@ loop-file-preserved g c =
     let index = c.loop-file.file-index in
     let item = c.file-item.result in
     record {
-      count = omega arith;
-      tearing = SameTearing-chain _ _ _ c.loop-file.invariant.tearing c.write_file.ensures.tearing;
+      asks = asks_then c.loop-file.invariant.asks (written_here files index item c.loop-file-test.true c.file-item.is c.write_file.ensures.asks);
       small = (all_here (λ file. length file.1.now ≤ max_file) files index item c.loop-file-test.true c.file-item.is c.loop-file.invariant.small).1;
       put = λ tells. put_more files index item c.loop-file-test.true c.file-item.is _ _ _ (c.loop-file.invariant.put tells) (c.in_ok-write_file.ensures.ok tells);
       room = λ tells. room_more files index item c.loop-file-test.true c.file-item.is _ _ (c.loop-file.invariant.put tells) (c.loop-file.invariant.room tells) (c.in_ok-write_file.ensures.free tells);
@@ -30,8 +30,10 @@ write_file-requires g c = record {
   small = (all_here (λ file. length file.1.now ≤ max_file) c.args.files.now c.loop-file.file-index c.file-item.result c.loop-file-test.true c.file-item.is c.loop-file.invariant.small).0;
 }
 
-pub returns-in_err-write_file-clause-tearing : goal.returns-in_err-write_file-clause-tearing
-returns-in_err-write_file-clause-tearing g c = SameTearing-chain _ _ _ c.loop-file.invariant.tearing c.write_file.ensures.tearing
+pub returns-in_err-write_file-clause-asks : goal.returns-in_err-write_file-clause-asks
+returns-in_err-write_file-clause-asks g c =
+    asks_then c.loop-file.invariant.asks
+    (written_here c.args.files.now c.loop-file.file-index c.file-item.result c.loop-file-test.true c.file-item.is c.write_file.ensures.asks)
 
 pub returns-in_err-write_file-clause-blamed : goal.returns-in_err-write_file-clause-blamed
 returns-in_err-write_file-clause-blamed g c = λ place device.
@@ -45,10 +47,7 @@ returns-in_err-write_file-clause-cut g c = λ tells.
     let F = g.F.Folder in
     let IsFault : Fault → Type 0 = λ fault. IsCutShort (F.may_leave c.args.folder.now) (shown c.args.files.now) (F.contents c.args.folder.now) fault (F.contents c.write_file.new.folder) in
     at_err (λ r. IfErr r IsFault) c.from_residual.result p.0 c.in_err-write_file.field-0.0 p.1 p.2
-    (cut_at c.args.files.now c.loop-file.file-index c.file-item.result c.loop-file-test.true c.file-item.is _ _ _ _ _ _ c.loop-file.invariant.tearing (c.loop-file.invariant.put tells) (c.loop-file.invariant.room tells) (c.in_err-write_file.ensures.stopped tells))
-
-pub returns-clause-tearing : goal.returns-clause-tearing
-returns-clause-tearing g c = c.loop-file.invariant.tearing
+    (cut_at c.args.files.now c.loop-file.file-index c.file-item.result c.loop-file-test.true c.file-item.is _ _ _ _ _ _ c.loop-file.invariant.asks.tearing (c.loop-file.invariant.put tells) (c.loop-file.invariant.room tells) (c.in_err-write_file.ensures.stopped tells))
 
 pub returns-clause-ok : goal.returns-clause-ok
 returns-clause-ok g c = λ tells.

@@ -40,7 +40,7 @@ returns-in_err-scripts-clause-said g c = λ tells.
     let fault = c.in_err-scripts.field-0.0 in
     handed _ _ c.from_residual-in_err-scripts.result fault c.from_residual-in_err-scripts.ensures.1
     (elim (c.in_err-scripts.ensures.said tells) [
-      | inl machine ↦ inl (machine_before _ _ _ fault c.read_settings_of.ensures.count c.read_scripts.ensures.count machine)
+      | inl machine ↦ inl (machine_before _ _ _ fault c.read_settings_of.ensures.asks.count c.read_scripts.ensures.asks.count machine)
       | inr bad ↦ inr (scripts_refused (tables_of g.T.Transforms.meanings g.A.Actions.meanings c.args.tables.now) files c.args.given.items settings
           (c.in_ok-settings.ensures.said tells) c.in_ok-projects.ensures.faults fault (
           scripts_here (F.contents c.read_settings_of.new.folder) (F.contents c.args.folder.now) c.as_slice.result.now (projects_of settings) (Err fault)

@@ -8,6 +8,7 @@ use Rattle.gb_scripts.proofs.RowLemmas.{first_fault, long_more, passes_at, text_
 use Rattle.gb_scripts.proofs.SaidLemmas.{handed}
 use Rattle.gb_scripts.specs.Scripts.{script_place}
 use Rattle.gb_scripts.specs.Texts.{TextSays}
+use Rattle.gb_folder.proofs.Asked.{asks_then}
 use Rattle.gb_scripts.proofs.scripts.read_scripts.Goals as goal
 
 pub read_script_of-requires : goal.read_script_of-requires
@@ -20,8 +21,7 @@ loop-project-preserved g c =
     let F = g.F.Folder in
     let project = c.project-item.result in
     record {
-      count = omega arith;
-      tearing = SameTearing-chain _ _ _ c.loop-project.invariant.tearing c.read_script_of.ensures.tearing;
+      asks = asks_then c.loop-project.invariant.asks c.read_script_of.ensures.asks;
       same = λ tells. c.read_script_of.ensures.same tells ∙ c.loop-project.invariant.same tells;
       one_each = long_more c.loop-project.scripts.items _ c.in_ok-read_script_of.field-0 c.loop-project.project-index c.in_ok-push.ensures.items c.loop-project.invariant.one_each;
       texts = λ tells.
@@ -38,7 +38,7 @@ returns-in_err-read_script_of-clause-said g c = λ tells.
     let fault = c.in_err-read_script_of.field-0.0 in
     handed _ _ c.from_residual.result fault c.from_residual.ensures.1
     (elim (c.in_err-read_script_of.ensures.said tells) [
-      | inl machine ↦ inl (machine_before _ _ _ fault c.loop-project.invariant.count c.read_script_of.ensures.count machine)
+      | inl machine ↦ inl (machine_before _ _ _ fault c.loop-project.invariant.asks.count c.read_script_of.ensures.asks.count machine)
       | inr bad ↦ inr (first_fault (F.contents c.args.folder.now).files c.args.projects.now c.loop-project.project-index project c.loop-project.scripts.items fault
           c.loop-project-test.true c.project-item.is (c.loop-project.invariant.texts tells)
           (subst (λ (folder : Contents). TextSays Says folder.files (script_place project.1) (Err fault)) (c.loop-project.invariant.same tells) bad))

@@ -38,14 +38,13 @@ returns-in-Err g c =
     let asked = c.remove.ensures in
     let as_told : told_at c.in_ok-at.at fault ≡ told_at place fault = ap (λ p. told_at p fault) c.in_ok-at.ensures in
     record {
-      count = asked.count;
+      asks = asked.asks;
       blame = λ at is.
           let told = IfErr-at_err _ is c.unless_absent.ensures.err in
           asked.device (c.in-Err.is ∙ ap Err (blames_device place fault _ (inr (told.2 ∙ as_told)) at refl));
       blamed = λ at is.
           let told = IfErr-at_err _ is c.unless_absent.ensures.err in
           (bytes_decides at place).1 (sym (told_place place at fault (sym (told.2 ∙ as_told))));
-      tearing = asked.tearing;
       ok = λ tells. on_ok_weaker c.unless_absent.result (λ absent.
           elim absent [
             | inl missing ↦ none_left old new place sound (c.in-Err.ensures.same tells (λ e. cc)) (asked.missing tells (c.in-Err.is ∙ ap Err missing))

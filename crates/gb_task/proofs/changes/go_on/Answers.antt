@@ -6,11 +6,13 @@ use Rattle.gb_meaning.specs.Tree.{trees_of}
 use Rattle.gb_report.specs.declared.fault.Fault.{Fault}
 use Rattle.gb_store.proofs.Machine.{at_err}
 use Rattle.gb_turn.specs.Reading.{seen_of}
-use Rattle.gb_task.specs.Anew.{IsAsBefore}
+use Rattle.gb_task.specs.Anew.{IsAsBefore, IsAnew}
 use Rattle.gb_task.specs.Turned.{HasTurned, report_of, setting_with}
 use Rattle.gb_task.proofs.ByChanges.{reading_failed}
 use Rattle.gb_task.proofs.Later.{comes_later, due_since, turned_before}
 use Rattle.gb_task.proofs.Recorded.{seen_later}
+use Rattle.gb_folder.proofs.Asked.{asks_reading, asks_then}
+use Rattle.gb_task.proofs.Asking.{full_anew, going_anew, text_in_turn}
 use Rattle.gb_task.proofs.changes.go_on.Goals as goal
 
 pub returns-in_err-inputs-clause-turn : goal.returns-in_err-inputs-clause-turn
@@ -39,10 +41,10 @@ returns-in-ByChanges-clause-turn g c = λ tells kinds registry_of plan moment ag
     let came = comes_later task true (F.contents start) (F.failures start) moment (F.contents then) (F.failures then) same at in
     let before = subst (IsAsBefore kinds c.args.options task (F.contents start).files moment.world) c.in-ByChanges.is (c.in_ok-inputs.ensures.as_before tells kinds moment.world at.folder read stood goes) in
     let report = report_of task c.go_by.result c.go_by.new.lines in
-    turned_before kinds registry_of (F.may_leave start) (F.may_leave then) c.settle_anew.ensures.tearing c.args.options plan task moment (F.failures then)
-    (subst (λ (n : ℕ). n ≤ F.failures then) (sym at.failures) c.settle_anew.ensures.count) report (F.contents start) (F.failures now) (F.contents now) c.go_by.ensures.count
+    turned_before kinds registry_of (F.may_leave start) (F.may_leave then) c.settle_anew.ensures.asks.tearing c.args.options plan task moment (F.failures then)
+    (subst (λ (n : ℕ). n ≤ F.failures then) (sym at.failures) c.settle_anew.ensures.asks.count) report (F.contents start) (F.failures now) (F.contents now) c.go_by.ensures.asks.count
     (subst (λ (folder : Contents). HasTurned (setting_with kinds registry_of (F.may_leave then)) c.args.options plan task later report folder (F.failures now) (F.contents now)) same
-    (c.go_by.ensures.turn tells kinds registry_of c.args.options plan later agrees (seen_later _ _ c.settle_anew.ensures.tearing seen) came
+    (c.go_by.ensures.turn tells kinds registry_of c.args.options plan later agrees (seen_later _ _ c.settle_anew.ensures.asks.tearing seen) came
     (before.0 ∙ ap (λ (folder : Contents). trees_of task folder.files) (sym same))
     (before.1 ∙ ap (λ (folder : Contents). map (seen_of folder.files) task.outputs) (sym same)) before.2))
 
@@ -52,3 +54,19 @@ returns-in-InFull-clause-turn g c = λ tells kinds registry_of plan moment agree
     absurd
     (subst (IsAsBefore kinds c.args.options c.args.task.now (F.contents c.args.folder.now).files moment.world) c.in-InFull.is
     (c.in_ok-inputs.ensures.as_before tells kinds moment.world at.folder read stood goes))
+
+pub returns-in_err-inputs-clause-asks : goal.returns-in_err-inputs-clause-asks
+returns-in_err-inputs-clause-asks g c = asks_reading c.settle_anew.ensures.asks
+
+pub returns-in-ByChanges-clause-asks : goal.returns-in-ByChanges-clause-asks
+returns-in-ByChanges-clause-asks g c =
+    let is_anew = subst (IsAnew c.args.options c.args.task.now c.args.last.now) c.in-ByChanges.is c.in_ok-inputs.ensures.anew in
+    asks_then (asks_reading c.settle_anew.ensures.asks)
+    (text_in_turn c.args.task.now _ _
+    (λ bytes. going_anew g.A.Actions.meanings c.args.table.now c.args.options c.args.task.now c.args.last.now c.in-ByChanges.inputs c.in-ByChanges.outputs c.in-ByChanges.changes bytes is_anew)
+    c.go_by.ensures.asks)
+
+pub returns-in-InFull-clause-asks : goal.returns-in-InFull-clause-asks
+returns-in-InFull-clause-asks g c =
+    asks_then (asks_reading c.settle_anew.ensures.asks)
+    (text_in_turn c.args.task.now _ _ (full_anew g.A.Actions.meanings c.args.table.now c.args.options c.args.task.now c.args.last.now c.in-InFull.inputs.trees) c.run_on.ensures.asks)

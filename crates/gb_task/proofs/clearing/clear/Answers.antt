@@ -7,6 +7,8 @@ use Rattle.gb_task.specs.Clearing.{HasCleared}
 use Rattle.gb_task.specs.Keeping.{IsForgotten}
 use Rattle.gb_task.specs.Turned.{is_of_turn}
 use Rattle.gb_task.proofs.Cleared.{cleared_by, outputs_in_turn, record_in_turn, records_stay}
+use Rattle.gb_folder.proofs.Asked.{asks_then}
+use Rattle.gb_task.proofs.Asking.{outputs_taken, record_taken}
 use Rattle.gb_task.proofs.clearing.clear.Goals as goal
 
 pub returns-in_err-forget-clause-changes : goal.returns-in_err-forget-clause-changes
@@ -46,7 +48,13 @@ returns-clause-cleared g c = λ tells seen memory stood none.
     let now = c.empty_outputs.new.folder in
     let taken : Contents = F.contents then in
     cleared_by task c.args.was_read memory (F.may_leave start) (F.may_leave then) (F.failures start) (F.failures then) (F.failures now) (F.contents start) (F.contents then) (F.contents now)
-    c.empty_outputs.result c.forget.ensures.tearing c.forget.ensures.count c.empty_outputs.ensures.count (g.met.F.Folder.sound then) (c.forget.ensures.changes tells)
+    c.empty_outputs.result c.forget.ensures.asks.tearing c.forget.ensures.asks.count c.empty_outputs.ensures.asks.count (g.met.F.Folder.sound then) (c.forget.ensures.changes tells)
     (c.empty_outputs.ensures.ok tells) (c.empty_outputs.ensures.err tells)
     (records_stay task c.requires.not_own (F.contents then) (F.contents now) _ (c.empty_outputs.ensures.changes tells)
     (subst (λ (r : Result (Unit {0}) Fault). IsForgotten task.path memory r taken.files) c.in_ok-forget.was (c.forget.ensures.stands tells seen memory stood none)))
+
+pub returns-in_err-forget-clause-asks : goal.returns-in_err-forget-clause-asks
+returns-in_err-forget-clause-asks g c = record_taken c.args.task.now c.forget.ensures.asks
+
+pub returns-clause-asks : goal.returns-clause-asks
+returns-clause-asks g c = asks_then (record_taken c.args.task.now c.forget.ensures.asks) (outputs_taken c.args.task.now c.empty_outputs.ensures.asks)

@@ -21,6 +21,9 @@ use Rattle.gb_task.proofs.Given.{as_many, none_read}
 use Rattle.gb_task.proofs.Parts.{outside_same}
 use Rattle.gb_task.proofs.Recorded.{record_stands, seen_later}
 use Rattle.gb_task.proofs.Whole.{clearing_failed, reading_failed, remembering, running_failed}
+use Rattle.gb_folder.proofs.Asked.{asks_then}
+use Rattle.gb_task.specs.Asking.{IsTextIn}
+use Rattle.gb_task.proofs.Asking.{full_text, made_in_turn, put_in_turn, taken_in_turn}
 use Rattle.gb_task.proofs.full.run_on.Goals as goal
 
 pub all_added-requires : goal.all_added-requires
@@ -51,7 +54,7 @@ returns-in_err-clear-clause-turn g c = λ tells kinds registry_of options plan m
     c.from_residual-in_err-clear.result p.0 c.in_err-clear.field-0.0 p.1 p.2
     (clearing_failed kinds registry_of (F.may_leave start) options plan task c.args.was_read moment (F.contents start) (F.failures start) c.requires.not_own c.requires.apart at due
     (F.may_leave start) c.in_err-clear.field-0.0 c.args.lines.now (F.failures start) (F.failures now) (F.contents start) (F.contents now) c.requires.no_lines refl
-    (search rules) (omega arith) c.clear.ensures.count
+    (search rules) (omega arith) c.clear.ensures.asks.count
     (subst (λ (r : Result (Unit {0}) Fault). HasCleared task c.args.was_read memory (F.may_leave start) (F.failures start) (F.contents start) r (F.failures now) (F.contents now)) c.in_err-clear.was cleared)
     (c.clear.ensures.changes tells)
     (λ place e. c.clear.ensures.blamed place (c.in_err-clear.was ∙ ap Err e)))
@@ -80,9 +83,9 @@ returns-in_err-run-clause-turn g c = λ tells kinds registry_of options plan mom
     c.from_residual-in_err-run.result p.0 c.in_err-run.field-0.0 p.1 p.2
     (running_failed kinds registry_of (F.may_leave start) options plan task c.args.was_read moment (F.contents start) (F.failures start) c.requires.not_own c.requires.apart at due
     (F.may_leave then) c.make_anew.new.lines (F.failures then) (F.contents then) (F.contents now) c.args.inputs.trees c.in_ok-changes.changes
-    c.clear.ensures.tearing c.clear.ensures.count is_cleared
+    c.clear.ensures.asks.tearing c.clear.ensures.asks.count is_cleared
     are_trees (c.in_ok-changes.ensures (F.contents start).files (c.as_slice.ensures.value ∙ c.requires.digests ∙ ap digests_in are_trees)) (c.make_anew.ensures.changes tells)
-    (returns-in_err-run-clause-changes g c tells) c.in_err-run.field-0.0 (F.failures now) c.make_anew.ensures.count
+    (returns-in_err-run-clause-changes g c tells) c.in_err-run.field-0.0 (F.failures now) c.make_anew.ensures.asks.count
     (λ place e. c.make_anew.ensures.blamed place (c.in_err-run.was ∙ ap Err e)) (c.in_err-run.ensures.err tells kinds agrees))
 
 pub returns-clause-changes : goal.returns-clause-changes
@@ -119,15 +122,29 @@ returns-clause-turn g c = λ tells kinds registry_of options plan moment agrees 
     (subst (λ (rest : Files). EndsWell (course_of kinds task c.args.inputs.trees c.in_ok-changes.changes rest) c.make_anew.new.lines (F.contents ran).files) is_cleared.emptied ended) makes) in
     remembering kinds registry_of (F.may_leave start) options plan task c.args.was_read moment (F.contents start) (F.failures start) c.requires.not_own c.requires.apart at due
     (F.may_leave then) c.make_anew.new.lines (F.failures then) (F.contents then) (F.contents ran) c.args.inputs.trees c.in_ok-changes.changes
-    c.clear.ensures.tearing c.clear.ensures.count is_cleared
+    c.clear.ensures.asks.tearing c.clear.ensures.asks.count is_cleared
     are_trees told (c.make_anew.ensures.changes tells) changed
     ended c.args.inputs.prints.items (F.failures ran) (F.failures now) (F.contents now)
     (c.requires.digests ∙ ap digests_in are_trees)
-    c.make_anew.ensures.count c.remember.ensures.count
+    c.make_anew.ensures.asks.count c.remember.ensures.asks.count
     (changes_chain (is_of_turn task) (F.contents start) (F.contents ran) (F.contents now) changed (record_in_turn task (F.contents ran) (F.contents now) (c.remember.ensures.changes tells)))
     (ap (λ (folder : Contents). folder.files) (outside_same task.path (F.contents ran) (F.contents now) (c.remember.ensures.changes tells)))
     c.remember.result
     (subst (λ (run : Remembered). IfErr c.remember.result (IsUnwritten task.path (Some (record_text task.path run)) (F.contents ran).files (F.failures ran) (F.failures now))) stands (c.remember.ensures.err tells))
     c.remember.ensures.outputs
-    (λ m entry stood of. c.remember.ensures.stands tells (seen_later _ _ (SameTearing-chain _ _ _ c.clear.ensures.tearing c.make_anew.ensures.tearing) seen) m entry stood
+    (λ m entry stood of. c.remember.ensures.stands tells (seen_later _ _ (SameTearing-chain _ _ _ c.clear.ensures.asks.tearing c.make_anew.ensures.asks.tearing) seen) m entry stood
     (subst (λ (run : Remembered). IsSaidOf run entry) (sym stands) of))
+
+pub returns-in_err-clear-clause-asks : goal.returns-in_err-clear-clause-asks
+returns-in_err-clear-clause-asks g c = taken_in_turn c.args.task.now _ c.clear.ensures.asks
+
+pub returns-in_err-run-clause-asks : goal.returns-in_err-run-clause-asks
+returns-in_err-run-clause-asks g c =
+    asks_then (taken_in_turn c.args.task.now _ c.clear.ensures.asks) (made_in_turn c.args.task.now _ c.make_anew.ensures.asks)
+
+pub returns-clause-asks : goal.returns-clause-asks
+returns-clause-asks g c =
+    let task = c.args.task.now in
+    asks_then (asks_then (taken_in_turn task _ c.clear.ensures.asks) (made_in_turn task _ c.make_anew.ensures.asks))
+    (put_in_turn task (IsTextIn g.A.Actions.meanings c.args.table.now task c.args.inputs.trees) c.in_ok-run.run'
+    (full_text g.A.Actions.meanings c.args.table.now task c.args.inputs.trees c.in_ok-run.run' c.in_ok-run.ensures.made) c.remember.ensures.asks)

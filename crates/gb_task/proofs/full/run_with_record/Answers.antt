@@ -10,6 +10,8 @@ use Rattle.gb_task.specs.Turned.{HasTurned, report_of, setting_with}
 use Rattle.gb_task.proofs.Later.{comes_later, turned_before}
 use Rattle.gb_task.proofs.Recorded.{seen_later}
 use Rattle.gb_task.proofs.Whole.{reading_failed}
+use Rattle.gb_folder.proofs.Asked.{asks_reading, asks_then}
+use Rattle.gb_task.proofs.Asking.{full_is_one, text_in_turn}
 use Rattle.gb_task.proofs.full.run_with_record.Goals as goal
 
 pub returns-in_err-inputs-clause-turn : goal.returns-in_err-inputs-clause-turn
@@ -35,8 +37,16 @@ returns-clause-turn g c = λ tells kinds registry_of options plan moment agrees 
     let same : F.contents then ≡ F.contents start = c.complete_inputs.ensures.same tells in
     let later : Moment = record { world = moment.world; outcomes = moment.outcomes; failures = F.failures then } in
     let came = comes_later task c.args.was_read (F.contents start) (F.failures start) moment (F.contents then) (F.failures then) same at in
-    turned_before kinds registry_of (F.may_leave start) (F.may_leave then) c.complete_inputs.ensures.tearing options plan task moment (F.failures then)
-    (subst (λ (n : ℕ). n ≤ F.failures then) (sym at.failures) c.complete_inputs.ensures.count) (report_of task c.run_on.result c.run_on.new.lines) (F.contents start) (F.failures now) (F.contents now) c.run_on.ensures.count
+    turned_before kinds registry_of (F.may_leave start) (F.may_leave then) c.complete_inputs.ensures.asks.tearing options plan task moment (F.failures then)
+    (subst (λ (n : ℕ). n ≤ F.failures then) (sym at.failures) c.complete_inputs.ensures.asks.count) (report_of task c.run_on.result c.run_on.new.lines) (F.contents start) (F.failures now) (F.contents now) c.run_on.ensures.asks.count
     (subst (λ (folder : Contents). HasTurned (setting_with kinds registry_of (F.may_leave then)) options plan task later (report_of task c.run_on.result c.run_on.new.lines) folder (F.failures now) (F.contents now)) same
-    (c.run_on.ensures.turn tells kinds registry_of options plan later agrees (seen_later _ _ c.complete_inputs.ensures.tearing seen) came
+    (c.run_on.ensures.turn tells kinds registry_of options plan later agrees (seen_later _ _ c.complete_inputs.ensures.asks.tearing seen) came
     (c.in_ok-inputs.ensures.trees tells read ∙ ap (λ (folder : Contents). trees_of task folder.files) (sym same)) due))
+
+pub returns-in_err-inputs-clause-asks : goal.returns-in_err-inputs-clause-asks
+returns-in_err-inputs-clause-asks g c = asks_reading c.complete_inputs.ensures.asks
+
+pub returns-clause-asks : goal.returns-clause-asks
+returns-clause-asks g c =
+    asks_then (asks_reading c.complete_inputs.ensures.asks)
+    (text_in_turn c.args.task.now _ _ (full_is_one g.A.Actions.meanings c.args.table.now c.args.task.now c.in_ok-inputs.inputs.trees) c.run_on.ensures.asks)

@@ -21,6 +21,9 @@ use Rattle.gb_task.proofs.Cleared.{outputs_in_turn, record_in_turn}
 use Rattle.gb_task.proofs.Given.{none_read}
 use Rattle.gb_task.proofs.Parts.{outside_same}
 use Rattle.gb_task.proofs.Recorded.{record_stands, seen_later}
+use Rattle.gb_folder.proofs.Asked.{asks_then}
+use Rattle.gb_task.specs.Asking.{IsTextBy}
+use Rattle.gb_task.proofs.Asking.{going_text, made_in_turn, put_in_turn, record_taken, taken_in_turn}
 use Rattle.gb_task.proofs.going.go_by.Goals as goal
 
 pub returns-in_err-forget-clause-changes : goal.returns-in_err-forget-clause-changes
@@ -41,7 +44,7 @@ returns-in_err-forget-clause-turn g c = λ tells kinds registry_of options plan 
     c.from_residual.result p.0 c.in_err-forget.field-0.0 p.1 p.2
     (forgetting_failed kinds registry_of (F.may_leave start) options plan task true moment (F.contents start) (F.failures start) c.args.changes c.requires.not_own c.requires.apart at due
     c.in_err-forget.field-0.0 c.args.lines.now (F.failures start) (F.failures now) (F.contents start) (F.contents now) c.requires.no_lines refl
-    (omega arith) c.forget.ensures.count refl (c.in_err-forget.ensures.err tells) (c.forget.ensures.changes tells)
+    (omega arith) c.forget.ensures.asks.count refl (c.in_err-forget.ensures.err tells) (c.forget.ensures.changes tells)
     (subst (λ (r : Result (Unit {0}) Fault). IsForgotten task.path memory r (F.contents now).files) c.in_err-forget.was records))
 
 pub returns-in_err-run-clause-changes : goal.returns-in_err-run-clause-changes
@@ -71,9 +74,9 @@ returns-in_err-run-clause-turn g c = λ tells kinds registry_of options plan mom
     c.from_residual-in_err-run.result p.0 c.in_err-run.field-0.0 p.1 p.2
     (running_failed kinds registry_of (F.may_leave start) options plan task true moment (F.contents start) (F.failures start) c.args.changes c.requires.not_own c.requires.apart at due
     (F.may_leave then) c.make_by_changes.new.lines (F.failures then) (F.contents then) (F.contents now) c.args.inputs.trees
-    c.forget.ensures.tearing c.forget.ensures.count gone forgotten
+    c.forget.ensures.asks.tearing c.forget.ensures.asks.count gone forgotten
     are_trees (c.make_by_changes.ensures.changes tells)
-    (returns-in_err-run-clause-changes g c tells) c.in_err-run.field-0.0 (F.failures now) c.make_by_changes.ensures.count
+    (returns-in_err-run-clause-changes g c tells) c.in_err-run.field-0.0 (F.failures now) c.make_by_changes.ensures.asks.count
     (λ place e. c.make_by_changes.ensures.blamed place (c.in_err-run.was ∙ ap Err e))
     (all_fitting g.A.Actions.meanings kinds c.args.table.now task task.actions g.A.Actions.own_output agrees c.requires.ready)
     (c.in_err-run.ensures.err tells kinds agrees _ goes))
@@ -115,15 +118,29 @@ returns-clause-turn g c = λ tells kinds registry_of options plan moment agrees 
     (g.met.F.Folder.sound then).in_order ended makes) in
     remembering kinds registry_of (F.may_leave start) options plan task true moment (F.contents start) (F.failures start) c.args.changes c.requires.not_own c.requires.apart at due
     (F.may_leave then) c.make_by_changes.new.lines (F.failures then) (F.contents then) (F.contents ran) c.args.inputs.trees
-    c.forget.ensures.tearing c.forget.ensures.count gone forgotten
+    c.forget.ensures.asks.tearing c.forget.ensures.asks.count gone forgotten
     are_trees (c.make_by_changes.ensures.changes tells) changed
     (g.met.F.Folder.sound then).in_order ended c.args.inputs.prints.items (F.failures ran) (F.failures now) (F.contents now)
     (c.requires.digests ∙ ap digests_in are_trees)
-    c.make_by_changes.ensures.count c.remember.ensures.count
+    c.make_by_changes.ensures.asks.count c.remember.ensures.asks.count
     (changes_chain (is_of_turn task) (F.contents start) (F.contents ran) (F.contents now) changed (record_in_turn task (F.contents ran) (F.contents now) (c.remember.ensures.changes tells)))
     (ap (λ (folder : Contents). folder.files) (outside_same task.path (F.contents ran) (F.contents now) (c.remember.ensures.changes tells)))
     c.remember.result
     (subst (λ (run : Remembered). IfErr c.remember.result (IsUnwritten task.path (Some (record_text task.path run)) (F.contents ran).files (F.failures ran) (F.failures now))) stands (c.remember.ensures.err tells))
     c.remember.ensures.outputs
-    (λ m entry stood of. c.remember.ensures.stands tells (seen_later _ _ (SameTearing-chain _ _ _ c.forget.ensures.tearing c.make_by_changes.ensures.tearing) seen) m entry stood
+    (λ m entry stood of. c.remember.ensures.stands tells (seen_later _ _ (SameTearing-chain _ _ _ c.forget.ensures.asks.tearing c.make_by_changes.ensures.asks.tearing) seen) m entry stood
     (subst (λ (run : Remembered). IsSaidOf run entry) (sym stands) of))
+
+pub returns-in_err-forget-clause-asks : goal.returns-in_err-forget-clause-asks
+returns-in_err-forget-clause-asks g c = taken_in_turn c.args.task.now _ (record_taken c.args.task.now c.forget.ensures.asks)
+
+pub returns-in_err-run-clause-asks : goal.returns-in_err-run-clause-asks
+returns-in_err-run-clause-asks g c =
+    asks_then (taken_in_turn c.args.task.now _ (record_taken c.args.task.now c.forget.ensures.asks)) (made_in_turn c.args.task.now _ c.make_by_changes.ensures.asks)
+
+pub returns-clause-asks : goal.returns-clause-asks
+returns-clause-asks g c =
+    let task = c.args.task.now in
+    asks_then (asks_then (taken_in_turn task _ (record_taken task c.forget.ensures.asks)) (made_in_turn task _ c.make_by_changes.ensures.asks))
+    (put_in_turn task (IsTextBy g.A.Actions.meanings c.args.table.now task c.args.inputs.trees c.args.changes c.args.outputs.seen) c.in_ok-run.run'
+    (going_text g.A.Actions.meanings c.args.table.now task c.args.inputs.trees c.args.changes c.args.outputs.seen c.in_ok-run.run' c.in_ok-run.ensures.made) c.remember.ensures.asks)

@@ -22,5 +22,5 @@ returns-clause-turn g c = λ tells kinds registry_of options plan moment seen at
     subst (λ (report : TaskReport). HasTurned (setting_with kinds registry_of (F.may_leave start)) options plan task moment report (F.contents start) (F.failures now) (F.contents now))
     (sym (same_report _ _ _ _ _ _ _ _ c.requires.path c.outcome_of.ensures acts c.new.ensures))
     (cleared_turn kinds registry_of (F.may_leave start) options plan task c.args.was_read moment (F.contents start) (F.failures start) c.requires.not_own at case
-    (F.failures start) (F.failures now) (F.contents now) (omega arith) asked.count (asked.changes tells) c.clear-cleared.result asked.blamed
+    (F.failures start) (F.failures now) (F.contents now) (omega arith) asked.asks.count (asked.changes tells) c.clear-cleared.result asked.blamed
     (asked.cleared tells seen moment.world.memory at.records (none_read (recalled moment.world.memory task.path) c.args.was_read at.read)))

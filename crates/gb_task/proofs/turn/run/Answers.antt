@@ -4,6 +4,9 @@ use Rattle.gb_history.specs.declared.record.Record.{Record}
 use Rattle.gb_task.specs.Turned.{ComesAt}
 use Rattle.gb_task.proofs.Later.{copied_some, due_anew, due_in_full, due_to_go_on, inputs_read, inputs_stand, none_known, outputs_read, outputs_stand}
 use Rattle.gb_task.proofs.turn.run.Goals.{in-Some+else-goes_by_changes, in_default}
+use Rattle.gb_folder.specs.Calls.{Asks}
+use Rattle.gb_task.specs.Asking.{IsTextOf, in_turn_with}
+use Rattle.gb_task.proofs.Asking.{anew_of_task, full_of_task, one_writer, text_in_turn}
 use Rattle.gb_task.proofs.turn.run.Goals as goal
 
 pub take_turn_by_changes-requires-clause-inputs : goal.take_turn_by_changes-requires-clause-inputs
@@ -41,3 +44,18 @@ returns-clause-turn g c = λ tells kinds registry_of plan moment agrees seen at 
           due_in_full kinds c.args.options task moment.world c.args.decision case runs (w.goes_by_changes.ensures.agreed kinds agrees ∙ w.if-goes_by_changes.false)
       | in_default w ↦ due_anew kinds c.args.options task moment.world c.args.decision case runs (none_known kinds task moment.world c.args.last w.in_default.not-Some known)
     ])
+
+pub returns-then-goes_by_changes-clause-asks : goal.returns-then-goes_by_changes-clause-asks
+returns-then-goes_by_changes-clause-asks g c =
+    let F = g.F.Folder in
+    let changes = c.goes_by_changes.ensures.decided c.if-goes_by_changes.true in
+    subst (λ (o : Option (Bor Record)). Asks F.failures F.may_leave F.asked (in_turn_with c.args.task.now (IsTextOf g.A.Actions.meanings c.args.table.now c.args.options c.args.task.now (option_copied o)))
+    c.args.folder.now c.take_turn_by_changes.new.folder) (sym c.in-Some.is)
+    (text_in_turn c.args.task.now _ _
+    (anew_of_task g.A.Actions.meanings c.args.table.now c.args.options c.args.task.now _
+    (λ kinds agrees. one_writer kinds c.args.task.now c.args.decision changes.0 changes.1 (c.goes_by_changes.ensures.agreed kinds agrees ∙ c.if-goes_by_changes.true)))
+    c.take_turn_by_changes.ensures.asks)
+
+pub returns-clause-asks : goal.returns-clause-asks
+returns-clause-asks g c =
+    text_in_turn c.args.task.now _ _ (full_of_task g.A.Actions.meanings c.args.table.now c.args.options c.args.task.now (option_copied c.args.last)) c.take_full_turn.ensures.asks

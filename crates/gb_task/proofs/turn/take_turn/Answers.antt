@@ -6,6 +6,8 @@ use Rattle.gb_task.specs.Turned.{ComesAt, HasTurned, setting_with}
 use Rattle.gb_task.proofs.Answering.{cleared_answers, run_answers, told_answers}
 use Rattle.gb_task.proofs.Later.{cleared_started, comes_later, copied_some, run_started, told_turned, turned_before}
 use Rattle.gb_task.proofs.Recorded.{seen_later}
+use Rattle.gb_folder.proofs.Asked.{asks_reading, asks_then}
+use Rattle.gb_task.proofs.Asking.{taken_in_turn}
 use Rattle.gb_task.proofs.turn.take_turn.Goals as goal
 
 pub returns-in-Told-clause-blame : goal.returns-in-Told-clause-blame
@@ -41,10 +43,10 @@ returns-in-Sourceless-clause-turn g c = λ tells kinds registry_of plan moment a
     let came = comes_later task c.is_some.result (F.contents start) (F.failures start) moment (F.contents then) (F.failures then) same
     (subst (λ (b : Bool). ComesAt task b (F.contents start) (F.failures start) moment) (copied_some c.args.last ∙ sym c.is_some.ensures) at) in
     let later : Moment = record { world = moment.world; outcomes = moment.outcomes; failures = F.failures then } in
-    turned_before kinds registry_of (F.may_leave start) (F.may_leave then) c.settle.ensures.tearing c.args.options plan task moment (F.failures then)
-    (subst (λ (n : ℕ). n ≤ F.failures then) (sym at.failures) c.settle.ensures.count) c.take_turn_without_source.result (F.contents start) (F.failures now) (F.contents now) c.take_turn_without_source.ensures.count
+    turned_before kinds registry_of (F.may_leave start) (F.may_leave then) c.settle.ensures.asks.tearing c.args.options plan task moment (F.failures then)
+    (subst (λ (n : ℕ). n ≤ F.failures then) (sym at.failures) c.settle.ensures.asks.count) c.take_turn_without_source.result (F.contents start) (F.failures now) (F.contents now) c.take_turn_without_source.ensures.asks.count
     (subst (λ (folder : Contents). HasTurned (setting_with kinds registry_of (F.may_leave then)) c.args.options plan task later c.take_turn_without_source.result folder (F.failures now) (F.contents now)) same
-    (c.take_turn_without_source.ensures.turn tells kinds registry_of c.args.options plan later (seen_later _ _ c.settle.ensures.tearing seen) came
+    (c.take_turn_without_source.ensures.turn tells kinds registry_of c.args.options plan later (seen_later _ _ c.settle.ensures.asks.tearing seen) came
     (c.in-Sourceless.ensures.settled tells kinds registry_of plan moment at.folder at.failures needed known)))
 
 pub run-requires-clause-due : goal.run-requires-clause-due
@@ -64,10 +66,10 @@ returns-in-Due-clause-turn g c = λ tells kinds registry_of plan moment agrees s
     let came = comes_later task _ (F.contents start) (F.failures start) moment (F.contents then) (F.failures then) same at in
     let later : Moment = record { world = moment.world; outcomes = moment.outcomes; failures = F.failures then } in
     let due = c.in-Due.ensures.settled tells kinds registry_of plan moment at.folder at.failures needed known in
-    turned_before kinds registry_of (F.may_leave start) (F.may_leave then) c.settle.ensures.tearing c.args.options plan task moment (F.failures then)
-    (subst (λ (n : ℕ). n ≤ F.failures then) (sym at.failures) c.settle.ensures.count) c.run.result (F.contents start) (F.failures now) (F.contents now) c.run.ensures.count
+    turned_before kinds registry_of (F.may_leave start) (F.may_leave then) c.settle.ensures.asks.tearing c.args.options plan task moment (F.failures then)
+    (subst (λ (n : ℕ). n ≤ F.failures then) (sym at.failures) c.settle.ensures.asks.count) c.run.result (F.contents start) (F.failures now) (F.contents now) c.run.ensures.asks.count
     (subst (λ (folder : Contents). HasTurned (setting_with kinds registry_of (F.may_leave then)) c.args.options plan task later c.run.result folder (F.failures now) (F.contents now)) same
-    (c.run.ensures.turn tells kinds registry_of plan later agrees (seen_later _ _ c.settle.ensures.tearing seen) came due.0 due.1 due.2
+    (c.run.ensures.turn tells kinds registry_of plan later agrees (seen_later _ _ c.settle.ensures.asks.tearing seen) came due.0 due.1 due.2
     (subst (λ (folder : Contents). IsSeenFor task folder.files c.in-Due.seen c.in-Due.decision) (sym same) due.3) known))
 
 pub returns-in-Told-clause-started : goal.returns-in-Told-clause-started
@@ -78,3 +80,12 @@ returns-in-Sourceless-clause-started g c = cleared_started c.take_turn_without_s
 
 pub returns-in-Due-clause-started : goal.returns-in-Due-clause-started
 returns-in-Due-clause-started g c = run_started c.run.result.outcome c.run.ensures.outcome
+
+pub returns-in-Told-clause-asks : goal.returns-in-Told-clause-asks
+returns-in-Told-clause-asks g c = asks_reading c.settle.ensures.asks
+
+pub returns-in-Sourceless-clause-asks : goal.returns-in-Sourceless-clause-asks
+returns-in-Sourceless-clause-asks g c = asks_then (asks_reading c.settle.ensures.asks) (taken_in_turn c.args.task.now _ c.take_turn_without_source.ensures.asks)
+
+pub returns-in-Due-clause-asks : goal.returns-in-Due-clause-asks
+returns-in-Due-clause-asks g c = asks_then (asks_reading c.settle.ensures.asks) c.run.ensures.asks

@@ -5,7 +5,7 @@ use Rattle.std.proofs.lemmas.List.{length_push}
 use Rattle.std.proofs.lemmas.Result.{err_from_is_err_and}
 use Rattle.std.specs.FinMap.Entries.{is_sorted, put}
 use Rattle.gb_core.specs.Lists.{byte_order}
-use Rattle.gb_folder.proofs.Changes.{SameTearing-chain}
+use Rattle.gb_folder.proofs.Asked.{asks_then}
 use Rattle.gb_folder.specs.Files.{Contents, Place}
 use Rattle.gb_tree.specs.Reading.{IsSeenIn, digests_seen, entries_seen}
 use Rattle.gb_tree.specs.Tree.{IsTreeFaultOfMachine, bytes_at, contents_at, is_among}
@@ -24,7 +24,7 @@ returns-in_err-path-clause-blame g c =
     let x = c.in-Some.one in
     let gives = c.into_iter-one-iterator.ensures.into_iter_gives in
     let turn = YieldsList-turn (YieldsList-from_vec {s = c.into_iter-one-iterator.result} xs gives.0 (gives.1 ∙ c.args.seen.ok.0)) c.loop-one.yielded c.loop-one.one-iterator c.loop-one.yielded_by c.next.result c.next.new.self x c.in-Some.is c.next.ensures.steps in
-    blamed_before (λ at. at ≡ x.place) (λ at. IsTrue (is_among (entries_seen xs) at)) _ _ _ _ c.in_err-path.field-0.0 p.0 c.loop-one.invariant.count c.in_err-path.ensures.count p.1 p.2
+    blamed_before (λ at. at ≡ x.place) (λ at. IsTrue (is_among (entries_seen xs) at)) _ _ _ _ c.in_err-path.field-0.0 p.0 c.loop-one.invariant.asks.count c.in_err-path.ensures.asks.count p.1 p.2
     (λ at same. subst (λ (place : Place). IsTrue (is_among (entries_seen xs) place)) (sym same) (seen_among xs (length c.loop-one.yielded) x turn.0 turn.1)) c.in_err-path.ensures.blame
 
 pub returns-in_err-path-clause-err : goal.returns-in_err-path-clause-err
@@ -37,7 +37,7 @@ returns-in_err-path-clause-err g c = λ tells all.
     let turn = YieldsList-turn (YieldsList-from_vec {s = c.into_iter-one-iterator.result} xs gives.0 (gives.1 ∙ c.args.seen.ok.0)) c.loop-one.yielded c.loop-one.one-iterator c.loop-one.yielded_by c.next.result c.next.new.self x c.in-Some.is c.next.ensures.steps in
     let is_seen = all_at (IsSeenIn (g.F.Folder.contents c.args.folder.now).files) xs (length c.loop-one.yielded) x turn.0 turn.1 all in
     at_err (λ r. IfErr r (IsTreeFaultOfMachine (failures c.args.folder.now) (failures c.complete.new.folder))) c.from_residual-in_err-path.result p.0 c.in_err-path.field-0.0 p.1 p.2
-    (machine_before _ _ _ _ c.loop-one.invariant.count c.in_err-path.ensures.count
+    (machine_before _ _ _ _ c.loop-one.invariant.asks.count c.in_err-path.ensures.asks.count
     (c.in_err-path.ensures.err tells (subst (λ (now : Contents). IsSeenIn now.files x) (sym (c.loop-one.invariant.same tells)) is_seen)))
 
 pub loop-one-preserved : goal.loop-one-preserved
@@ -56,8 +56,7 @@ loop-one-preserved g c =
     record {
       can_next = tt;
       is_finite = tt;
-      count = omega (arith, so_far.count, c.complete.ensures.count);
-      tearing = SameTearing-chain _ _ _ so_far.tearing c.complete.ensures.tearing;
+      asks = asks_then so_far.asks c.complete.ensures.asks;
       same = λ tells. c.complete.ensures.same tells ∙ so_far.same tells;
       digests = digest_more tree _ c.loop-one.digests.items _ x.path bytes c.in_ok-path.digest c.in_ok-copy.field-0 so_far.digests c.in_ok-push.ensures.items (c.in_ok-copy.ensures ∙ c.in_ok-path.ensures.path) c.in_ok-path.ensures.digest more;
       paths = ap (map (λ (file : List ℕ × List ℕ). file.0)) more ∙ path_more xs n x tree bytes turn.0 turn.1 so_far.paths ∙ ap (λ k. map (λ (file : SeenFile). file.path) (take k xs)) next;

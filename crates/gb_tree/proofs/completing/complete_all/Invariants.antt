@@ -1,6 +1,6 @@
 use Rattle.std.proofs.Common.{◌≡◌, ◌≤◌, IsTrue, length, map, take}
 use Rattle.std.specs.List.{AllByRecursion}
-use Rattle.gb_folder.specs.Files.{SameTearing}
+use Rattle.gb_folder.specs.Calls.{Asks, no_change}
 use Rattle.gb_tree.specs.Prints.{digests_of}
 use Rattle.gb_tree.specs.Reading.{IsSeenIn, entries_seen}
 use Rattle.gb_tree.specs.Tree.{contents_at}
@@ -14,8 +14,7 @@ invariant-loop-one g l =
     record {
       can_next : (goal.iterator-loop-one g).can_next l.one-iterator;
       is_finite : (goal.iterator-loop-one g).is_finite l.one-iterator;
-      count : g.F.Folder.failures l.fn.folder ≤ g.F.Folder.failures l.folder;
-      tearing : SameTearing (g.F.Folder.may_leave l.fn.folder) (g.F.Folder.may_leave l.folder);
+      asks : Asks g.F.Folder.failures g.F.Folder.may_leave g.F.Folder.asked no_change l.fn.folder l.folder;
       same : IsTrue g.F.Folder.tells → contents l.folder ≡ contents l.fn.folder;
       digests : l.digests.items ≡ digests_of l.files;
       paths : map (λ file. file.0) l.files ≡ map (λ file. file.path) done;

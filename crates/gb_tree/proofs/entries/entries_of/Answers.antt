@@ -22,7 +22,7 @@ returns-in_err-entries-clause-blame g c =
     let p = err_from_is_err_and c.from_residual-in_err-entries.result c.from_residual-in_err-entries.ensures.1 in
     let kept = c.as_slice.result.now in
     let roots = c.args.roots.now in
-    blamed_before (λ at. IsTrue (is_under_any kept at)) (λ at. IsTrue (is_under_any roots at)) _ _ _ _ c.in_err-entries.field-0.0 p.0 (omega arith) c.in_err-entries.ensures.count p.1 p.2
+    blamed_before (λ at. IsTrue (is_under_any kept at)) (λ at. IsTrue (is_under_any roots at)) _ _ _ _ c.in_err-entries.field-0.0 p.0 (omega arith) c.in_err-entries.ensures.asks.count p.1 p.2
     (of_roots kept roots (c.as_slice.ensures.value ∙ c.in_ok-roots.ensures)) c.in_err-entries.ensures.blame
 
 pub returns-in_err-entries-clause-err : goal.returns-in_err-entries-clause-err

@@ -5,7 +5,7 @@ use Rattle.gb_core.specs.Lists.{first_of}
 use Rattle.gb_core.specs.Place.{is_under}
 use Rattle.gb_folder.specs.Files.{Contents, Place, is_odd_under, places_under}
 use Rattle.gb_folder.specs.Limits.{max_files}
-use Rattle.gb_folder.proofs.Changes.{SameTearing-chain}
+use Rattle.gb_folder.proofs.Asked.{asks_then}
 use Rattle.gb_tree.specs.declared.fault.TreeFault.TheVariants as faults
 use Rattle.gb_tree.specs.Property.{entries_in, found, held, is_under_any}
 use Rattle.gb_tree.specs.Tree.{Entries, IsRefused, odd_roots}
@@ -27,7 +27,7 @@ returns-in_err-places-clause-odd g c = λ tells.
     let root = c.root-item.result in
     let rest = filter (is_odd_under old) (drop (i + 1) roots) in
     at_err (λ r. IfErr r (λ fault. IsRefused (failures c.args.folder.now) (failures c.listed.new.folder) (odd_roots old roots) fault)) c.from_residual.result p.0 c.in_err-places.field-0.0 p.1 p.2 (elim (c.in_err-places.ensures.odd tells) [
-      | inl machine ↦ inl (machine_before _ _ _ _ c.loop-root.invariant.count c.in_err-places.ensures.count machine)
+      | inl machine ↦ inl (machine_before _ _ _ _ c.loop-root.invariant.asks.count c.in_err-places.ensures.asks.count machine)
       | inr odd ↦ inr (
           sym (c.loop-root.invariant.odd tells)
           ∙ step_here (λ rs. first_of (odd_roots old rs)) roots i root c.loop-root-test.true c.root-item.is
@@ -41,7 +41,7 @@ returns-in_err-places-clause-blame g c =
     let p = err_from_is_err_and c.from_residual.result c.from_residual.ensures.1 in
     let roots = c.args.roots.now in
     let root = c.root-item.result in
-    blamed_before (λ at. at ≡ root) (λ at. IsTrue (is_under_any roots at)) _ _ _ _ c.in_err-places.field-0.0 p.0 c.loop-root.invariant.count c.in_err-places.ensures.count p.1 p.2
+    blamed_before (λ at. at ≡ root) (λ at. IsTrue (is_under_any roots at)) _ _ _ _ c.in_err-places.field-0.0 p.0 c.loop-root.invariant.asks.count c.in_err-places.ensures.asks.count p.1 p.2
     (λ at is. under_root roots c.loop-root.root-index root at c.loop-root-test.true c.root-item.is (subst (λ (place : Place). IsTrue (is_under place root)) (sym is) (own_place root)))
     c.in_err-places.ensures.blame
 
@@ -63,8 +63,7 @@ loop-root-preserved g c =
     let within = c.loop-root-test.true in
     let is = c.root-item.is in
     record {
-      count = omega (arith, was.count, c.in_ok-places.ensures.count);
-      tearing = SameTearing-chain _ _ _ was.tearing c.in_ok-places.ensures.tearing;
+      asks = asks_then was.asks c.in_ok-places.ensures.asks;
       few = c.in_ok-add_entries.ensures.few;
       under = taken_beneath naming include exclude roots i root c.in_ok-places.places.items places kept c.add_entries.new.entries.items within is c.as_slice.ensures.value c.in_ok-places.ensures.under c.in_ok-add_entries.ensures.entries was.under;
       same = λ tells. c.in_ok-places.ensures.same tells ∙ was.same tells;

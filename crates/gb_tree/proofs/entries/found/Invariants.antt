@@ -1,7 +1,7 @@
 use Rattle.std.proofs.Common.{◌≡◌, ◌≤◌, ◌+◌, ◌++◌, IsTrue, drop, length}
 use Rattle.std.specs.List.{AllByRecursion}
 use Rattle.gb_core.specs.Lists.{first_of}
-use Rattle.gb_folder.specs.Files.{SameTearing}
+use Rattle.gb_folder.specs.Calls.{Asks, no_change}
 use Rattle.gb_folder.specs.Limits.{max_files}
 use Rattle.gb_tree.specs.Property.{found, held, is_under_any}
 use Rattle.gb_tree.specs.Tree.{odd_roots}
@@ -12,8 +12,7 @@ invariant-loop-root g l =
     let contents = g.F.Folder.contents in
     let old = contents l.fn.folder in
     record {
-      count : g.F.Folder.failures l.fn.folder ≤ g.F.Folder.failures l.folder;
-      tearing : SameTearing (g.F.Folder.may_leave l.fn.folder) (g.F.Folder.may_leave l.folder);
+      asks : Asks g.F.Folder.failures g.F.Folder.may_leave g.F.Folder.asked no_change l.fn.folder l.folder;
       few : length l.entries.items ≤ max_files + 1;
       under : AllByRecursion (λ entry. IsTrue (is_under_any l.roots entry.1)) l.entries.items;
       same : IsTrue g.F.Folder.tells → contents l.folder ≡ old;

@@ -14,7 +14,7 @@ pub returns-in_err-entries-clause-blame : goal.returns-in_err-entries-clause-bla
 returns-in_err-entries-clause-blame g c =
     let p = err_from_is_err_and c.from_residual.result c.from_residual.ensures.1 in
     let IsSuch : Place → Type 0 = λ at. IsTrue (is_under_any c.args.roots.now at) in
-    blamed_before IsSuch IsSuch _ _ _ _ c.in_err-entries.field-0.0 p.0 (omega arith) c.in_err-entries.ensures.count p.1 p.2 (λ at h. h) c.in_err-entries.ensures.blame
+    blamed_before IsSuch IsSuch _ _ _ _ c.in_err-entries.field-0.0 p.0 (omega arith) c.in_err-entries.ensures.asks.count p.1 p.2 (λ at h. h) c.in_err-entries.ensures.blame
 
 pub returns-then-len-gt-MAX_FILES-clause-err : goal.returns-then-len-gt-MAX_FILES-clause-err
 returns-then-len-gt-MAX_FILES-clause-err g c = λ tells.

@@ -21,13 +21,13 @@ returns-in_err-digests-clause-err g c = λ tells.
     let listing = entry_faults c.args.name.now c.args.naming roots include exclude old in
     at_err (λ r. IfErr r (λ fault. IsRefused (failures c.args.folder.now) (failures c.digest_all.new.folder) (listing ++ too_large old.files entries) fault)) c.from_residual-in_err-digests.result p.0 c.in_err-digests.field-0.0 p.1 p.2
     (refused_reading (failures c.args.folder.now) _ _ old _ listing entries c.as_slice.result.now c.in_err-digests.field-0.0 (c.in_ok-entries.ensures.same tells) (c.as_slice.ensures.value ∙ c.in_ok-entries.ensures.entries tells)
-    c.in_ok-entries.ensures.count c.in_err-digests.ensures.count (c.in_ok-entries.ensures.fit tells) (found_stand c.args.naming roots include exclude old.files) (c.in_err-digests.ensures.err tells))
+    c.in_ok-entries.ensures.asks.count c.in_err-digests.ensures.asks.count (c.in_ok-entries.ensures.fit tells) (found_stand c.args.naming roots include exclude old.files) (c.in_err-digests.ensures.err tells))
 
 pub returns-in_err-entries-clause-blame : goal.returns-in_err-entries-clause-blame
 returns-in_err-entries-clause-blame g c =
     let p = err_from_is_err_and c.from_residual.result c.from_residual.ensures.1 in
     let IsSuch : Place → Type 0 = λ at. IsTrue (is_under_any c.args.roots.now at) in
-    blamed_before IsSuch IsSuch _ _ _ _ c.in_err-entries.field-0.0 p.0 (omega arith) c.in_err-entries.ensures.count p.1 p.2 (λ at h. h) c.in_err-entries.ensures.blame
+    blamed_before IsSuch IsSuch _ _ _ _ c.in_err-entries.field-0.0 p.0 (omega arith) c.in_err-entries.ensures.asks.count p.1 p.2 (λ at h. h) c.in_err-entries.ensures.blame
 
 pub returns-in_err-entries-clause-err : goal.returns-in_err-entries-clause-err
 returns-in_err-entries-clause-err g c = λ tells.
@@ -42,5 +42,5 @@ returns-in_err-digests-clause-blame g c =
     let p = err_from_is_err_and c.from_residual-in_err-digests.result c.from_residual-in_err-digests.ensures.1 in
     let read = c.as_slice.result.now in
     let IsSuch : Place → Type 0 = λ at. IsTrue (is_under_any c.args.roots.now at) in
-    blamed_before (λ at. IsTrue (is_among read at)) IsSuch _ _ _ _ c.in_err-digests.field-0.0 p.0 c.in_ok-entries.ensures.count c.in_err-digests.ensures.count p.1 p.2
+    blamed_before (λ at. IsTrue (is_among read at)) IsSuch _ _ _ _ c.in_err-digests.field-0.0 p.0 c.in_ok-entries.ensures.asks.count c.in_err-digests.ensures.asks.count p.1 p.2
     (among_read IsSuch c.in_ok-entries.entries.items read c.as_slice.ensures.value c.in_ok-entries.ensures.under) c.in_err-digests.ensures.blame

@@ -3,7 +3,7 @@ use Rattle.gb_core.specs.Lists.{first_of}
 use Rattle.gb_tree.specs.Prints.{digests_of}
 use Rattle.gb_tree.specs.Property.{paths_of}
 use Rattle.gb_tree.specs.Tree.{contents_at, too_large}
-use Rattle.gb_folder.specs.Files.{SameTearing}
+use Rattle.gb_folder.specs.Calls.{Asks, no_change}
 use Rattle.gb_tree.proofs.reading.digest_all.Given as goal
 
 abbrev pub invariant-loop-path : goal.invariant-loop-path
@@ -11,8 +11,7 @@ invariant-loop-path g l =
     let contents = g.F.Folder.contents in
     let old = (contents l.fn.folder).files in
     record {
-      count : g.F.Folder.failures l.fn.folder ≤ g.F.Folder.failures l.folder;
-      tearing : SameTearing (g.F.Folder.may_leave l.fn.folder) (g.F.Folder.may_leave l.folder);
+      asks : Asks g.F.Folder.failures g.F.Folder.may_leave g.F.Folder.asked no_change l.fn.folder l.folder;
       same : IsTrue g.F.Folder.tells → contents l.folder ≡ contents l.fn.folder;
       paths : map (λ entry. entry.0) l.digests.items ≡ paths_of (take l.path-index l.entries);
       digested : IsTrue g.F.Folder.tells → l.digests.items ≡ digests_of (contents_at old (take l.path-index l.entries));

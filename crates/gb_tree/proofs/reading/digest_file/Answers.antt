@@ -5,7 +5,7 @@ use Rattle.sha2.specs.Sha256.{sha256}
 use Rattle.gb_tree.specs.declared.fault.TreeFault.TheVariants as faults
 use Rattle.gb_tree.specs.Tree.{bytes_at}
 use Rattle.gb_tree.proofs.Pieces.{same_piece, one_more, last_piece, whole_digest, within_file, nothing_after, something_after, not_large, is_too_large, is_none, is_some}
-use Rattle.gb_folder.proofs.Changes.{SameTearing-chain}
+use Rattle.gb_folder.proofs.Asked.{asks_then}
 use Rattle.gb_tree.proofs.reading.digest_file.Goals as goal
 
 pub returns-then-len-lt-PIECE-clause-digest : goal.returns-then-len-lt-PIECE-clause-digest
@@ -31,8 +31,7 @@ loop-index-preserved g c =
     let at = old.index * 65536 in
     let next : at + 65536 ≡ (old.index + 1) * 65536 = omega arith in
     record {
-      count = omega (arith, old.invariant.count, c.in_ok-piece.ensures.count);
-      tearing = SameTearing-chain _ _ _ old.invariant.tearing c.in_ok-piece.ensures.tearing;
+      asks = asks_then old.invariant.asks c.in_ok-piece.ensures.asks;
       same = λ tells. c.in_ok-piece.ensures.same tells ∙ old.invariant.same tells;
       most = omega (arith, c.loop-index-test.true);
       more = λ tells.

@@ -5,7 +5,7 @@ use Rattle.std.specs.FinMap.Entries.{put}
 use Rattle.gb_core.specs.Lists.{byte_order, first_of}
 use Rattle.gb_tree.specs.declared.fault.TreeFault.TheVariants as faults
 use Rattle.gb_tree.specs.Tree.{bytes_at, is_among, is_large, too_large}
-use Rattle.gb_folder.proofs.Changes.{SameTearing-chain}
+use Rattle.gb_folder.proofs.Asked.{asks_then}
 use Rattle.gb_tree.proofs.Blame.{at_entry, blamed_before}
 use Rattle.gb_tree.proofs.Loops.{step_here}
 use Rattle.gb_tree.proofs.InOrder.{file_more}
@@ -22,8 +22,7 @@ loop-path-preserved g c =
     let within = c.loop-path-test.true in
     let is = c.loop-path-item.is in
     record {
-      count = omega (arith, old.invariant.count, c.read_file.ensures.count);
-      tearing = SameTearing-chain _ _ _ old.invariant.tearing c.read_file.ensures.tearing;
+      asks = asks_then old.invariant.asks c.read_file.ensures.asks;
       same = λ tells. c.read_file.ensures.same tells ∙ old.invariant.same tells;
       read = λ tells.
           c.in_ok-insert.ensures.ok
@@ -42,5 +41,5 @@ returns-in_err-bytes-clause-blame g c =
     let p = err_from_is_err_and c.from_residual.result c.from_residual.ensures.1 in
     let entries = c.args.entries.now in
     let entry = c.loop-path-item.result in
-    blamed_before (λ at. at ≡ entry.1) (λ at. IsTrue (is_among entries at)) _ _ _ _ c.in_err-bytes.field-0.0 p.0 c.loop-path.invariant.count c.in_err-bytes.ensures.count p.1 p.2
+    blamed_before (λ at. at ≡ entry.1) (λ at. IsTrue (is_among entries at)) _ _ _ _ c.in_err-bytes.field-0.0 p.0 c.loop-path.invariant.asks.count c.in_err-bytes.ensures.asks.count p.1 p.2
     (at_entry entries c.loop-path.path-index entry c.loop-path-test.true c.loop-path-item.is) c.in_err-bytes.ensures.blame

@@ -1,7 +1,7 @@
 use Rattle.std.proofs.Common.{◌≡◌, ◌≤◌, IsTrue, drop, take}
 use Rattle.gb_core.specs.Lists.{first_of}
 use Rattle.gb_tree.specs.Tree.{contents_at, too_large}
-use Rattle.gb_folder.specs.Files.{SameTearing}
+use Rattle.gb_folder.specs.Calls.{Asks, no_change}
 use Rattle.gb_tree.proofs.reading.read_all.Given as goal
 
 abbrev pub invariant-loop-path : goal.invariant-loop-path
@@ -9,8 +9,7 @@ invariant-loop-path g l =
     let contents = g.F.Folder.contents in
     let old = (contents l.fn.folder).files in
     record {
-      count : g.F.Folder.failures l.fn.folder ≤ g.F.Folder.failures l.folder;
-      tearing : SameTearing (g.F.Folder.may_leave l.fn.folder) (g.F.Folder.may_leave l.folder);
+      asks : Asks g.F.Folder.failures g.F.Folder.may_leave g.F.Folder.asked no_change l.fn.folder l.folder;
       same : IsTrue g.F.Folder.tells → contents l.folder ≡ contents l.fn.folder;
       read : IsTrue g.F.Folder.tells → l.files ≡ contents_at old (take l.path-index l.entries);
       large : IsTrue g.F.Folder.tells → first_of (too_large old (drop l.path-index l.entries)) ≡ first_of (too_large old l.entries);

@@ -3,7 +3,7 @@ use Rattle.std.proofs.lemmas.List.{take_all}
 use Rattle.std.proofs.lemmas.Result.{err_from_is_err_and}
 use Rattle.std.specs.List.{filter}
 use Rattle.gb_core.specs.Lists.{first_of}
-use Rattle.gb_folder.proofs.Changes.{SameTearing-chain}
+use Rattle.gb_folder.proofs.Asked.{asks_then}
 use Rattle.gb_folder.specs.Files.{Contents}
 use Rattle.gb_tree.specs.Reading.{IsSeenIn, is_digest_of}
 use Rattle.gb_tree.specs.Tree.{is_among, is_large, too_large}
@@ -19,7 +19,7 @@ returns-in_err-see_file-clause-blame g c =
     let p = err_from_is_err_and c.from_residual-in_err-see_file.result c.from_residual-in_err-see_file.ensures.1 in
     let entries = c.args.entries.now in
     let entry = c.loop-path-item.result in
-    blamed_before (λ at. at ≡ entry.1) (λ at. IsTrue (is_among entries at)) _ _ _ _ c.in_err-see_file.field-0.0 p.0 c.loop-path.invariant.count c.in_err-see_file.ensures.count p.1 p.2
+    blamed_before (λ at. at ≡ entry.1) (λ at. IsTrue (is_among entries at)) _ _ _ _ c.in_err-see_file.field-0.0 p.0 c.loop-path.invariant.asks.count c.in_err-see_file.ensures.asks.count p.1 p.2
     (at_entry entries c.loop-path.path-index entry c.loop-path-test.true c.loop-path-item.is) c.in_err-see_file.ensures.blame
 
 pub loop-path-preserved : goal.loop-path-preserved
@@ -36,8 +36,7 @@ loop-path-preserved g c =
     let added = c.in_ok-push.ensures.items in
     let is_seen = λ (tells : IsTrue g.F.Folder.tells). subst (λ (now : Contents). IsSeenIn now.files x) (old.invariant.same tells) (c.in_ok-see_file.ensures.seen tells) in
     record {
-      count = omega (arith, old.invariant.count, c.see_file.ensures.count);
-      tearing = SameTearing-chain _ _ _ old.invariant.tearing c.see_file.ensures.tearing;
+      asks = asks_then old.invariant.asks c.see_file.ensures.asks;
       same = λ tells. c.see_file.ensures.same tells ∙ old.invariant.same tells;
       placed = placed_more entries i e old.seen.items _ x within is added c.in_ok-see_file.ensures.path c.in_ok-see_file.ensures.place old.invariant.placed;
       digested = test_more (λ (file : SeenFile). is_digest_of file.kept file.digest) old.seen.items _ x added old.invariant.digested c.in_ok-see_file.ensures.digested;

@@ -1,7 +1,7 @@
 use Rattle.std.proofs.Common.{◌≡◌, ◌≤◌, IsTrue, drop, take}
 use Rattle.std.specs.List.{AllByRecursion, list_all}
 use Rattle.gb_core.specs.Lists.{first_of}
-use Rattle.gb_folder.specs.Files.{SameTearing}
+use Rattle.gb_folder.specs.Calls.{Asks, no_change}
 use Rattle.gb_tree.specs.Reading.{IsSeenIn, entries_seen, is_digest_of}
 use Rattle.gb_tree.specs.Tree.{too_large}
 use Rattle.gb_tree.proofs.seeing.see_all.Given as goal
@@ -11,8 +11,7 @@ invariant-loop-path g l =
     let contents = g.F.Folder.contents in
     let old = (contents l.fn.folder).files in
     record {
-      count : g.F.Folder.failures l.fn.folder ≤ g.F.Folder.failures l.folder;
-      tearing : SameTearing (g.F.Folder.may_leave l.fn.folder) (g.F.Folder.may_leave l.folder);
+      asks : Asks g.F.Folder.failures g.F.Folder.may_leave g.F.Folder.asked no_change l.fn.folder l.folder;
       same : IsTrue g.F.Folder.tells → contents l.folder ≡ contents l.fn.folder;
       placed : entries_seen l.seen.items ≡ take l.path-index l.entries;
       digested : IsTrue (list_all (λ file. is_digest_of file.kept file.digest) l.seen.items);

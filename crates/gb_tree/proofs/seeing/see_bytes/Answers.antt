@@ -4,7 +4,7 @@ use Rattle.std.proofs.lemmas.Result.{err_from_is_err_and}
 use Rattle.std.specs.Prelude.{IsSome}
 use Rattle.sha2.specs.Hashers.{Holds256}
 use Rattle.sha2.specs.Sha256.{sha256}
-use Rattle.gb_folder.proofs.Changes.{SameTearing-chain}
+use Rattle.gb_folder.proofs.Asked.{asks_then}
 use Rattle.gb_folder.specs.Files.{Contents, file_at}
 use Rattle.gb_tree.specs.declared.fault.TreeFault.TheVariants as faults
 use Rattle.gb_tree.specs.Tree.{IsTreeFaultOfMachine, bytes_at, is_large}
@@ -20,7 +20,7 @@ returns-in_err-piece-clause-err g c = λ tells stands.
     let place = c.args.place.now in
     at_err (λ r. IfErr r (λ fault. IsTreeFaultOfMachine (failures c.args.folder.now) (failures c.read_piece.new.folder) fault ⊎ ((is_large files place ≡ true) × (fault ≡ faults.TooLarge place))))
     c.from_residual.result p.0 c.in_err-piece.field-0.0 p.1 p.2
-    (inl (machine_before _ _ _ _ c.loop-index.invariant.count c.in_err-piece.ensures.count
+    (inl (machine_before _ _ _ _ c.loop-index.invariant.asks.count c.in_err-piece.ensures.asks.count
     (c.in_err-piece.ensures.err tells (subst (λ (now : Contents). IsSome (file_at now.files place)) (sym (c.loop-index.invariant.same tells)) stands))))
 
 pub returns-then-len-lt-PIECE-clause-digest : goal.returns-then-len-lt-PIECE-clause-digest
@@ -62,8 +62,7 @@ loop-index-preserved g c =
     let next : at + 65536 ≡ (old.index + 1) * 65536 = omega arith in
     let is = λ (tells : IsTrue g.F.Folder.tells). same_piece _ _ c.args.place.now at 65536 piece (old.invariant.same tells) (c.in_ok-piece.ensures.read tells) in
     record {
-      count = omega (arith, old.invariant.count, c.in_ok-piece.ensures.count);
-      tearing = SameTearing-chain _ _ _ old.invariant.tearing c.in_ok-piece.ensures.tearing;
+      asks = asks_then old.invariant.asks c.in_ok-piece.ensures.asks;
       same = λ tells. c.in_ok-piece.ensures.same tells ∙ old.invariant.same tells;
       most = omega (arith, c.loop-index-test.true);
       more = λ tells.
@@ -89,7 +88,7 @@ returns-in_err-more-clause-err g c = λ tells stands.
     let place = c.args.place.now in
     at_err (λ r. IfErr r (λ fault. IsTreeFaultOfMachine (failures c.args.folder.now) (failures c.read_piece-2.new.folder) fault ⊎ ((is_large files place ≡ true) × (fault ≡ faults.TooLarge place))))
     c.from_residual-in_err-more.result p.0 c.in_err-more.field-0.0 p.1 p.2
-    (inl (machine_before _ _ _ _ c.loop-index.invariant.count c.in_err-more.ensures.count
+    (inl (machine_before _ _ _ _ c.loop-index.invariant.asks.count c.in_err-more.ensures.asks.count
     (c.in_err-more.ensures.err tells (subst (λ (now : Contents). IsSome (file_at now.files place)) (sym (c.loop-index.invariant.same tells)) stands))))
 
 pub returns-then-is_empty-clause-same : goal.returns-then-is_empty-clause-same

@@ -1,7 +1,7 @@
 use Rattle.std.proofs.Common.{◌≡◌, ◌≤◌, ◌*◌, IsTrue, length, take}
 use Rattle.sha2.specs.Hashers.{Holds256}
 use Rattle.gb_tree.specs.Tree.{bytes_at}
-use Rattle.gb_folder.specs.Files.{SameTearing}
+use Rattle.gb_folder.specs.Calls.{Asks, no_change}
 use Rattle.gb_tree.proofs.seeing.see_bytes.Given as goal
 
 abbrev pub invariant-loop-index : goal.invariant-loop-index
@@ -9,8 +9,7 @@ invariant-loop-index g l =
     let contents = g.F.Folder.contents in
     let bytes = bytes_at (contents l.fn.folder).files l.place in
     record {
-      count : g.F.Folder.failures l.fn.folder ≤ g.F.Folder.failures l.folder;
-      tearing : SameTearing (g.F.Folder.may_leave l.fn.folder) (g.F.Folder.may_leave l.folder);
+      asks : Asks g.F.Folder.failures g.F.Folder.may_leave g.F.Folder.asked no_change l.fn.folder l.folder;
       same : IsTrue g.F.Folder.tells → contents l.folder ≡ contents l.fn.folder;
       most : l.index ≤ 128;
       more : IsTrue g.F.Folder.tells → l.index * 65536 ≤ length bytes;

@@ -5,7 +5,7 @@ use Rattle.std.proofs.lemmas.List.{length_push, take_all}
 use Rattle.std.proofs.lemmas.Result.{err_from_is_err_and}
 use Rattle.std.specs.List.{AllByRecursion}
 use Rattle.gb_action.specs.Files.{Tree}
-use Rattle.gb_folder.proofs.Changes.{SameTearing-chain}
+use Rattle.gb_folder.proofs.Asked.{asks_then}
 use Rattle.gb_folder.specs.Files.{Contents}
 use Rattle.gb_history.specs.Remembered.{Prints}
 use Rattle.gb_store.proofs.Loops.{all_at}
@@ -40,7 +40,7 @@ returns-in_err-tree-clause-err g c = λ tells seen.
     let turn = YieldsList-turn (YieldsList-from_vec {s = c.into_iter-reading-iterator.result} readings gives.0 (gives.1 ∙ c.args.readings.ok.0)) c.loop-reading.yielded c.loop-reading.reading-iterator c.loop-reading.yielded_by c.next.result c.next.new.self x c.in-Some.is c.next.ensures.steps in
     let stands = all_at (Stands old) readings (length c.loop-reading.yielded) x turn.0 turn.1 (inputs_stand old c.args.task.now.files readings seen) in
     at_err (λ r. IfErr r (IsOfMachine (failures c.args.folder.now) (failures c.complete.new.folder))) c.from_residual.result p.0 c.in_err-tree.field-0.0 p.1 p.2
-    (machine_before _ _ _ _ c.loop-reading.invariant.count c.complete.ensures.count
+    (machine_before _ _ _ _ c.loop-reading.invariant.asks.count c.complete.ensures.asks.count
     (c.in_err-tree.ensures.err tells (subst (λ (now : Contents). Stands now.files x) (sym (c.loop-reading.invariant.same tells)) stands)))
 
 pub loop-reading-preserved : goal.loop-reading-preserved
@@ -61,8 +61,7 @@ loop-reading-preserved g c =
     record {
       can_next = tt;
       is_finite = tt;
-      count = omega (arith, so_far.count, c.complete.ensures.count);
-      tearing = SameTearing-chain _ _ _ so_far.tearing c.complete.ensures.tearing;
+      asks = asks_then so_far.asks c.complete.ensures.asks;
       same = λ tells. c.complete.ensures.same tells ∙ so_far.same tells;
       named =
           name_more (λ (t : List ℕ × Tree). t.0) (λ (reading : Read). reading.0) trees c.push-in-loop-reading.new.self tree readings n x turn.0 turn.1 so_far.named more one.named

@@ -1,6 +1,6 @@
 use Rattle.std.proofs.Common.{◌≡◌, ◌≤◌, IsTrue, length, map, take}
 use Rattle.std.specs.List.{AllByRecursion}
-use Rattle.gb_folder.specs.Files.{SameTearing}
+use Rattle.gb_folder.specs.Calls.{Asks, no_change}
 use Rattle.gb_turn.specs.Reading.{digests_in}
 use Rattle.gb_turn.proofs.Readings.{Stands, tree_made}
 use Rattle.gb_turn.proofs.inputs.complete_inputs.Given as goal
@@ -13,8 +13,7 @@ invariant-loop-reading g l =
     record {
       can_next : (goal.iterator-loop-reading g).can_next l.reading-iterator;
       is_finite : (goal.iterator-loop-reading g).is_finite l.reading-iterator;
-      count : g.F.Folder.failures l.fn.folder ≤ g.F.Folder.failures l.folder;
-      tearing : SameTearing (g.F.Folder.may_leave l.fn.folder) (g.F.Folder.may_leave l.folder);
+      asks : Asks g.F.Folder.failures g.F.Folder.may_leave g.F.Folder.asked no_change l.fn.folder l.folder;
       same : IsTrue g.F.Folder.tells → contents l.folder ≡ contents l.fn.folder;
       named : map (λ tree. tree.0) l.trees ≡ map (λ reading. reading.0) done;
       digests : l.prints.items ≡ digests_in l.trees;

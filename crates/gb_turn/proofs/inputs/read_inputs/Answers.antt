@@ -4,7 +4,7 @@ use Rattle.std.proofs.lemmas.List.{take_all}
 use Rattle.std.specs.List.{AllByRecursion, AllZip}
 use Rattle.gb_core.specs.Lists.{first_of}
 use Rattle.gb_core.specs.Place.{is_under}
-use Rattle.gb_folder.proofs.Changes.{SameTearing-chain}
+use Rattle.gb_folder.proofs.Asked.{asks_then}
 use Rattle.gb_folder.specs.Files.{Contents}
 use Rattle.gb_history.specs.Remembered.{Prints}
 use Rattle.gb_report.specs.declared.fault.Fault.{Fault}
@@ -43,7 +43,7 @@ returns-in_err-read_one-clause-err g c = λ tells.
     let is = subst (λ (fs : List FileProperty). item ≡ get_or fs index item) c.as_slice-property-items.ensures c.property-item.is in
     let IsFault : Fault → Type 0 = CannotRead (g.F.Folder.failures c.args.folder.now) (g.F.Folder.failures c.read_one.new.folder) (input_faults c.args.task.now old) in
     at_err (λ r. IfErr r IsFault) c.from_residual.result p.0 c.in_err-read_one.field-0.0 p.1 p.2 (elim (c.in_err-read_one.ensures.err tells) [
-      | inl machine ↦ inl (machine_before _ _ _ _ c.loop-property.invariant.count c.read_one.ensures.count machine)
+      | inl machine ↦ inl (machine_before _ _ _ _ c.loop-property.invariant.asks.count c.read_one.ensures.asks.count machine)
       | inr first ↦ inr (first_of_all (λ property. tree_faults property old) files index item _ less is (c.loop-property.invariant.fit tells)
           (ap (λ folder. first_of (tree_faults item folder)) (sym (c.loop-property.invariant.same tells)) ∙ first))
     ])
@@ -65,8 +65,7 @@ loop-property-preserved g c =
     let x : Read = c.in_ok-read_one.field-0 in
     let told : FileProperty → Prints = λ property. (property.name, digests_of (tree_of property old.files)) in
     record {
-      count = omega (arith, so_far.count, c.read_one.ensures.count);
-      tearing = SameTearing-chain _ _ _ so_far.tearing c.read_one.ensures.tearing;
+      asks = asks_then so_far.asks c.read_one.ensures.asks;
       same = λ tells. c.read_one.ensures.same tells ∙ so_far.same tells;
       named = name_more (λ (reading : Read). reading.0) (λ (property : FileProperty). property.name) readings next x files index item less is so_far.named added one.named;
       within =

@@ -1,6 +1,6 @@
 use Rattle.std.proofs.Common.{◌≡◌, ◌≤◌, [], take, map, IsTrue}
 use Rattle.std.specs.List.{AllZip, flat_map}
-use Rattle.gb_folder.specs.Files.{SameTearing}
+use Rattle.gb_folder.specs.Calls.{Asks, no_change}
 use Rattle.gb_tree.specs.Prints.{digests_of}
 use Rattle.gb_meaning.specs.Tree.{tree_faults, tree_of}
 use Rattle.gb_turn.specs.Reading.{AreWithin, IsPropertySeen, is_input_of, prints_read}
@@ -12,8 +12,7 @@ invariant-loop-property g l =
     let old = contents l.fn.folder in
     let done = take l.property-index l.task.files in
     record {
-      count : g.F.Folder.failures l.fn.folder ≤ g.F.Folder.failures l.folder;
-      tearing : SameTearing (g.F.Folder.may_leave l.fn.folder) (g.F.Folder.may_leave l.folder);
+      asks : Asks g.F.Folder.failures g.F.Folder.may_leave g.F.Folder.asked no_change l.fn.folder l.folder;
       same : IsTrue g.F.Folder.tells → contents l.folder ≡ old;
       named : map (λ reading. reading.0) l.readings.items ≡ map (λ property. property.name) done;
       within : AreWithin (is_input_of l.task) l.readings.items;

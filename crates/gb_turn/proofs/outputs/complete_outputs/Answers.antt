@@ -8,7 +8,7 @@ use Rattle.std.specs.Iterator.Adapters.{zip_second}
 use Rattle.std.specs.List.{AllByRecursion, zip}
 use Rattle.gb_action.specs.declared.output.Form.{Form}
 use Rattle.gb_action.specs.declared.output.OutputFiles.{OutputFiles}
-use Rattle.gb_folder.proofs.Changes.{SameTearing-chain}
+use Rattle.gb_folder.proofs.Asked.{asks_then}
 use Rattle.gb_folder.specs.Files.{Contents}
 use Rattle.gb_history.specs.Remembered.{Prints}
 use Rattle.gb_plan.specs.Task.{is_output_of}
@@ -51,7 +51,7 @@ returns-in_err-files-clause-err g c = λ tells seen.
     let turn = YieldsList-turn road c.loop-output.yielded c.loop-output.output-iterator c.loop-output.yielded_by c.next.result c.next.new.self _ c.in-Some.is c.next.ensures.steps in
     let stands = all_at (λ (pair : Output × Read). Stands old pair.1) pairs (length c.loop-output.yielded) x turn.0 turn.1 (pairs_stand old outputs readings seen) in
     at_err (λ r. IfErr r (IsOfMachine (failures c.args.folder.now) (failures c.complete_one.new.folder))) c.from_residual.result p.0 c.in_err-files.field-0.0 p.1 p.2
-    (machine_before _ _ _ _ c.loop-output.invariant.count c.complete_one.ensures.count
+    (machine_before _ _ _ _ c.loop-output.invariant.asks.count c.complete_one.ensures.asks.count
     (c.in_err-files.ensures.err tells (subst (λ (now : Contents). Stands now.files x.1) (sym (c.loop-output.invariant.same tells)) stands)))
 
 pub loop-output-preserved : goal.loop-output-preserved
@@ -78,8 +78,7 @@ loop-output-preserved g c =
     record {
       can_next = so_far.can_next;
       is_finite = so_far.is_finite;
-      count = omega (arith, so_far.count, c.complete_one.ensures.count);
-      tearing = SameTearing-chain _ _ _ so_far.tearing c.complete_one.ensures.tearing;
+      asks = asks_then so_far.asks c.complete_one.ensures.asks;
       same = λ tells. c.complete_one.ensures.same tells ∙ so_far.same tells;
       formed =
           gathered_more form_of (map told seen) (map told c.push-in-loop-output.new.self) (told made) pairs n x turn.0 turn.1

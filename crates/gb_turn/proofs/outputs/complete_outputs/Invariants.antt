@@ -1,6 +1,6 @@
 use Rattle.std.proofs.Common.{◌≡◌, ◌≤◌, IsTrue, length, map, take}
 use Rattle.std.specs.List.{AllByRecursion, zip}
-use Rattle.gb_folder.specs.Files.{SameTearing}
+use Rattle.gb_folder.specs.Calls.{Asks, no_change}
 use Rattle.gb_turn.specs.Reading.{prints_seen}
 use Rattle.gb_turn.proofs.Readings.{Stands, form_of, output_made}
 use Rattle.gb_turn.proofs.outputs.complete_outputs.Given as goal
@@ -14,8 +14,7 @@ invariant-loop-output g l =
     record {
       can_next : (goal.iterator-loop-output g).can_next l.output-iterator;
       is_finite : (goal.iterator-loop-output g).is_finite l.output-iterator;
-      count : g.F.Folder.failures l.fn.folder ≤ g.F.Folder.failures l.folder;
-      tearing : SameTearing (g.F.Folder.may_leave l.fn.folder) (g.F.Folder.may_leave l.folder);
+      asks : Asks g.F.Folder.failures g.F.Folder.may_leave g.F.Folder.asked no_change l.fn.folder l.folder;
       same : IsTrue g.F.Folder.tells → contents l.folder ≡ contents l.fn.folder;
       formed : map (λ output. (output.name, output.form)) l.seen ≡ map form_of done;
       digests : l.prints.items ≡ prints_seen l.seen;

@@ -4,7 +4,7 @@ use Rattle.std.proofs.lemmas.List.{take_all}
 use Rattle.std.specs.List.{AllByRecursion, AllZip, flat_map}
 use Rattle.gb_core.specs.Lists.{first_of}
 use Rattle.gb_core.specs.Place.{is_under}
-use Rattle.gb_folder.proofs.Changes.{SameTearing-chain}
+use Rattle.gb_folder.proofs.Asked.{asks_then}
 use Rattle.gb_folder.specs.Files.{Contents}
 use Rattle.gb_history.specs.Remembered.{Prints}
 use Rattle.gb_report.specs.declared.fault.Fault.{Fault}
@@ -44,7 +44,7 @@ returns-in_err-read_one-clause-err g c = λ tells.
     let is = subst (λ (os : List Output). item ≡ get_or os index item) c.as_slice-output-items.ensures c.output-item.is in
     let IsFault : Fault → Type 0 = CannotRead (g.F.Folder.failures c.args.folder.now) (g.F.Folder.failures c.read_one.new.folder) (flat_map (print_faults old) c.args.task.now.outputs) in
     at_err (λ r. IfErr r IsFault) c.from_residual.result p.0 c.in_err-read_one.field-0.0 p.1 p.2 (elim (c.in_err-read_one.ensures.err tells) [
-      | inl machine ↦ inl (machine_before _ _ _ _ c.loop-output.invariant.count c.read_one.ensures.count machine)
+      | inl machine ↦ inl (machine_before _ _ _ _ c.loop-output.invariant.asks.count c.read_one.ensures.asks.count machine)
       | inr first ↦ inr (first_of_all (print_faults old) outputs index item _ less is (c.loop-output.invariant.fit tells)
           (ap (λ folder. first_of (print_faults folder item)) (sym (c.loop-output.invariant.same tells)) ∙ first))
     ])
@@ -66,8 +66,7 @@ loop-output-preserved g c =
     let x : Read = c.in_ok-read_one.field-0 in
     let told : Output → Prints = λ output. (recorded_of old.files output).prints in
     record {
-      count = omega (arith, so_far.count, c.read_one.ensures.count);
-      tearing = SameTearing-chain _ _ _ so_far.tearing c.read_one.ensures.tearing;
+      asks = asks_then so_far.asks c.read_one.ensures.asks;
       same = λ tells. c.read_one.ensures.same tells ∙ so_far.same tells;
       named = name_more (λ (reading : Read). reading.0) (λ (output : Output). output.name) readings next x outputs index item less is so_far.named added one.named;
       within =

@@ -1,6 +1,6 @@
 use Rattle.std.proofs.Common.{◌≡◌, ◌≤◌, [], take, map, IsTrue}
 use Rattle.std.specs.List.{AllZip, flat_map}
-use Rattle.gb_folder.specs.Files.{SameTearing}
+use Rattle.gb_folder.specs.Calls.{Asks, no_change}
 use Rattle.gb_plan.specs.Task.{is_output_of}
 use Rattle.gb_turn.specs.Reading.{AreWithin, IsOutputSeen, print_faults, prints_read, recorded_of}
 use Rattle.gb_turn.proofs.outputs.read_outputs.Given as goal
@@ -11,8 +11,7 @@ invariant-loop-output g l =
     let old = contents l.fn.folder in
     let done = take l.output-index l.task.outputs in
     record {
-      count : g.F.Folder.failures l.fn.folder ≤ g.F.Folder.failures l.folder;
-      tearing : SameTearing (g.F.Folder.may_leave l.fn.folder) (g.F.Folder.may_leave l.folder);
+      asks : Asks g.F.Folder.failures g.F.Folder.may_leave g.F.Folder.asked no_change l.fn.folder l.folder;
       same : IsTrue g.F.Folder.tells → contents l.folder ≡ old;
       named : map (λ reading. reading.0) l.readings.items ≡ map (λ output. output.name) done;
       within : AreWithin (is_output_of l.task) l.readings.items;

@@ -9,5 +9,5 @@ use Rattle.gb_tree.proofs.kept.Reading.completed.Goals as goal
 pub returns-in_err-files-clause-blame : goal.returns-in_err-files-clause-blame
 returns-in_err-files-clause-blame g c =
     let p = err_from_is_err_and c.from_residual.result c.from_residual.ensures.1 in
-    blamed_before (λ at. IsTrue (is_among (entries_seen c.self.inside.files.items) at)) (λ at. IsTrue (is_among (entries_seen c.args.self.1) at)) _ _ _ _ c.in_err-files.field-0.0 p.0 (omega arith) c.in_err-files.ensures.count p.1 p.2
+    blamed_before (λ at. IsTrue (is_among (entries_seen c.self.inside.files.items) at)) (λ at. IsTrue (is_among (entries_seen c.args.self.1) at)) _ _ _ _ c.in_err-files.field-0.0 p.0 (omega arith) c.in_err-files.ensures.asks.count p.1 p.2
     (λ at h. subst (λ (value : List ℕ × List SeenFile). IsTrue (is_among (entries_seen value.1) at)) c.self.view_is h) c.in_err-files.ensures.blame

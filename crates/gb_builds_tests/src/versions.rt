@@ -1,0 +1,68 @@
+//! Builds from records of other programs: of an older version of a kind, and in the older form.
+use crate::building::{Step, bytes_at, go_on};
+use crate::offering::{Handed, offered, offered_anew};
+use gb_action::actions::Actions;
+use gb_core::place::Place;
+use gb_folder::folder::Folder;
+use gb_folder::memory::MemoryFolder;
+use gb_kinds::builtin::Builtin;
+use gb_provider::transforms::Transforms;
+use std::alloc::Global;
+use std::test::Fail;
+
+const SCRIPT: &str = "register gen : writeText(\"abc\") { outputFile out = file(\"build/a.txt\") }";
+
+const EXECUTED: &str = "> Task :gen\nBUILD SUCCESSFUL\n1 actionable task: 1 executed\n";
+
+const UP_TO_DATE: &str =
+    "> Task :gen UP-TO-DATE\nBUILD SUCCESSFUL\n1 actionable task: 1 up-to-date\n";
+
+const FIRST: [Step<'static>; 2] = [("put build.gb", SCRIPT, ""), ("run gen", "", EXECUTED)];
+
+const NEXT: [Step<'static>; 2] = [("run gen", "", EXECUTED), ("run gen", "", UP_TO_DATE)];
+
+const STILL: [Step<'static>; 1] = [("run gen", "", UP_TO_DATE)];
+
+/// The record that the first build leaves, in the form without versions of kinds.
+const OLDER: &str =
+    "{\"form\":1,\"tasks\":[{\"actions\":[{\"args\":[{\"text\":\"abc\"}],\"kind\":\"writeText\"}],\
+    \"files\":[],\"outputs\":[{\"name\":\"out\",\"place\":\"build/a.txt\",\"prints\":[[\"\",\
+    \"ba7816bf8f01cfea414140de5dae2223b00361a396177a9cb410ff61f20015ad\"]],\"shape\":\"file\"}],\
+    \"task\":\":gen\",\"values\":[]}]}\nd075510cbf1b60d97c23d1462bc14617e7d32f2285ef1b385b1956761cf96c72\n";
+
+/// The folder after the first build.
+fn first<A: Actions, T: Transforms>(
+    alloc: Global,
+    tables: &Handed<A, T>,
+) -> Result<MemoryFolder, Fail> {
+    let mut folder = MemoryFolder::new(alloc);
+    go_on::<A, T, MemoryFolder>(alloc, &mut folder, tables, &FIRST)?;
+    Ok(folder)
+}
+
+#[test]
+fn a_newer_version_of_a_kind_runs_once_more(rt: HostRuntime) -> Result<(), Fail> {
+    let alloc = rt.alloc();
+    let tables = offered(alloc)?;
+    let mut folder = first::<Builtin, Builtin>(alloc, &tables)?;
+    let newer = offered_anew(alloc)?;
+    go_on::<Builtin, Builtin, MemoryFolder>(alloc, &mut folder, &newer, &NEXT)
+}
+
+#[test]
+fn a_record_in_the_older_form_counts(rt: HostRuntime) -> Result<(), Fail> {
+    let alloc = rt.alloc();
+    let tables = offered(alloc)?;
+    let mut folder = first::<Builtin, Builtin>(alloc, &tables)?;
+    let place = Place::read(alloc, ".gb/tasks/gen.record")?;
+    if folder.write(&place, OLDER.as_bytes(), 1000).is_err() {
+        return Err(Fail::new("the record cannot be put"));
+    }
+    go_on::<Builtin, Builtin, MemoryFolder>(alloc, &mut folder, &tables, &STILL)?;
+    let kept = bytes_at(alloc, &mut folder, ".gb/tasks/gen.record")?;
+    if kept.as_slice() == OLDER.as_bytes() {
+        Ok(())
+    } else {
+        Err(Fail::new("the record was written anew"))
+    }
+}

@@ -1,0 +1,7 @@
+use Rattle.std.proofs.Common.{rules}
+use Rattle.gb_folder.specs.Calls.{Removes}
+use Rattle.gb_folder.proofs.Asked.{one_call, taking_permitted}
+use Rattle.gb_disk.proofs.disk.DiskFolderFolder.remove.Goals as goal
+
+pub returns-clause-asks : goal.returns-clause-asks
+returns-clause-asks g c = one_call (Removes c.args.place.now c.counted.result) (taking_permitted c.args.place.now) (search rules) (search rules) tt

@@ -1,0 +1,37 @@
+-- What is wrong with pages.
+use Rattle.std.specs.Prelude.{ℕ, ◌+◌, ◌==◌, List, [], ◌∷◌, ◌++◌, if◌then◌else◌, codes, decimal, nat_eq, take}
+use Rattle.std.specs.Prelude.{Option, None, Some, count_by}
+use Rattle.std.specs.List.{starts_with}
+use Rattle.std.specs.Option.{option_map, option_or}
+use Rattle.std.specs.Str.{is_utf8}
+use Rattle.std.specs.Str.Lossy.{utf8_valid_len}
+use Rattle.gb_core.specs.declared.value.Value.{Value}
+use Rattle.gb_action.specs.Files.{Tree, Trees, tree_at}
+use Rattle.gb_action.specs.Shapes.{source}
+
+-- the line on which the first byte stands that is no text
+abbrev pub bad_line : List ℕ → ℕ
+bad_line bytes = count_by (λ b. b == 10) (take (utf8_valid_len bytes) bytes) + 1
+
+abbrev pub no_text : ℕ → List ℕ
+no_text line = decimal line ++ codes ": not UTF-8"
+
+-- a page begins with a heading
+abbrev pub wrong_text : List ℕ → Option (List ℕ)
+wrong_text bytes = if starts_with nat_eq bytes (codes "# ") then None else Some (codes "1: no heading")
+
+-- and is a text
+abbrev pub wrong : List ℕ → Option (List ℕ)
+wrong bytes = if is_utf8 bytes then wrong_text bytes else Some (no_text (bad_line bytes))
+
+-- behind the path of the page
+abbrev pub wrong_at : List ℕ → List ℕ → Option (List ℕ)
+wrong_at path bytes = option_map (λ text. path ++ codes ":" ++ text) (wrong bytes)
+
+-- the first of all pages in the order of their paths
+abbrev pub first_wrong : Tree → Option (List ℕ)
+first_wrong [] = None
+first_wrong (file ∷ files) = option_or (wrong_at file.0 file.1) (first_wrong files)
+
+abbrev pub wrong_in : List Value → Trees → Option (List ℕ)
+wrong_in arguments trees = first_wrong (tree_at trees source)

@@ -1,0 +1,6 @@
+pub mod Pieces
+pub mod Inline
+pub mod Markdown
+pub mod Laws
+pub mod Checked
+pub mod Paths

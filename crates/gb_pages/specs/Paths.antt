@@ -1,0 +1,106 @@
+-- Where pages stand, and what is made of all pages at once.
+use Rattle.std.specs.Prelude.{ℕ, ◌-◌, ◌&&◌, Bool, List, [], ◌∷◌, ◌++◌, if◌then◌else◌, codes, bytes_eq, length}
+use Rattle.std.specs.Prelude.{take, drop, Option, None, Some, Result, Ok, Err, is_some}
+use Rattle.std.specs.List.{flat_map}
+use Rattle.std.specs.Str.{is_utf8}
+use Rattle.memchr.specs.Find.{first_of, matches}
+use Rattle.bstr.specs.Text.{replaced_at}
+use Rattle.gb_core.specs.Place.{is_rel_path}
+use Rattle.gb_core.specs.declared.value.Value.{Value}
+use Rattle.gb_action.specs.Files.{Tree, Trees, tree_at}
+use Rattle.gb_action.specs.Shapes.{source}
+use Rattle.gb_kinds.specs.Builtin.{first_text}
+use Rattle.gb_pages.specs.Pieces.{Piece, Open, Close, Link, Text, written}
+use Rattle.gb_pages.specs.declared.page.Element.TheVariants as elements
+
+-- the path that these bytes are, if they are one
+abbrev pub as_path : List ℕ → Option (List ℕ)
+as_path text = if is_utf8 text && is_rel_path text then Some text else None
+
+-- what stands before `.md`
+abbrev pub stem : List ℕ → Option (List ℕ)
+stem path =
+    if bytes_eq (drop (length path - 3) path) (codes ".md") then Some (take (length path - 3) path) else None
+
+-- the path of the page of a text: `.html` stands in place of `.md`
+abbrev pub page_path : Option (List ℕ) → Option (List ℕ)
+page_path None = None
+page_path (Some front) = as_path (front ++ codes ".html")
+
+-- ---- Pages in a layout
+
+-- `{{NAME}}`
+abbrev pub token : List ℕ → List ℕ
+token name = codes "{{" ++ name ++ codes "}}"
+
+abbrev pub has_token : List ℕ → List ℕ → Bool
+has_token sign layout = is_some (first_of (matches layout sign 0))
+
+-- the layout with a page in place of each token
+abbrev pub filled : List ℕ → List ℕ → List ℕ → List ℕ
+filled sign layout page = replaced_at layout (length sign) page 0 (matches layout sign 0)
+
+-- the file of a page
+abbrev pub page_at : List ℕ → List ℕ → List ℕ × List ℕ → Option (List ℕ) → Result (List ℕ × List ℕ) (List ℕ)
+page_at sign layout file None = Err (file.0 ++ codes ": no path of a page")
+page_at sign layout file (Some path) = Ok (path, filled sign layout file.1)
+
+abbrev pub onto : Result (List ℕ × List ℕ) (List ℕ) → Result Tree (List ℕ) → Result Tree (List ℕ)
+onto (Err text) others = Err text
+onto (Ok page) (Err text) = Err text
+onto (Ok page) (Ok pages) = Ok (page ∷ pages)
+
+abbrev pub all_pages : List ℕ → List ℕ → Tree → Result Tree (List ℕ)
+all_pages sign layout [] = Ok []
+all_pages sign layout (file ∷ files) =
+    onto (page_at sign layout file (page_path (stem file.0))) (all_pages sign layout files)
+
+-- pages behind those that are made
+abbrev pub behind : Tree → Result Tree (List ℕ) → Result Tree (List ℕ)
+behind made (Err text) = Err text
+behind made (Ok pages) = Ok (made ++ pages)
+
+-- the pages of all files in a layout that has a token
+abbrev pub in_layout : List ℕ → Tree → List ℕ → List ℕ → Result Tree (List ℕ)
+in_layout sign files path layout =
+    if has_token sign layout then all_pages sign layout files else Err (path ++ codes ": no " ++ sign)
+
+abbrev pub unless_more : Tree → Result Tree (List ℕ) → Result Tree (List ℕ)
+unless_more [] made = made
+unless_more (file ∷ files) made = Err (codes "more than one layout")
+
+-- there is one layout
+abbrev pub laid_out : List ℕ → Tree → Tree → Result Tree (List ℕ)
+laid_out name files [] = Err (codes "no layout")
+laid_out name files (layout ∷ others) = unless_more others (in_layout (token name) files layout.0 layout.1)
+
+abbrev pub templated : List Value → Trees → Result Tree (List ℕ)
+templated arguments trees =
+    laid_out (first_text arguments) (tree_at trees source) (tree_at trees (codes "layout"))
+
+-- ---- The page that links all pages
+
+abbrev pub entry : Option (List ℕ) → Option (List ℕ) → List Piece
+entry (Some front) (Some path) =
+    Open elements.Item ∷ Link path ∷ Text front ∷ Close elements.Anchor ∷ Close elements.Item
+    ∷ Text (10 ∷ []) ∷ []
+entry None path = []
+entry (Some front) None = []
+
+abbrev pub entries : Tree → List Piece
+entries files = flat_map (λ file. entry (stem file.0) (page_path (stem file.0))) files
+
+abbrev pub begun : List ℕ → List Piece
+begun title =
+    Open elements.HeadingOne ∷ Text title ∷ Close elements.HeadingOne ∷ Text (10 ∷ [])
+    ∷ Open elements.Items ∷ Text (10 ∷ []) ∷ []
+
+abbrev pub ended_list : List Piece
+ended_list = Close elements.Items ∷ Text (10 ∷ []) ∷ []
+
+abbrev pub index_page : List ℕ → Tree → List Piece
+index_page title files = begun title ++ (entries files ++ ended_list)
+
+abbrev pub indexed : List Value → Trees → Result Tree (List ℕ)
+indexed arguments trees =
+    Ok ((codes "index.html", written (index_page (first_text arguments) (tree_at trees source))) ∷ [])

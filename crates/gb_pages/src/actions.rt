@@ -1,0 +1,38 @@
+//! The kinds of pages by name.
+ghost use Rattle.std.specs.Prelude.{◌≡◌, ◌∷◌, [], codes, IfOk};
+ghost use Rattle.gb_with.specs.declared.both.Either.TheVariants.{First, Second};
+
+use crate::checked::CheckPages;
+use crate::kinds::Markdown;
+use crate::listing::Index;
+use crate::template::Template;
+use gb_action::actions::Actions;
+use gb_action::table::{ActionTable, TableFault};
+use gb_with::beside::{beside, only};
+use gb_with::both::Both;
+use gb_with::by_file::ByFile;
+use gb_with::of_trees::{Checks, OfTrees};
+use std::alloc::Global;
+
+/// All kinds of pages.
+pub type Pages = Both<
+    ByFile<Markdown>,
+    Both<OfTrees<Template>, Both<OfTrees<Index>, Checks<CheckPages>>>,
+>;
+
+/// The table of all kinds of pages, each in its first version.
+pub fn page_actions(alloc: Global) -> Result<ActionTable<<Pages as Actions>::Stored>, TableFault>
+    ensures { IfOk result (λ table. table ≡ (codes "markdown", First 1) ∷ (codes "template", Second (First 1))
+        ∷ (codes "index", Second (Second (First 1)))
+        ∷ (codes "checkPages", Second (Second (Second 1))) ∷ []) }
+{
+    let markdown = only::<ByFile<Markdown>>(alloc, "markdown", 1)?;
+    let template = only::<OfTrees<Template>>(alloc, "template", 1)?;
+    let index = only::<OfTrees<Index>>(alloc, "index", 1)?;
+    let check = only::<Checks<CheckPages>>(alloc, "checkPages", 1)?;
+    beside(
+        alloc,
+        markdown,
+        beside(alloc, template, beside(alloc, index, check)?)?,
+    )
+}

@@ -1,0 +1,101 @@
+//! Pages that are none: the kind `checkPages`.
+ghost use Rattle.std.specs.Prelude.{◌≡◌, ◌≤◌, ◌+◌, ◌==◌, length, take, count_by, IfOk};
+ghost use Rattle.gb_pages.specs.Checked.{no_text, wrong, wrong_text, wrong_at, first_wrong};
+
+use gb_action::shape::ArgList;
+use gb_action::snapshot::Snapshots;
+use gb_action::values::Arguments;
+use gb_core::bytes::Bytes;
+use gb_core::place::RelPath;
+use gb_core::text::Text;
+use gb_kinds::names::source_name;
+use gb_with::tree_kind::CheckKind;
+use std::alloc::{AllocError, Global};
+use std::str;
+
+/// The kind `checkPages`, without arguments: it fails with the path, the line and what is wrong there, of the
+/// first page that is no text or does not begin with a heading.
+#[derive(Drop)]
+pub struct CheckPages;
+
+impl CheckKind for CheckPages {
+    ghost use Rattle.std.specs.Prelude.{[]};
+    ghost use Rattle.gb_pages.specs.Checked.{wrong_in};
+
+    ghost takes = { [] };
+
+    ghost finds = { wrong_in };
+
+    fn takes(alloc: Global) -> Result<ArgList, AllocError> {
+        Ok(ArgList::new(alloc))
+    }
+
+    fn find(
+        alloc: Global,
+        _arguments: &Arguments,
+        trees: &Snapshots,
+    ) -> Result<Option<Text>, AllocError> {
+        match trees.get(&source_name(alloc)?) {
+            Some(files) => first_wrong(alloc, files.as_slice()),
+            None => Ok(None),
+        }
+    }
+}
+
+/// What is wrong with the first page that is none.
+fn first_wrong(alloc: Global, files: &[(RelPath, Bytes)]) -> Result<Option<Text>, AllocError>
+    ensures { IfOk result (λ found. found ≡ first_wrong files.now) }
+{
+    for (path, bytes) in files {
+        let found = wrong_at(alloc, path, bytes.as_slice())?;
+        if found.is_some() {
+            return Ok(found);
+        }
+    }
+    Ok(None)
+}
+
+/// What is wrong with the page at the path.
+fn wrong_at(alloc: Global, path: &RelPath, bytes: &[u8]) -> Result<Option<Text>, AllocError>
+    ensures { IfOk result (λ found. found ≡ wrong_at path.now bytes.now) }
+{
+    match wrong(alloc, bytes)? {
+        Some(text) => Ok(Some(Text::new(format!(in alloc; "{path}:{text}")?))),
+        None => Ok(None),
+    }
+}
+
+/// What is wrong with a page, behind its line.
+fn wrong(alloc: Global, bytes: &[u8]) -> Result<Option<Text>, AllocError>
+    ensures { IfOk result (λ found. found ≡ wrong bytes.now) }
+{
+    match str::from_utf8(bytes) {
+        Ok(_) => wrong_text(alloc, bytes),
+        Err(fault) => no_text(alloc, line_of(bytes, fault.valid_up_to())),
+    }
+}
+
+/// What is wrong with a text.
+fn wrong_text(alloc: Global, bytes: &[u8]) -> Result<Option<Text>, AllocError>
+    ensures { IfOk result (λ found. found ≡ wrong_text bytes.now) }
+{
+    if bytes.starts_with(b"# ") {
+        return Ok(None);
+    }
+    Ok(Some(Text::from_str(alloc, "1: no heading")?))
+}
+
+/// What is told of bytes that are no text from a line on.
+fn no_text(alloc: Global, line: usize) -> Result<Option<Text>, AllocError>
+    ensures { IfOk result (λ found. found ≡ Some (no_text line)) }
+{
+    Ok(Some(Text::new(format!(in alloc; "{line}: not UTF-8")?)))
+}
+
+/// The line on which the byte at an index stands, counted from 1.
+fn line_of(bytes: &[u8], index: usize) -> usize
+    requires { index ≤ length bytes.now }
+    ensures { result ≡ count_by (λ b. b == 10) (take index bytes.now) + 1 }
+{
+    bytes[..index].iter().filter(|byte| **byte == b'\n').count() + 1
+}

@@ -1,0 +1,18 @@
+//! Pages of a site, of text in a small part of Markdown.
+//!
+//! A page is read line by line: `# `, `## ` and `### ` begin a heading, `- ` an item of a list, three
+//! backquotes alone begin and end a block of code, an empty line ends a block, and other lines are a
+//! paragraph. In all of these but a block of code, a backquote begins and ends code, `[label](address)` is a
+//! link, and `*` begins and ends emphasis. Any bytes are a page; what they are in is up to who reads them.
+#![tactic(auto)]
+
+pub mod actions;
+pub mod checked;
+pub mod inline;
+pub mod kinds;
+pub mod laws;
+pub mod listing;
+pub mod markdown;
+pub mod page;
+pub mod paths;
+pub mod template;

@@ -1,0 +1,92 @@
+//! The pieces of a page, written one behind the other.
+ghost use Rattle.std.specs.Prelude.{◌≡◌, ◌++◌, ◌∷◌, [], OnOk};
+ghost use Rattle.gb_pages.specs.Pieces.{name_of, escaped, escaped_byte, piece_text, Open, Close, Link, Text};
+
+use std::alloc::AllocError;
+
+/// What has a beginning and an end.
+#[derive(Clone, Copy, Debug, PartialEq, Eq)]
+pub enum Element {
+    HeadingOne,
+    HeadingTwo,
+    HeadingThree,
+    Paragraph,
+    Items,
+    Item,
+    Emphasis,
+    Code,
+    Block,
+    Anchor,
+}
+
+impl Element {
+    pub fn name(self) -> &'static [u8]
+        ensures { result.now ≡ name_of self }
+    {
+        match self {
+            Element::HeadingOne => b"h1",
+            Element::HeadingTwo => b"h2",
+            Element::HeadingThree => b"h3",
+            Element::Paragraph => b"p",
+            Element::Items => b"ul",
+            Element::Item => b"li",
+            Element::Emphasis => b"em",
+            Element::Code => b"code",
+            Element::Block => b"pre",
+            Element::Anchor => b"a",
+        }
+    }
+}
+
+/// Begins an element.
+pub fn open(page: &mut Vec<u8>, element: Element) -> Result<(), AllocError>
+    ensures { OnOk result (page.new.items ≡ page.old.items ++ piece_text (Open element)) }
+{
+    page.push(b'<')?;
+    page.extend_from_slice(element.name())?;
+    page.push(b'>')?;
+    Ok(())
+}
+
+/// Ends an element.
+pub fn close(page: &mut Vec<u8>, element: Element) -> Result<(), AllocError>
+    ensures { OnOk result (page.new.items ≡ page.old.items ++ piece_text (Close element)) }
+{
+    page.extend_from_slice(b"</")?;
+    page.extend_from_slice(element.name())?;
+    page.push(b'>')?;
+    Ok(())
+}
+
+/// Begins a link to an address; [`Element::Anchor`] ends it.
+pub fn link(page: &mut Vec<u8>, address: &[u8]) -> Result<(), AllocError>
+    ensures { OnOk result (page.new.items ≡ page.old.items ++ piece_text (Link address.now)) }
+{
+    page.extend_from_slice(b"<a href=\"")?;
+    text(page, address)?;
+    page.extend_from_slice(b"\">")?;
+    Ok(())
+}
+
+/// Writes a text, with its signs escaped that mean something on a page.
+pub fn text(page: &mut Vec<u8>, text: &[u8]) -> Result<(), AllocError>
+    ensures { OnOk result (page.new.items ≡ page.old.items ++ escaped text.now) }
+{
+    for byte in text {
+        escape(page, *byte)?;
+    }
+    Ok(())
+}
+
+fn escape(page: &mut Vec<u8>, byte: u8) -> Result<(), AllocError>
+    ensures { OnOk result (page.new.items ≡ page.old.items ++ escaped_byte byte) }
+{
+    match byte {
+        b'<' => page.extend_from_slice(b"&lt;")?,
+        b'>' => page.extend_from_slice(b"&gt;")?,
+        b'&' => page.extend_from_slice(b"&amp;")?,
+        b'"' => page.extend_from_slice(b"&quot;")?,
+        _ => page.push(byte)?,
+    }
+    Ok(())
+}

@@ -1,0 +1,68 @@
+-- What was answered on a part of the way was answered on all of it.
+use Rattle.std.specs.Prelude.{ℕ, ◌≡◌, List, [], ◌∷◌, Option, Some, None, Result, Ok, Err, IfOk}
+use Rattle.std.proofs.Common.{refl, subst, sym}
+use Rattle.std.specs.List.{AllZip}
+use Rattle.gb_core.specs.declared.place.PlaceFault.{PlaceFault}
+use Rattle.gb_core.specs.declared.place.PlaceFault.TheVariants as places
+use Rattle.gb_folder.specs.Calls.{Asks, Call, Reads, no_change}
+use Rattle.gb_folder.specs.Files.{Bytes, Place, Tearing}
+use Rattle.gb_folder.specs.declared.folder.FolderFault.{FolderFault}
+use Rattle.gb_folder.specs.declared.folder.FolderFault.TheVariants as folders
+use Rattle.gb_folder.proofs.Asked.{asks_nothing, asks_then}
+use Rattle.gb_history.specs.Remembered.{Remembered}
+use Rattle.gb_history.specs.Places.{record_place}
+use Rattle.gb_meaning.specs.Events.{max_record}
+use Rattle.gb_plan.specs.Task.{Path}
+use Rattle.gb_report.specs.declared.fault.Fault.{Fault}
+use Rattle.gb_report.specs.declared.fault.Fault.TheVariants as faults
+use Rattle.gb_records.specs.Answered.{IsOnWay, WasAnswered}
+use Rattle.gb_records.specs.Faults.{none_for}
+use Rattle.gb_records.specs.Said.{IsReadAs, IsText, said_of}
+
+-- where there is no place for a record, none was answered
+pub none_placed : {F : Type 0} (failures : F → ℕ) (may_leave : F → Tearing) (asked : F → Call → F → Type 0) (old new : F) (path : Path) (fault : PlaceFault) (result : Result (Option Remembered) Fault) → (fault ≡ places.BadPlace → result ≡ Ok None)
+    → (fault ≡ places.OutOfMemory → result ≡ Err faults.OutOfMemory) → IfOk result (WasAnswered failures may_leave asked old new path)
+none_placed failures may_leave asked old new path places.BadPlace result bad out = subst (λ (r : Result (Option Remembered) Fault). IfOk r (WasAnswered failures may_leave asked old new path)) (sym (bad refl)) tt
+none_placed failures may_leave asked old new path places.OutOfMemory result bad out = subst (λ (r : Result (Option Remembered) Fault). IfOk r (WasAnswered failures may_leave asked old new path)) (sym (out refl)) tt
+
+-- nor where none stands
+pub none_stood : {F : Type 0} (failures : F → ℕ) (may_leave : F → Tearing) (asked : F → Call → F → Type 0) (old new : F) (path : Path) (place : Place) (fault : FolderFault) → IfOk (none_for place fault) (WasAnswered failures may_leave asked old new path)
+none_stood failures may_leave asked old new path place folders.OutOfMemory = tt
+none_stood failures may_leave asked old new path place folders.Device = tt
+none_stood failures may_leave asked old new path place folders.Missing = tt
+none_stood failures may_leave asked old new path place folders.Blocked = tt
+none_stood failures may_leave asked old new path place folders.TooLarge = tt
+none_stood failures may_leave asked old new path place folders.BadFileName = tt
+
+module _ {F : Type 0} {failures : F → ℕ} {may_leave : F → Tearing} {asked : F → Call → F → Type 0} where
+  on_longer_way : (call : Call) (first old new last : F) → Asks failures may_leave asked no_change first old → Asks failures may_leave asked no_change new last
+      → IsOnWay failures may_leave asked call old new → IsOnWay failures may_leave asked call first last
+  on_longer_way call first old new last before behind way =
+      record { before = way.before; after = way.after; first = asks_then before way.first; is = way.is; rest = asks_then way.rest behind }
+
+  pub answered_longer : (first old new last : F) → Asks failures may_leave asked no_change first old → Asks failures may_leave asked no_change new last
+      → (path : Path) (read : Option Remembered) → WasAnswered failures may_leave asked old new path read → WasAnswered failures may_leave asked first last path read
+  answered_longer first old new last before behind path None was = was
+  answered_longer first old new last before behind path (Some run) was = (was.0, was.1, on_longer_way _ first old new last before behind was.2)
+
+  pub all_answered_longer : (first old new last : F) → Asks failures may_leave asked no_change first old → Asks failures may_leave asked no_change new last
+      → (paths : List Path) (read : List (Option Remembered)) → AllZip (WasAnswered failures may_leave asked old new) paths read → AllZip (WasAnswered failures may_leave asked first last) paths read
+  all_answered_longer first old new last before behind [] [] all = all
+  all_answered_longer first old new last before behind [] (x ∷ xs) all = all
+  all_answered_longer first old new last before behind (path ∷ paths) [] all = all
+  all_answered_longer first old new last before behind (path ∷ paths) (x ∷ xs) all =
+      (answered_longer first old new last before behind path x all.0, all_answered_longer first old new last before behind paths xs all.1)
+
+  -- what is read in an answer was answered
+  pub answered_here : (old new : F) (path : Path) (bytes : Bytes) (result : Result (Option Remembered) Fault) → Asks failures may_leave asked no_change old new
+      → asked old (Reads (record_place path) max_record (Ok bytes)) new → IfOk result (IsReadAs path (Some bytes)) → IfOk result (WasAnswered failures may_leave asked old new path)
+  answered_here old new path bytes (Err fault) asks call read = tt
+  answered_here old new path bytes (Ok None) asks call read = tt
+  answered_here old new path bytes (Ok (Some run)) asks call read = (
+    bytes,
+    subst (λ (b : Bytes). IsText path (said_of run) b) (sym (same bytes read.0 read.1)) read.2,
+    record { before = old; after = new; first = asks_nothing old; is = call; rest = asks_nothing new },
+  )
+    where
+      same : (a b : Bytes) → Some a ≡ Some b → a ≡ b
+      same a b is = cc

@@ -1,0 +1,79 @@
+-- What a task's turn asks of a folder, whichever it is: at which places, and which records it puts in.
+use Rattle.std.specs.Prelude.{◌≡◌, ◌⊎◌, List, map, Option, Some, None, IsTrue}
+use Rattle.gb_action.specs.Changes.{Changes}
+use Rattle.gb_action.specs.Files.{Trees}
+use Rattle.gb_action.specs.Meanings.{Meanings}
+use Rattle.gb_action.specs.declared.output.OutputFiles.{OutputFiles}
+use Rattle.gb_folder.specs.Calls.{Permit}
+use Rattle.gb_folder.specs.Files.{Bytes, Files, IsFolder, Place, are_placed}
+use Rattle.gb_history.specs.Places.{record_place}
+use Rattle.gb_history.specs.Remembered.{Remembered}
+use Rattle.gb_history.specs.Text.{record_text}
+use Rattle.gb_incremental.specs.Asking.{GoesOn}
+use Rattle.gb_meaning.specs.Headline.{Agrees}
+use Rattle.gb_meaning.specs.Kinds.{Kinds}
+use Rattle.gb_meaning.specs.Label.{has_one_writer}
+use Rattle.gb_plan.specs.Ready.{Rows}
+use Rattle.gb_plan.specs.Task.{is_output_of, seen_files, seen_outputs}
+use Rattle.gb_plan.specs.declared.task.TaskDeclaration.{TaskDeclaration as Task}
+use Rattle.gb_report.specs.declared.report.Options.{Options}
+use Rattle.gb_task.specs.Anew.{AreDecided}
+use Rattle.gb_task.specs.Keeping.{IsRecordOf}
+use Rattle.gb_task.specs.Turned.{is_of_turn}
+
+-- Files are taken away at the task's outputs and at its record; they are put at its outputs, and one with such a
+-- text at its record.
+unfoldable pub in_turn_with : Task → (Bytes → Type 0) → Permit
+in_turn_with task text place None = IsTrue (is_of_turn task place)
+in_turn_with task text place (Some bytes) =
+    IsTrue (is_output_of task place) ⊎ ((place ≡ record_place task.path) × text bytes)
+
+-- ---- The text of a record, by the run that it is put in for
+
+-- of a run in full on these trees: whatever kinds the table agrees with, the record has the digests of what the
+-- task's actions make of them
+unfoldable pub IsTextIn : {S : Type 0} → Meanings S → Rows S → Task → Trees → Bytes → Type 0
+IsTextIn meanings rows task trees bytes =
+    (run : Remembered) × (bytes ≡ record_text task.path run)
+    × ((kinds : Kinds) → Agrees meanings rows kinds → IsRecordOf kinds task trees run)
+
+-- of a run by these changes from outputs as they were seen: the same, where these were made of old trees from
+-- which the changes lead to the new ones
+unfoldable pub IsTextBy : {S : Type 0} → Meanings S → Rows S → Task → Trees → List Changes → List OutputFiles
+    → Bytes → Type 0
+IsTextBy meanings rows task trees changes seen bytes =
+    (run : Remembered) × (bytes ≡ record_text task.path run)
+    × ((kinds : Kinds) → Agrees meanings rows kinds → (old : Trees) (standing : Files) → IsFolder standing
+    → IsTrue (are_placed standing) → GoesOn kinds task old trees changes seen standing
+    → IsRecordOf kinds task trees run)
+
+-- of a run that was decided anew from what a record says: in full, or on from outputs as they were seen by the
+-- changes that the record tells on the digests of just these trees and outputs
+pub record IsTextOn {S : Type 0} (meanings : Meanings S) (rows : Rows S) (options : Options) (task : Task)
+    (last : Remembered) (bytes : Bytes) : Type 0 where
+  pub trees : Trees
+  pub changes : List Changes
+  pub seen : List OutputFiles
+  pub named : map (λ tree. tree.0) trees ≡ seen_files task.files
+  pub formed : map (λ output. (output.name, output.form)) seen ≡ seen_outputs task.outputs
+  pub decided : AreDecided options task last trees seen changes
+  pub text : IsTextBy meanings rows task trees changes seen bytes
+
+unfoldable pub IsInFull : {S : Type 0} → Meanings S → Rows S → Task → Bytes → Type 0
+IsInFull meanings rows task bytes = (trees : Trees) × IsTextIn meanings rows task trees bytes
+
+unfoldable pub IsTextAnew : {S : Type 0} → Meanings S → Rows S → Options → Task → Remembered → Bytes → Type 0
+IsTextAnew meanings rows options task last bytes =
+    IsInFull meanings rows task bytes ⊎ IsTextOn meanings rows options task last bytes
+
+-- of a run of the task, from the record that was read of it: in full, or on from what that says, where one action
+-- of the task writes files
+abbrev pub IsTextFrom : {S : Type 0} → Meanings S → Rows S → Options → Task → Option Remembered → Bytes → Type 0
+IsTextFrom meanings rows options task None bytes = IsInFull meanings rows task bytes
+IsTextFrom meanings rows options task (Some last) bytes =
+    IsInFull meanings rows task bytes
+    ⊎ (IsTextOn meanings rows options task last bytes
+    × ((kinds : Kinds) → Agrees meanings rows kinds → IsTrue (has_one_writer kinds task.actions)))
+
+unfoldable pub IsTextOf : {S : Type 0} → Meanings S → Rows S → Options → Task → Option Remembered → Bytes → Type 0
+IsTextOf meanings rows options task last bytes = IsTextFrom meanings rows options task last bytes

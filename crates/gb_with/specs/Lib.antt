@@ -1,0 +1,4 @@
+pub mod Both
+pub mod Own
+pub mod FileKinds
+pub mod TreeKinds

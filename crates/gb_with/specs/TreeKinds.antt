@@ -1,0 +1,72 @@
+-- What kinds make that work on all files at once.
+use Rattle.std.specs.Prelude.{ℕ, ◌≡◌, true, false, List, [], Option, None, Some, Result, Ok, Err}
+use Rattle.gb_core.specs.declared.value.Value.{Value}
+use Rattle.gb_action.specs.Files.{Tree, Trees}
+use Rattle.gb_action.specs.Meanings.{Making, Printing, Values}
+use Rattle.gb_action.specs.declared.output.Form.{Form}
+use Rattle.gb_action.specs.declared.reply.ActionFault.{ActionFault}
+use Rattle.gb_action.specs.declared.reply.ActionFault.TheVariants.{ActionFailed, OutOfMemory}
+use Rattle.gb_action.specs.declared.reply.Reply.{Reply}
+use Rattle.gb_action.specs.declared.reply.Written.{Written}
+use Rattle.gb_action.specs.declared.shape.Arg.{Arg}
+use Rattle.gb_action.specs.declared.shape.Shape.{Shape}
+use Rattle.gb_kinds.specs.ByFile.{by_file}
+use Rattle.gb_kinds.specs.Own.{are_own, moved, own_by_file}
+use Rattle.std.proofs.Common.{refl}
+
+-- the failure is the one that is meant, unless it is want of memory
+abbrev pub IsFailure : {A : Type 0} → ActionFault → Result A (List ℕ) → Type 0
+IsFailure (ActionFailed text) meant = meant ≡ Err text
+IsFailure OutOfMemory meant = Unit {0}
+
+-- a kind that reads files, and runs in full
+abbrev pub in_full : List Arg → Option Form → Shape
+in_full args out = record { args = args; src = true; out = out; incremental = false }
+
+-- files of the output that kinds write
+abbrev pub as_written : Tree → List Written
+as_written files = by_file (λ bytes. bytes) files
+
+abbrev pub reply_of : Tree → Reply
+reply_of files = record { removes = []; writes = as_written files; lines = [] }
+
+abbrev pub written_or : Result Tree (List ℕ) → Result (List Written) (List ℕ)
+written_or (Ok files) = Ok (as_written files)
+written_or (Err text) = Err text
+
+abbrev pub makes_of_trees : (List Value → Trees → Result Tree (List ℕ)) → Making
+makes_of_trees makes arguments values trees = written_or (makes arguments trees)
+
+-- nothing is made where nothing is found
+abbrev pub nothing_or : Option (List ℕ) → Result (List Written) (List ℕ)
+nothing_or None = Ok []
+nothing_or (Some text) = Err text
+
+abbrev pub makes_nothing : (List Value → Trees → Option (List ℕ)) → Making
+makes_nothing finds arguments values trees = nothing_or (finds arguments trees)
+
+abbrev pub prints_nothing : Printing
+prints_nothing arguments values trees changes = []
+
+-- ---- All of it is the output's own
+
+written-own : (made : Result Tree (List ℕ)) (written : List Written) → written_or made ≡ Ok written
+    → are_own true written ≡ true
+written-own (Ok files) written e =
+    moved true (as_written files) written e (own_by_file (λ bytes. bytes) files)
+written-own (Err text) written e = absurd (cc)
+
+pub of_trees-own : (makes : List Value → Trees → Result Tree (List ℕ)) (arguments : List Value)
+    (values : Values) (trees : Trees) (written : List Written)
+    → makes_of_trees makes arguments values trees ≡ Ok written → are_own true written ≡ true
+of_trees-own makes arguments values trees = written-own (makes arguments trees)
+
+nothing-own : (found : Option (List ℕ)) (written : List Written) → nothing_or found ≡ Ok written
+    → are_own false written ≡ true
+nothing-own None written e = moved false [] written e refl
+nothing-own (Some text) written e = absurd (cc)
+
+pub nothing_made-own : (finds : List Value → Trees → Option (List ℕ)) (arguments : List Value)
+    (values : Values) (trees : Trees) (written : List Written)
+    → makes_nothing finds arguments values trees ≡ Ok written → are_own false written ≡ true
+nothing_made-own finds arguments values trees = nothing-own (finds arguments trees)

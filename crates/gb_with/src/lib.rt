@@ -1,0 +1,15 @@
+//! Kinds of a program's own, beside the built-in ones and each other.
+//!
+//! Who has a function on bytes writes it as a [`file_kind::FileKind`] and has with it a kind of actions:
+//! [`by_file::ByFile`] gives its shape, what it makes and prints, its answers to changes, and that it
+//! writes nothing but its own output, all proved here once. [`both::Both`] puts naming types side by side,
+//! so that one table holds the kinds of all.
+#![tactic(auto)]
+
+pub mod beside;
+pub mod both;
+pub mod by_file;
+pub mod file_kind;
+pub mod of_trees;
+pub mod stored;
+pub mod tree_kind;

@@ -1,0 +1,64 @@
+//! Stored actions of kinds of one's own.
+ghost use Rattle.std.specs.Prelude.{◌≡◌, ◌≤◌, IfOk};
+
+use gb_action::shape::Shape;
+use std::alloc::{AllocError, Global};
+use std::marker::{Model, PhantomData};
+
+/// What the call of a kind looks like.
+pub trait Call: Drop {
+    ghost use Rattle.std.specs.Prelude.{◌≡◌, IfOk};
+    ghost use Rattle.gb_action.specs.declared.shape.Shape.{Shape as Looks};
+
+    ghost shape: { Looks };
+
+    fn shape(alloc: Global) -> Result<Shape, AllocError>
+        ensures { IfOk result (λ made. made ≡ shape) };
+}
+
+/// An action of a kind of one's own, of which contracts see the version.
+#[derive(Drop)]
+pub struct OwnAction<C: Call> {
+    version: u32,
+    shape: Shape,
+    of: PhantomData<C>,
+}
+
+impl<C: Call> Model for OwnAction<C> {
+    ghost use Rattle.std.specs.Prelude.{◌≡◌, ◌≤◌, ℕ};
+
+    ghost Value = { ℕ };
+
+    ghost view = { λ action. action.version };
+
+    ghost invariant = { λ action. (action.shape ≡ C.shape) × (1 ≤ action.version) };
+}
+
+impl<C: Call> OwnAction<C> {
+    /// The action, in a version of its kind: 1, and one more each time that the kind comes to make something
+    /// else of the same, since what was made by another version is made again.
+    pub fn new(alloc: Global, version: u32) -> Result<OwnAction<C>, AllocError>
+        requires { 1 ≤ version }
+        ensures { IfOk result (λ action. action ≡ version) }
+    {
+        let shape = C::shape(alloc)?;
+        Ok(OwnAction {
+            version,
+            shape,
+            of: PhantomData,
+        })
+    }
+
+    pub fn shape(&self) -> &Shape
+        ensures { result.now ≡ C.shape }
+    {
+        &self.shape
+    }
+
+    pub fn version(&self) -> u32
+        ensures value { result ≡ self.now }
+        ensures positive { 1 ≤ result }
+    {
+        self.version
+    }
+}

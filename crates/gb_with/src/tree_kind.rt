@@ -1,0 +1,69 @@
+//! What one writes for a kind that works on all its files at once.
+use gb_action::reply::ActionFault;
+use gb_action::shape::ArgList;
+use gb_action::snapshot::Snapshots;
+use gb_action::values::Arguments;
+use gb_core::bytes::Bytes;
+use gb_core::place::RelPath;
+use gb_core::text::Text;
+use std::alloc::{AllocError, Global};
+
+/// A kind that makes files beneath `out` of all files that its task has, or fails. It reads `src`, and other
+/// properties of the task by their names; where anything changed, it runs in full.
+pub trait TreeKind: Drop {
+    ghost use Rattle.std.specs.Prelude.{◌≡◌, ℕ, List, Result, true, Ok, IfOk, MatchResult};
+    ghost use Rattle.gb_core.specs.declared.value.Value.{Value};
+    ghost use Rattle.gb_action.specs.Files.{Tree, Trees};
+    ghost use Rattle.gb_action.specs.Shapes.{args_fit};
+    ghost use Rattle.gb_action.specs.declared.shape.Arg.{Arg};
+    ghost use Rattle.gb_with.specs.TreeKinds.{IsFailure};
+
+    /// What its arguments have to be.
+    ghost takes: { List Arg };
+
+    /// The files that it makes, in the order in which they are written, or the text with which it fails.
+    ghost makes: { List Value → Trees → Result Tree (List ℕ) };
+
+    /// What its arguments have to be.
+    fn takes(alloc: Global) -> Result<ArgList, AllocError>
+        ensures { IfOk result (λ list. list ≡ takes) };
+
+    /// Makes them. Of two files at one path the later counts.
+    fn make(
+        alloc: Global,
+        arguments: &Arguments,
+        trees: &Snapshots,
+    ) -> Result<Vec<(RelPath, Bytes)>, ActionFault>
+        requires { args_fit takes arguments.now ≡ true }
+        ensures { MatchResult result
+            (λ made. makes arguments.now trees.now ≡ Ok made.items)
+            (λ fault. IsFailure fault (makes arguments.now trees.now)) };
+}
+
+/// A kind that makes no file, and fails with what it finds in the files that its task has.
+pub trait CheckKind: Drop {
+    ghost use Rattle.std.specs.Prelude.{◌≡◌, ℕ, List, Option, true, IfOk};
+    ghost use Rattle.gb_core.specs.declared.value.Value.{Value};
+    ghost use Rattle.gb_action.specs.Files.{Trees};
+    ghost use Rattle.gb_action.specs.Shapes.{args_fit};
+    ghost use Rattle.gb_action.specs.declared.shape.Arg.{Arg};
+
+    /// What its arguments have to be.
+    ghost takes: { List Arg };
+
+    /// The text with which it fails, if there is something to find.
+    ghost finds: { List Value → Trees → Option (List ℕ) };
+
+    /// What its arguments have to be.
+    fn takes(alloc: Global) -> Result<ArgList, AllocError>
+        ensures { IfOk result (λ list. list ≡ takes) };
+
+    /// Finds it.
+    fn find(
+        alloc: Global,
+        arguments: &Arguments,
+        trees: &Snapshots,
+    ) -> Result<Option<Text>, AllocError>
+        requires { args_fit takes arguments.now ≡ true }
+        ensures { IfOk result (λ found. found ≡ finds arguments.now trees.now) };
+}
