@@ -99,7 +99,8 @@ impl<S: Drop> ActionTable<S> {
     pub fn add(&mut self, name: &Name, stored: S) -> Result<(), TableFault>
         ensures ok { OnOk result (self.new ≡ self.old ++ (name.now, stored) ∷ []) }
         ensures absent { OnOk result (find byte_order name.now self.old ≡ None) }
-        ensures duplicate { IsErrOf result TableFault.DuplicateAction ↔ IsSome (find byte_order name.now self.old) }
+        ensures duplicate { IsErrOf result TableFault.DuplicateAction ↔ IsSome (find byte_order
+            name.now self.old) }
         ensures err { OnErr result (self.new ≡ self.old) }
     {
         self.add_under(name.as_str(), stored)
@@ -109,7 +110,8 @@ impl<S: Drop> ActionTable<S> {
     pub fn add_under(&mut self, name: &str, stored: S) -> Result<(), TableFault>
         ensures ok { OnOk result (self.new ≡ self.old ++ (name.now, stored) ∷ []) }
         ensures absent { OnOk result (find byte_order name.now self.old ≡ None) }
-        ensures duplicate { IsErrOf result TableFault.DuplicateAction ↔ IsSome (find byte_order name.now self.old) }
+        ensures duplicate { IsErrOf result TableFault.DuplicateAction ↔ IsSome (find byte_order
+            name.now self.old) }
         ensures err { OnErr result (self.new ≡ self.old) }
     {
         self.entries.add_under(name, stored)?;

@@ -1,5 +1,5 @@
-//! What builds ask of a folder, read off its notes: a whole one, a dry one, a refused one, some that are stopped,
-//! and one in whose folder somebody else writes before each call.
+//! What builds ask of a folder, read off its notes: a whole one, a dry one, a refused one, some that are
+//! stopped, and one in whose folder somebody else writes before each call.
 use crate::building::{Step, go_on, told_of};
 use crate::disturbing::Disturbed;
 use crate::offering::{Handed, offered};
@@ -41,7 +41,8 @@ fn stepped<A: Actions, T: Transforms>(
     Ok(folder)
 }
 
-/// How many changes the words ask for. Fails where one is asked for elsewhere than at the output or the record.
+/// How many changes the words ask for. Fails where one is asked for elsewhere than at the output or the
+/// record.
 fn changes<A: Actions, T: Transforms, F: Folder + Drop>(
     alloc: Global,
     folder: F,

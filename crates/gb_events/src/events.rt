@@ -41,8 +41,8 @@ pub fn run_events<A: Actions, T: Transforms, F: Folder, L: TaskListener>(
     ensures untold { OnErr result (listeners.new ≡ listeners.old) }
     ensures tearing { SameTearing (F.may_leave folder.old) (F.may_leave folder.new) }
     // Over any folder: an edit asks once, for its own place; and a write or a removal by a build is asked for
-    // only at or beneath an output of a task of its plan or at the record of one, whose text is that of a run of
-    // the task; by a refused build and in a dry run, none.
+    // only at or beneath an output of a task of its plan or at the record of one, whose text is that of a run
+    // of the task; by a refused build and in a dry run, none.
     ensures asks { IfOk result (λ answers. EventsAsk F.failures F.may_leave F.asked A.meanings
         tables.now.actions events.now answers.items folder.old folder.new) }
     // One answer for each event.

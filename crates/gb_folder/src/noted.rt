@@ -15,8 +15,8 @@ pub struct Note {
     pub next: Option<Bytes>,
 }
 
-/// Notes each write and each removal before it hands it on. Where there is no memory for the note, the call is
-/// not made. It tells what the inner folder tells.
+/// Notes each write and each removal before it hands it on. Where there is no memory for the note, the call
+/// is not made. It tells what the inner folder tells.
 #[derive(Drop)]
 pub struct NotedFolder<F> {
     alloc: Global,

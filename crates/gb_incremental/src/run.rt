@@ -143,7 +143,8 @@ fn run_writer<A: Actions, F: Folder>(
     requires formed { map (λ output. (output.name, output.form)) running.old.seen
         ≡ seen_outputs task.now.outputs }
     requires able { AnswersChanges A.meanings table.now action.now }
-    ensures asks { Asks F.failures F.may_leave F.asked (changes_at (is_output_of task.now)) folder.old folder.new }
+    ensures asks { Asks F.failures F.may_leave F.asked (changes_at (is_output_of task.now)) folder.old
+        folder.new }
     ensures blame { Blames result (F.failures folder.old) (F.failures folder.new) }
     ensures blamed { BlamesOnly (is_output_of task.now) result }
     ensures changes { IsTrue F.tells
@@ -202,7 +203,8 @@ fn run_one<A: Actions, F: Folder>(
     requires formed { map (λ output. (output.name, output.form)) running.old.seen
         ≡ seen_outputs task.now.outputs }
     requires able { CanGoOn A.meanings table.now action.now }
-    ensures asks { Asks F.failures F.may_leave F.asked (changes_at (is_output_of task.now)) folder.old folder.new }
+    ensures asks { Asks F.failures F.may_leave F.asked (changes_at (is_output_of task.now)) folder.old
+        folder.new }
     ensures blame { Blames result (F.failures folder.old) (F.failures folder.new) }
     ensures blamed { BlamesOnly (is_output_of task.now) result }
     ensures changes { IsTrue F.tells
@@ -283,7 +285,8 @@ pub fn run_by_changes<A: Actions, F: Folder>(
         → GoesOn kinds task.now old files changes outputs standing → (held : Files)
         × (made_of kinds task.now.actions task.now.values files task.now.outputs ≡ Ok held)
         × (made.items ≡ prints_at task.now.outputs held)) }
-    ensures asks { Asks F.failures F.may_leave F.asked (changes_at (is_output_of task.now)) folder.old folder.new }
+    ensures asks { Asks F.failures F.may_leave F.asked (changes_at (is_output_of task.now)) folder.old
+        folder.new }
     ensures blame { Blames result (F.failures folder.old) (F.failures folder.new) }
     ensures blamed { BlamesOnly (is_output_of task.now) result }
     ensures changes { IsTrue F.tells

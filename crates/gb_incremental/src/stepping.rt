@@ -22,7 +22,8 @@ use gb_store::removal::remove_all;
 /// Does these steps, one after another, up to the first that cannot be done.
 pub fn take_steps<F: Folder>(folder: &mut F, steps: &[(Place, Option<&Bytes>)]) -> Result<(), Fault>
     requires small { AllByRecursion IsSmall (shown_steps steps.now) }
-    ensures asks { Asks F.failures F.may_leave F.asked (changes_at (λ place. list_any (λ step. is_at step.0 place) steps.now)) folder.old folder.new }
+    ensures asks { Asks F.failures F.may_leave F.asked (changes_at (λ place. list_any (λ step. is_at
+        step.0 place) steps.now)) folder.old folder.new }
     ensures blame { Blames result (F.failures folder.old) (F.failures folder.new) }
     ensures blamed { BlamesOnly (λ place. list_any (λ step. is_at step.0 place) steps.now) result }
     ensures ok { IsTrue F.tells → OnOk result

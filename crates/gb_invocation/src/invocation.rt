@@ -55,8 +55,9 @@ pub fn invoke<A: Actions, T: Transforms, F: Folder, L: TaskListener>(
     ensures device { HasFailed (times_blamed (answer_of result))
         (F.failures folder.old) (F.failures folder.new) }
     ensures tearing { SameTearing (F.may_leave folder.old) (F.may_leave folder.new) }
-    // Over any folder: a write or a removal is asked for only at or beneath an output of a task of its plan or
-    // at the record of one, whose text is that of a run of the task; by a refused build and in a dry run, none.
+    // Over any folder: a write or a removal is asked for only at or beneath an output of a task of its plan
+    // or at the record of one, whose text is that of a run of the task; by a refused build and in a dry run,
+    // none.
     ensures asks { InvocationAsks F.failures F.may_leave F.asked A.meanings tables.now.actions invocation.now
         result folder.old folder.new }
     // Over any folder: it is a build of the plan of what was asked of some registry, of which each task

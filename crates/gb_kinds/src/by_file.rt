@@ -84,7 +84,8 @@ fn changed_writes<E: FileMaker>(
     edit: &E,
     changes: &[Change],
 ) -> Result<Writes, AllocError>
-    ensures { IfOk result (λ writes. writes ≡ flat_map (writes_for (E.edited edit.now) request.now.outputs (tree_at request.now.files source_is)) changes.now) }
+    ensures { IfOk result (λ writes. writes ≡ flat_map (writes_for (E.edited edit.now)
+        request.now.outputs (tree_at request.now.files source_is)) changes.now) }
 {
     let name = source_name(alloc)?;
     let output = output_name(alloc)?;
@@ -111,7 +112,8 @@ fn rewrite<E: FileMaker>(
     standing: Option<&Bytes>,
     contents: Option<&Bytes>,
 ) -> Result<(), AllocError>
-    ensures { OnOk result (writes.new ≡ writes.old ++ rewritten (E.edited edit.now) path.now (option_copied standing.entry) (option_copied contents.entry)) }
+    ensures { OnOk result (writes.new ≡ writes.old ++ rewritten (E.edited edit.now) path.now
+        (option_copied standing.entry) (option_copied contents.entry)) }
 {
     if let Some(bytes) = contents {
         let made = edit.apply(alloc, bytes.as_slice())?;

@@ -28,7 +28,8 @@ pub fn take_out<F: Folder>(
     path: &TaskPath,
     was_read: bool,
 ) -> Result<(), Unwritten>
-    ensures asks { Asks F.failures F.may_leave F.asked (taken_at (record_place path.now)) folder.old folder.new }
+    ensures asks { Asks F.failures F.may_leave F.asked (taken_at (record_place path.now)) folder.old
+        folder.new }
     ensures unread { was_read ≡ false → folder.new ≡ folder.old }
     ensures out { IsTrue F.tells → OnOk result
         (F.contents folder.new ≡ taken_out was_read path.now (F.contents folder.old)) }
@@ -70,7 +71,8 @@ pub fn put_in<F: Folder>(
     path: &TaskPath,
     run: &Record,
 ) -> Result<(), Unwritten>
-    ensures asks { Asks F.failures F.may_leave F.asked (put_at (record_place path.now) (record_text path.now run.now)) folder.old folder.new }
+    ensures asks { Asks F.failures F.may_leave F.asked (put_at (record_place path.now) (record_text
+        path.now run.now)) folder.old folder.new }
     ensures written { IsTrue F.tells → OnOk result
         (F.contents folder.new ≡ written_in path.now run.now (F.contents folder.old)) }
     ensures said { OnOk result (IsText path.now (said_of run.now) (record_text path.now run.now)) }

@@ -25,7 +25,8 @@ pub fn empty_outputs<F: Folder>(
     folder: &mut F,
     task: &TaskDeclaration,
 ) -> Result<(), Fault>
-    ensures asks { Asks F.failures F.may_leave F.asked (takes_at (is_output_of task.now)) folder.old folder.new }
+    ensures asks { Asks F.failures F.may_leave F.asked (takes_at (is_output_of task.now)) folder.old
+        folder.new }
     ensures blame { Blames result (F.failures folder.old) (F.failures folder.new) }
     ensures blamed { BlamesOnly (is_output_of task.now) result }
     ensures changes { IsTrue F.tells

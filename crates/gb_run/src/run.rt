@@ -60,7 +60,8 @@ pub fn run_in_full<A: Actions, F: Folder>(
     ensures made { IfOk result (λ made. (kinds : Kinds) → Agrees A.meanings table.now kinds → (held : Files)
         × (made_of kinds task.now.actions task.now.values files task.now.outputs ≡ Ok held)
         × (made.items ≡ prints_at task.now.outputs held)) }
-    ensures asks { Asks F.failures F.may_leave F.asked (changes_at (is_output_of task.now)) folder.old folder.new }
+    ensures asks { Asks F.failures F.may_leave F.asked (changes_at (is_output_of task.now)) folder.old
+        folder.new }
     ensures blame { Blames result (F.failures folder.old) (F.failures folder.new) }
     ensures blamed { BlamesOnly (is_output_of task.now) result }
     ensures changes { IsTrue F.tells
@@ -99,7 +100,8 @@ fn run_one<A: Actions, F: Folder>(
     requires named { map (λ tree. tree.0) running.old.request.files ≡ seen_files task.now.files }
     requires full { IsFullLike task.now running.old.request running.old.request }
     requires placed { IsTrue (are_placed running.old.taken) }
-    ensures asks { Asks F.failures F.may_leave F.asked (changes_at (is_output_of task.now)) folder.old folder.new }
+    ensures asks { Asks F.failures F.may_leave F.asked (changes_at (is_output_of task.now)) folder.old
+        folder.new }
     ensures blame { Blames result (F.failures folder.old) (F.failures folder.new) }
     ensures blamed { BlamesOnly (is_output_of task.now) result }
     ensures changes { IsTrue F.tells

@@ -19,7 +19,8 @@ use gb_store::faults::fault_of;
 /// Puts files into the folder, one after another, up to the first that cannot be written.
 pub fn write_files<F: Folder>(folder: &mut F, files: &[(Place, &Bytes)]) -> Result<(), Fault>
     requires small { AllByRecursion (λ file. length file.1.now ≤ max_file) files.now }
-    ensures asks { Asks F.failures F.may_leave F.asked (changes_at (λ place. list_any (λ file. is_at file.0 place) files.now)) folder.old folder.new }
+    ensures asks { Asks F.failures F.may_leave F.asked (changes_at (λ place. list_any (λ file. is_at
+        file.0 place) files.now)) folder.old folder.new }
     ensures blame { Blames result (F.failures folder.old) (F.failures folder.new) }
     ensures blamed { BlamesOnly (λ place. list_any (λ file. is_at file.0 place) files.now) result }
     ensures ok { IsTrue F.tells → OnOk result

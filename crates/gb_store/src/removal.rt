@@ -12,7 +12,8 @@ use gb_report::fault::Fault;
 
 /// Takes the files at these places away, one after another. A place where none stands counts as done.
 pub fn remove_all<F: Folder>(folder: &mut F, places: &[Place]) -> Result<(), Fault>
-    ensures asks { Asks F.failures F.may_leave F.asked (takes_at (is_among places.now)) folder.old folder.new }
+    ensures asks { Asks F.failures F.may_leave F.asked (takes_at (is_among places.now)) folder.old
+        folder.new }
     ensures blame { Blames result (F.failures folder.old) (F.failures folder.new) }
     ensures blamed { BlamesOnly (is_among places.now) result }
     ensures ok { IsTrue F.tells → OnOk result (F.contents folder.new ≡ without_all (F.contents folder.old) places.now) }

@@ -29,7 +29,8 @@ pub fn clear<F: Folder>(
     was_read: bool,
 ) -> Result<(), Fault>
     requires not_own { list_any (λ output. is_own output.place) task.now.outputs ≡ false }
-    ensures asks { Asks F.failures F.may_leave F.asked (takes_at (is_of_turn task.now)) folder.old folder.new }
+    ensures asks { Asks F.failures F.may_leave F.asked (takes_at (is_of_turn task.now)) folder.old
+        folder.new }
     ensures blame { Blames result (F.failures folder.old) (F.failures folder.new) }
     ensures blamed { BlamesOnly (is_output_of task.now) result }
     ensures changes { IsTrue F.tells

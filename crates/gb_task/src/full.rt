@@ -199,7 +199,8 @@ fn make_anew<A: Actions, F: Folder>(
     requires named { map (λ tree. tree.0) trees ≡ seen_files task.now.files }
     requires digests { prints.items ≡ digests_in trees }
     requires no_lines { lines.old ≡ [] }
-    ensures asks { Asks F.failures F.may_leave F.asked (changes_at (is_output_of task.now)) folder.old folder.new }
+    ensures asks { Asks F.failures F.may_leave F.asked (changes_at (is_output_of task.now)) folder.old
+        folder.new }
     ensures blame { Blames result (F.failures folder.old) (F.failures folder.new) }
     ensures blamed { BlamesOnly (is_output_of task.now) result }
     // Over any folder, whoever else writes in it: the record is true.

@@ -109,7 +109,8 @@ fn make_by_changes<A: Actions, F: Folder>(
     requires formed { map (λ output. (output.name, output.form)) outputs.seen ≡ seen_outputs task.now.outputs }
     requires stood { outputs.prints.items ≡ prints_seen outputs.seen }
     requires no_lines { lines.old ≡ [] }
-    ensures asks { Asks F.failures F.may_leave F.asked (changes_at (is_output_of task.now)) folder.old folder.new }
+    ensures asks { Asks F.failures F.may_leave F.asked (changes_at (is_output_of task.now)) folder.old
+        folder.new }
     ensures blame { Blames result (F.failures folder.old) (F.failures folder.new) }
     ensures blamed { BlamesOnly (is_output_of task.now) result }
     // Over any folder, whoever else writes in it: the record is true, where what was read at the outputs was

@@ -26,7 +26,8 @@ pub fn forget<F: Folder>(
     path: &TaskPath,
     was_read: bool,
 ) -> Result<(), Fault>
-    ensures asks { Asks F.failures F.may_leave F.asked (taken_at (record_place path.now)) folder.old folder.new }
+    ensures asks { Asks F.failures F.may_leave F.asked (taken_at (record_place path.now)) folder.old
+        folder.new }
     ensures blame { (place : List ℕ) → result ≢ Err (Fault.Device place) }
     ensures changes { IsTrue F.tells
         → ChangesOnly (is_at (record_place path.now)) (F.contents folder.old) (F.contents folder.new) }
@@ -57,7 +58,8 @@ pub fn remember<F: Folder>(
     task: &TaskDeclaration,
     run: &Record,
 ) -> Result<(), Fault>
-    ensures asks { Asks F.failures F.may_leave F.asked (put_at (record_place task.now.path) (record_text task.now.path run.now)) folder.old folder.new }
+    ensures asks { Asks F.failures F.may_leave F.asked (put_at (record_place task.now.path)
+        (record_text task.now.path run.now)) folder.old folder.new }
     ensures blame { (place : List ℕ) → result ≢ Err (Fault.Device place) }
     ensures changes { IsTrue F.tells
         → ChangesOnly (is_at (record_place task.now.path)) (F.contents folder.old) (F.contents folder.new) }

@@ -39,7 +39,8 @@ pub fn take_turn_without_source<F: Folder>(
     ensures has_actions { result.has_actions ≡ not (is_empty task.now.actions) }
     ensures outcome { IsToldOf cleared_outcome result.outcome }
     ensures lines { result.lines ≡ [] }
-    ensures asks { Asks F.failures F.may_leave F.asked (takes_at (is_of_turn task.now)) folder.old folder.new }
+    ensures asks { Asks F.failures F.may_leave F.asked (takes_at (is_of_turn task.now)) folder.old
+        folder.new }
     ensures blame { (place : List ℕ) → result.outcome ≡ Failed (Fault.Device place)
         → HasRisen (F.failures folder.old) (F.failures folder.new) }
     ensures blamed { (place : List ℕ) → result.outcome ≡ Failed (Fault.Device place)
