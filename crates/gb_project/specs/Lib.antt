@@ -19,3 +19,4 @@ pub mod Standing
 pub mod Ready
 pub mod Kept
 pub mod Known
+pub mod Registered

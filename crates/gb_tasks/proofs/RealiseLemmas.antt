@@ -16,7 +16,7 @@ use Rattle.gb_tasks.proofs.FindLemmas.{find_made, found_made}
 use Rattle.gb_project.proofs.CircleNamesLemmas.{told_by_names}
 use Rattle.gb_project.proofs.RisingLemmas.{realised_names_rise}
 use Rattle.gb_tasks.proofs.SoundLemmas.{paths_said}
-use Rattle.gb_tasks.specs.Scripts.{DeclaredNamesRise, declaration_of, registry_said, settled}
+use Rattle.gb_project.specs.Registered.{DeclaredNamesRise, declaration_of, registry_said, settled}
 
 module _ {M F Z S A : Type 0} (tables : Tables M F Z S A) (source : Source) where
   -- a trouble is told by the fault that it is settled as

@@ -31,7 +31,7 @@ use Rattle.gb_tasks.proofs.FindLemmas.{all_made, paths_made}
 use Rattle.gb_tasks.proofs.FolderLemmas.{same_folder}
 use Rattle.gb_tasks.proofs.SaidLemmas.{AreNamed, is_said_in}
 use Rattle.gb_tasks.specs.Named.{is_named, registers_named}
-use Rattle.gb_tasks.specs.Scripts.{declaration_of, registry_said, settled}
+use Rattle.gb_project.specs.Registered.{declaration_of, registry_said, settled}
 
 -- ---- A registered task
 

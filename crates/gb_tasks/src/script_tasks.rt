@@ -6,7 +6,8 @@ ghost use Rattle.gb_registry.specs.Said.{paths_of};
 ghost use Rattle.gb_registry.specs.Select.{default_tasks as default_tasks_said};
 ghost use Rattle.gb_registry.specs.Tables.{tables_of};
 ghost use Rattle.gb_tasks.specs.Props.{IsRegistry-prop, source_set};
-ghost use Rattle.gb_tasks.specs.Scripts.{registry_in, registry_said};
+ghost use Rattle.gb_project.specs.Registered.{registry_said};
+ghost use Rattle.gb_tasks.specs.Scripts.{registry_in};
 
 use crate::named::read_names;
 use gb_action::actions::Actions;

@@ -6,7 +6,7 @@ use Rattle.gb_registry.specs.Seen.{scripts_in}
 use Rattle.gb_registry.specs.Select.{default_tasks}
 use Rattle.gb_registry.specs.Tables.{tables_of}
 use Rattle.gb_tasks.specs.Named.{is_named}
-use Rattle.gb_tasks.specs.Scripts.{registry_said}
+use Rattle.gb_project.specs.Registered.{registry_said}
 use Rattle.gb_workspace.specs.Workspace.{Space}
 use Rattle.gb_tasks.proofs.SaidLemmas.{AreNamed, read_named}
 use Rattle.gb_tasks.proofs.SoundLemmas.{registry_is_sound}

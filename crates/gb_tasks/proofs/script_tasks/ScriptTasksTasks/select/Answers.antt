@@ -1,7 +1,7 @@
 use Rattle.std.proofs.Common.{ap, sym, ◌∙◌}
 use Rattle.gb_registry.specs.Source.{Source}
 use Rattle.gb_registry.specs.Tables.{tables_of}
-use Rattle.gb_tasks.specs.Scripts.{registry_said}
+use Rattle.gb_project.specs.Registered.{registry_said}
 use Rattle.gb_tasks.proofs.SelectLemmas.{first_told, selects, without_fault}
 use Rattle.gb_tasks.proofs.SoundLemmas.{paths_said}
 use Rattle.gb_tasks.proofs.script_tasks.ScriptTasksTasks.select.Goals as goal
