@@ -23,3 +23,5 @@ mod Answering
 mod Cut
 mod Settling
 pub mod Asking
+mod Made
+mod Truth

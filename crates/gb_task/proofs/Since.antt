@@ -227,7 +227,7 @@ names_kept : (digest : Bytes → List ℕ) (tree : Tree) → map (λ (file : Pla
 names_kept digest [] = refl
 names_kept digest (file ∷ tree) = ap (λ (names : List (List ℕ)). file.0 ∷ names) (names_kept digest tree)
 
-all_sorted : (digest : Bytes → List ℕ) (trees : Trees) → AllByRecursion ArePrints (prints_of digest trees) → list_all (λ (tree : List ℕ × Tree). is_sorted byte_order tree.1) trees ≡ true
+pub all_sorted : (digest : Bytes → List ℕ) (trees : Trees) → AllByRecursion ArePrints (prints_of digest trees) → list_all (λ (tree : List ℕ × Tree). is_sorted byte_order tree.1) trees ≡ true
 all_sorted digest [] all = refl
 all_sorted digest (tree ∷ trees) all =
     ap₂ (λ (a b : Bool). a && b)

@@ -5,7 +5,7 @@ use Rattle.gb_action.specs.Files.{Trees}
 use Rattle.gb_action.specs.Meanings.{Meanings}
 use Rattle.gb_action.specs.declared.output.OutputFiles.{OutputFiles}
 use Rattle.gb_folder.specs.Calls.{Permit}
-use Rattle.gb_folder.specs.Files.{Bytes, Files, IsFolder, Place, are_placed}
+use Rattle.gb_folder.specs.Files.{Bytes, Files, IsFolder, are_placed}
 use Rattle.gb_history.specs.Places.{record_place}
 use Rattle.gb_history.specs.Remembered.{Remembered}
 use Rattle.gb_history.specs.Text.{record_text}
@@ -21,8 +21,8 @@ use Rattle.gb_task.specs.Anew.{AreDecided}
 use Rattle.gb_task.specs.Keeping.{IsRecordOf}
 use Rattle.gb_task.specs.Turned.{is_of_turn}
 
--- Files are taken away at the task's outputs and at its record; they are put at its outputs, and one with such a
--- text at its record.
+-- Files are taken away at the task's outputs and at its record; they are put at its outputs, and one with
+-- such a text at its record.
 unfoldable pub in_turn_with : Task → (Bytes → Type 0) → Permit
 in_turn_with task text place None = IsTrue (is_of_turn task place)
 in_turn_with task text place (Some bytes) =
@@ -30,8 +30,8 @@ in_turn_with task text place (Some bytes) =
 
 -- ---- The text of a record, by the run that it is put in for
 
--- of a run in full on these trees: whatever kinds the table agrees with, the record has the digests of what the
--- task's actions make of them
+-- of a run in full on these trees: whatever kinds the table agrees with, the record has the digests of what
+-- the task's actions make of them
 unfoldable pub IsTextIn : {S : Type 0} → Meanings S → Rows S → Task → Trees → Bytes → Type 0
 IsTextIn meanings rows task trees bytes =
     (run : Remembered) × (bytes ≡ record_text task.path run)
@@ -47,8 +47,8 @@ IsTextBy meanings rows task trees changes seen bytes =
     → IsTrue (are_placed standing) → GoesOn kinds task old trees changes seen standing
     → IsRecordOf kinds task trees run)
 
--- of a run that was decided anew from what a record says: in full, or on from outputs as they were seen by the
--- changes that the record tells on the digests of just these trees and outputs
+-- of a run that was decided anew from what a record says: in full, or on from outputs as they were seen by
+-- the changes that the record tells on the digests of just these trees and outputs
 pub record IsTextOn {S : Type 0} (meanings : Meanings S) (rows : Rows S) (options : Options) (task : Task)
     (last : Remembered) (bytes : Bytes) : Type 0 where
   pub trees : Trees
@@ -66,14 +66,16 @@ unfoldable pub IsTextAnew : {S : Type 0} → Meanings S → Rows S → Options �
 IsTextAnew meanings rows options task last bytes =
     IsInFull meanings rows task bytes ⊎ IsTextOn meanings rows options task last bytes
 
--- of a run of the task, from the record that was read of it: in full, or on from what that says, where one action
--- of the task writes files
-abbrev pub IsTextFrom : {S : Type 0} → Meanings S → Rows S → Options → Task → Option Remembered → Bytes → Type 0
+-- of a run of the task, from the record that was read of it: in full, or on from what that says, where one
+-- action of the task writes files
+abbrev pub IsTextFrom : {S : Type 0} → Meanings S → Rows S → Options → Task → Option Remembered → Bytes
+    → Type 0
 IsTextFrom meanings rows options task None bytes = IsInFull meanings rows task bytes
 IsTextFrom meanings rows options task (Some last) bytes =
     IsInFull meanings rows task bytes
     ⊎ (IsTextOn meanings rows options task last bytes
     × ((kinds : Kinds) → Agrees meanings rows kinds → IsTrue (has_one_writer kinds task.actions)))
 
-unfoldable pub IsTextOf : {S : Type 0} → Meanings S → Rows S → Options → Task → Option Remembered → Bytes → Type 0
+unfoldable pub IsTextOf : {S : Type 0} → Meanings S → Rows S → Options → Task → Option Remembered → Bytes
+    → Type 0
 IsTextOf meanings rows options task last bytes = IsTextFrom meanings rows options task last bytes

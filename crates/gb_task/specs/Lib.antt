@@ -5,3 +5,4 @@ pub mod Turned
 pub mod Settled
 pub mod Anew
 pub mod Asking
+pub mod Truth

@@ -1,5 +1,6 @@
 -- What is settled of a task's turn before anything is changed.
-use Rattle.std.specs.Prelude.{ℕ, ◌≡◌, ◌≢◌, ◌||◌, Bool, true, false, not, [], Result, Ok, Err, None, Some, IsTrue, ⊤}
+use Rattle.std.specs.Prelude.{ℕ, ◌≡◌, ◌≢◌, ◌||◌, Bool, true, false, not, [], Result, Ok, Err, None, Some}
+use Rattle.std.specs.Prelude.{IsTrue, ⊤}
 use Rattle.std.specs.List.{list_any}
 use Rattle.gb_case.specs.Case.{IsCaseFor}
 use Rattle.gb_case.specs.Turns.{IsRunFor}

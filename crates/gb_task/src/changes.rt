@@ -17,7 +17,8 @@ ghost use Rattle.gb_report.specs.declared.report.Outcome.TheVariants.{Failed};
 ghost use Rattle.gb_store.specs.Changes.{ChangesOnly};
 ghost use Rattle.gb_store.specs.Faults.{Blames, BlamesOnly};
 ghost use Rattle.gb_task.specs.Asking.{IsTextAnew, in_turn_with};
-ghost use Rattle.gb_task.specs.Turned.{ComesAt, HasTurned, IsToGoOn, IsToldOf, Registering, is_of_turn, outcome_of, report_of, setting_with};
+ghost use Rattle.gb_task.specs.Turned.{ComesAt, HasTurned, IsToGoOn, IsToldOf, Registering, is_of_turn};
+ghost use Rattle.gb_task.specs.Turned.{outcome_of, report_of, setting_with};
 ghost use Rattle.gb_turn.specs.Reading.{AreInputs, AreInputsSeen, AreOutputs, AreOutputsSeen, is_input_of};
 
 use crate::anew::{Anew, settle_anew};

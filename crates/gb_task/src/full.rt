@@ -20,7 +20,8 @@ ghost use Rattle.gb_store.specs.Changes.{ChangesOnly};
 ghost use Rattle.gb_store.specs.Faults.{Blames, BlamesOnly};
 ghost use Rattle.gb_task.specs.Asking.{IsInFull, IsTextIn, in_turn_with};
 ghost use Rattle.gb_task.specs.Keeping.{IsRecordOf};
-ghost use Rattle.gb_task.specs.Turned.{ComesAt, HasTurned, IsDue, IsToldOf, Registering, is_of_turn, outcome_of, report_of, setting_with};
+ghost use Rattle.gb_task.specs.Turned.{ComesAt, HasTurned, IsDue, IsToldOf, Registering, is_of_turn};
+ghost use Rattle.gb_task.specs.Turned.{outcome_of, report_of, setting_with};
 ghost use Rattle.gb_turn.specs.Reading.{AreInputs, AreInputsSeen, digests_in, is_input_of};
 
 use crate::adding::all_added;

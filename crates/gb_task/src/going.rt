@@ -23,7 +23,8 @@ ghost use Rattle.gb_store.specs.Changes.{ChangesOnly};
 ghost use Rattle.gb_store.specs.Faults.{Blames, BlamesOnly};
 ghost use Rattle.gb_task.specs.Asking.{IsTextBy, in_turn_with};
 ghost use Rattle.gb_task.specs.Keeping.{IsRecordOf};
-ghost use Rattle.gb_task.specs.Turned.{ComesAt, HasTurned, IsDueByChanges, Registering, is_of_turn, report_of, setting_with};
+ghost use Rattle.gb_task.specs.Turned.{ComesAt, HasTurned, IsDueByChanges, Registering, is_of_turn};
+ghost use Rattle.gb_task.specs.Turned.{report_of, setting_with};
 ghost use Rattle.gb_turn.specs.Reading.{digests_in, prints_seen, seen_of};
 
 use crate::keeping::{forget, remember};
@@ -61,7 +62,8 @@ pub(crate) fn go_by<A: Actions, F: Folder>(
     requires outputs_apart { some_overlap (output_places task.now) ≡ false }
     requires named { map (λ tree. tree.0) inputs.trees ≡ seen_files task.now.files }
     requires digests { inputs.prints.items ≡ digests_in inputs.trees }
-    requires formed { map (λ output. (output.name, output.form)) outputs.seen ≡ seen_outputs task.now.outputs }
+    requires formed { map (λ output. (output.name, output.form)) outputs.seen
+        ≡ seen_outputs task.now.outputs }
     requires stood { outputs.prints.items ≡ prints_seen outputs.seen }
     requires no_lines { lines.old ≡ [] }
     ensures asks { Asks F.failures F.may_leave F.asked
@@ -106,7 +108,8 @@ fn make_by_changes<A: Actions, F: Folder>(
     requires in_order { HasNamesInOrder task.now }
     requires named { map (λ tree. tree.0) inputs.trees ≡ seen_files task.now.files }
     requires digests { inputs.prints.items ≡ digests_in inputs.trees }
-    requires formed { map (λ output. (output.name, output.form)) outputs.seen ≡ seen_outputs task.now.outputs }
+    requires formed { map (λ output. (output.name, output.form)) outputs.seen
+        ≡ seen_outputs task.now.outputs }
     requires stood { outputs.prints.items ≡ prints_seen outputs.seen }
     requires no_lines { lines.old ≡ [] }
     ensures asks { Asks F.failures F.may_leave F.asked (changes_at (is_output_of task.now)) folder.old
@@ -122,12 +125,16 @@ fn make_by_changes<A: Actions, F: Folder>(
     ensures changes { IsTrue F.tells
         → ChangesOnly (is_output_of task.now) (F.contents folder.old) (F.contents folder.new) }
     ensures ok { IsTrue F.tells → OnOk result ((kinds : Kinds) → Agrees A.meanings table.now kinds
-        → (old : Trees) → GoesOn kinds task.now old inputs.trees changes outputs.seen (F.contents folder.old).files
-        → EndsWell (course_of kinds task.now inputs.trees changes (rest_of task.now (F.contents folder.old).files))
+        → (old : Trees)
+        → GoesOn kinds task.now old inputs.trees changes outputs.seen (F.contents folder.old).files
+        → EndsWell (course_of kinds task.now inputs.trees changes
+        (rest_of task.now (F.contents folder.old).files))
         lines.new (F.contents folder.new).files) }
     ensures err { IsTrue F.tells → IfErr result (λ fault. (kinds : Kinds) → Agrees A.meanings table.now kinds
-        → (old : Trees) → GoesOn kinds task.now old inputs.trees changes outputs.seen (F.contents folder.old).files
-        → Fails (course_of kinds task.now inputs.trees changes (rest_of task.now (F.contents folder.old).files))
+        → (old : Trees)
+        → GoesOn kinds task.now old inputs.trees changes outputs.seen (F.contents folder.old).files
+        → Fails (course_of kinds task.now inputs.trees changes
+        (rest_of task.now (F.contents folder.old).files))
         (F.contents folder.old).files (F.may_leave folder.old) (F.failures folder.old) fault
         lines.new (F.failures folder.new) (F.contents folder.new).files) }
 {

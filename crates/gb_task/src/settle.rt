@@ -10,7 +10,8 @@ ghost use Rattle.gb_meaning.specs.Label.{Moment, some_outcome};
 ghost use Rattle.gb_meaning.specs.TrueRecord.{outside};
 ghost use Rattle.gb_plan.specs.Graph.{Plan, needs_in};
 ghost use Rattle.gb_report.specs.Outcome.{is_executed};
-ghost use Rattle.gb_task.specs.Settled.{AnswersAlone, IsOfTask, SettlesTurn, TellsAnswer, idle_outcome, settled_as, silent_report};
+ghost use Rattle.gb_task.specs.Settled.{AnswersAlone, IsOfTask, SettlesTurn, TellsAnswer, idle_outcome};
+ghost use Rattle.gb_task.specs.Settled.{settled_as, silent_report};
 ghost use Rattle.gb_task.specs.Turned.{Registering, setting_with};
 
 use gb_case::laws::{idle_turns_are_turns, outside_is_enough, prepared_is_case, runs_are_of_case};

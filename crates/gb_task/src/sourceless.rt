@@ -13,7 +13,8 @@ ghost use Rattle.gb_records.specs.Said.{IsText};
 ghost use Rattle.gb_report.specs.declared.report.Options.{Options};
 ghost use Rattle.gb_report.specs.declared.report.Outcome.TheVariants.{Failed};
 ghost use Rattle.gb_store.specs.Changes.{ChangesOnly};
-ghost use Rattle.gb_task.specs.Turned.{ComesAt, HasTurned, IsToldOf, Registering, cleared_outcome, is_of_turn, setting_with};
+ghost use Rattle.gb_task.specs.Turned.{ComesAt, HasTurned, IsToldOf, Registering, cleared_outcome};
+ghost use Rattle.gb_task.specs.Turned.{is_of_turn, setting_with};
 
 use crate::clearing::clear;
 use gb_core::path::TaskPath;

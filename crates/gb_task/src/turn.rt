@@ -1,5 +1,6 @@
 //! A started task's turn.
-ghost use Rattle.std.specs.Prelude.{◌≡◌, ◌≢◌, ◌||◌, ℕ, List, None, false, not, is_some, IsTrue, option_copied};
+ghost use Rattle.std.specs.Prelude.{◌≡◌, ◌≢◌, ◌||◌, ℕ, List, None, false, not, is_some, IsTrue};
+ghost use Rattle.std.specs.Prelude.{option_copied};
 ghost use Rattle.std.specs.List.{AllByRecursion, list_any};
 ghost use Rattle.gb_action.specs.Changes.{Changes};
 ghost use Rattle.gb_case.specs.Case.{IsCaseFor, IsKnown};
@@ -23,7 +24,8 @@ ghost use Rattle.gb_report.specs.declared.report.Outcome.TheVariants.{Failed};
 ghost use Rattle.gb_store.specs.Changes.{ChangesOnly};
 ghost use Rattle.gb_task.specs.Asking.{IsTextOf, in_turn_with};
 ghost use Rattle.gb_task.specs.Settled.{IsAnswer, IsAnsweredAlone};
-ghost use Rattle.gb_task.specs.Turned.{ComesAt, HasTurned, IsToldOf, Registering, is_of_turn, outcome_of, setting_with};
+ghost use Rattle.gb_task.specs.Turned.{ComesAt, HasTurned, IsToldOf, Registering, is_of_turn, outcome_of};
+ghost use Rattle.gb_task.specs.Turned.{setting_with};
 ghost use Rattle.gb_turn.specs.Reading.{is_input_of};
 
 use crate::changes::take_turn_by_changes;
@@ -174,7 +176,8 @@ fn goes_by_changes<A: Actions>(
     ensures agreed { (kinds : Kinds) → Agrees A.meanings table.now kinds
         → goes_by_changes kinds task.now decision.now ≡ result }
     ensures able { IsTrue result → AllByRecursion (CanGoOn A.meanings table.now) task.now.actions }
-    ensures decided { IsTrue result → (changes : List Changes) × (decision.now ≡ Decision.Incremental changes) }
+    ensures decided { IsTrue result → (changes : List Changes)
+        × (decision.now ≡ Decision.Incremental changes) }
 {
     match decision {
         Decision::Incremental(_) => has_one_writer::<A>(table, task),

@@ -1,0 +1,19 @@
+//! Laws of what a turn records, each the contract of a function that does nothing.
+ghost use Rattle.gb_task.specs.Truth.{FullRunsAreTrue, RunsByChangesStayTrue, UpToDateIsMade};
+
+use gb_action::actions::Actions;
+
+/// What is written of a run in full is the text of a true record, over any folder.
+pub fn full_runs_are_true<A: Actions>()
+    ensures { FullRunsAreTrue A.meanings }
+{}
+
+/// What is written of a run by changes is so where the record that it went on from is true.
+pub fn runs_by_changes_stay_true<A: Actions>()
+    ensures { RunsByChangesStayTrue A.meanings }
+{}
+
+/// What was read of a task that is up to date is what its actions make, where its record is true.
+pub fn up_to_date_is_made()
+    ensures { UpToDateIsMade }
+{}
