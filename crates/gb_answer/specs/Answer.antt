@@ -1,8 +1,9 @@
 -- What is printed of a build, and its status.
-use Rattle.std.specs.Prelude.{ℕ, List, ◌++◌, Result, Ok, Err, if◌then◌else◌, codes, nat_eq}
+use Rattle.std.specs.Prelude.{ℕ, List, [], ◌++◌, Result, Ok, Err, if◌then◌else◌, codes, nat_eq}
 use Rattle.gb_report.specs.Fault.{fault_text, fault_number}
 use Rattle.gb_report.specs.Outcome.{is_successful}
 use Rattle.gb_report.specs.Report.{line, report_text}
+use Rattle.gb_printer.specs.Printing.{parts_text, rest_text}
 use Rattle.gb_report.specs.declared.fault.Fault.{Fault}
 use Rattle.gb_report.specs.declared.report.Report.{Report}
 
@@ -18,6 +19,16 @@ not_built_text fault = refusal_text fault ++ line (codes "BUILD FAILED")
 abbrev pub answer_text : Result Report Fault → List ℕ
 answer_text (Ok report) = report_text report
 answer_text (Err fault) = not_built_text fault
+
+-- what of it is printed while the build goes
+abbrev pub parts_of : Result Report Fault → List ℕ
+parts_of (Ok report) = parts_text report
+parts_of (Err fault) = []
+
+-- what of it is printed once the build has ended
+abbrev pub rest_of : Result Report Fault → List ℕ
+rest_of (Ok report) = rest_text report
+rest_of (Err fault) = not_built_text fault
 
 -- the status: 0 after success, 2 for words that ask for no build that is known (96), and else 1
 abbrev pub status_of : Result Report Fault → ℕ

@@ -4,4 +4,5 @@
 
 pub mod answer;
 pub mod boxes;
+pub mod printing;
 mod tables;

@@ -1,26 +1,28 @@
 //! The program over any folder: it reads the words, builds what they ask for and prints the answer.
 ghost use Rattle.std.specs.Prelude.{◌≡◌, ◌≤◌, IfSome, IsTrue, MatchResult, Result, map, string_bytes};
 ghost use Rattle.std.specs.Io.KnownBytes.{Appends};
-ghost use Rattle.gb_answer.specs.Answer.{answer_text, status_of};
+ghost use Rattle.gb_answer.specs.Answer.{answer_text, parts_of, status_of};
 ghost use Rattle.gb_meaning.specs.declared.events.Invocation.{Invocation};
+ghost use Rattle.gb_printer.specs.Printing.{Prints};
 ghost use Rattle.gb_registry.specs.Tables.{tables_of};
 ghost use Rattle.gb_report.specs.declared.fault.Fault.{Fault};
 ghost use Rattle.gb_report.specs.declared.report.Report.{Report};
 ghost use Rattle.gb_command.specs.Answered.{Answers, AreRefused, AskFor, AsksFor, given_of};
 
 use gb_action::actions::Actions;
-use gb_answer::answer::{answer_text, status_of};
+use gb_answer::answer::status_of;
+use gb_answer::printing::print_rest;
 use gb_folder::folder::Folder;
 use gb_invocation::invocation::invoke;
 use gb_listen::listener::Recorder;
 use gb_meaning::events::Invocation;
+use gb_printer::printer::Printer;
 use gb_provider::transforms::Transforms;
 use gb_registry::tables::Tables;
 use gb_report::fault::Fault;
 use gb_report::report::Report;
 use gb_words::words::read;
 use std::alloc::Global;
-use std::io::Write;
 
 /// The stored actions and functions that scripts may name.
 pub type Handed<A, T> = Tables<
@@ -35,9 +37,10 @@ pub type Handed<A, T> = Tables<
 pub const UNPRINTED: u8 = 1;
 
 /// Builds what the words ask for, prints what became of it, and answers the status: 0 where the build was
-/// successful, 2 where the words ask for no build that is known, and else 1. `None` where it could not be
-/// printed: memory ran out, or the writer failed.
-pub fn run<A: Actions, T: Transforms, F: Folder, W: Write>(
+/// successful, 2 where the words ask for no build that is known, and else 1. The part of each task is printed
+/// as soon as its turn has ended, the rest behind the last. What cannot be printed stops nothing; then there
+/// is no status: memory ran out, or the writer failed.
+pub fn run<A: Actions, T: Transforms, F: Folder, W: Printer>(
     alloc: Global,
     folder: &mut F,
     words: Result<Vec<String>, Fault>,
@@ -46,7 +49,7 @@ pub fn run<A: Actions, T: Transforms, F: Folder, W: Write>(
 ) -> Option<u8>
     ensures count { F.failures folder.old ≤ F.failures folder.new }
     // There is an answer, whether it could be printed or not. Where it could, its text and nothing else is
-    // printed, and the status is its own.
+    // printed, and the status is its own; where it could not, a beginning of its text is.
     ensures told { (answer : Result Report Fault)
         × (IsTrue F.tells → Answers (tables_of T.meanings A.meanings tables.now) (F.may_leave folder.old)
         (given_of (λ words. map string_bytes words.items) words)
@@ -55,35 +58,31 @@ pub fn run<A: Actions, T: Transforms, F: Folder, W: Write>(
         (record { contents = F.contents folder.new; failures = F.failures folder.new }))
         × AsksFor F.failures F.may_leave F.asked A.meanings tables.now.actions
         (given_of (λ words. map string_bytes words.items) words) answer folder.old folder.new
+        × Prints W.contents W.whole (answer_text answer) writer.old writer.new
         × IfSome result (λ status.
         Appends (W.contents writer.old) (W.contents writer.new) (answer_text answer)
         × (status ≡ status_of answer)) }
 {
-    let answer = answered::<A, T, F>(alloc, folder, words, tables);
+    let answer = answered::<A, T, F, W>(alloc, folder, words, tables, writer);
     let status = status_of(&answer);
-    let is_printed = print(alloc, writer, &answer);
+    print_rest(alloc, writer, &answer);
     drop(answer);
-    if is_printed { Some(status) } else { None }
+    if writer.is_whole() {
+        Some(status)
+    } else {
+        None
+    }
 }
 
-/// Prints the answer, and tells whether all of it was taken.
-fn print<W: Write>(alloc: Global, writer: &mut W, answer: &Result<Report, Fault>) -> bool
-    ensures { IsTrue result
-        → Appends (W.contents writer.old) (W.contents writer.new) (answer_text answer.now) }
-{
-    let Ok(text) = answer_text(alloc, answer) else {
-        return false;
-    };
-    writer.write_all(text.as_slice()).is_ok() && writer.flush().is_ok()
-}
-
-/// What becomes of the words.
-fn answered<A: Actions, T: Transforms, F: Folder>(
+/// What becomes of the words. The parts of the tasks are printed.
+fn answered<A: Actions, T: Transforms, F: Folder, W: Printer>(
     alloc: Global,
     folder: &mut F,
     words: Result<Vec<String>, Fault>,
     tables: &Handed<A, T>,
+    writer: &mut W,
 ) -> Result<Report, Fault>
+    ensures printed { Prints W.contents W.whole (parts_of result) writer.old writer.new }
     ensures count { F.failures folder.old ≤ F.failures folder.new }
     ensures answers { IsTrue F.tells
         → Answers (tables_of T.meanings A.meanings tables.now) (F.may_leave folder.old)
@@ -97,7 +96,7 @@ fn answered<A: Actions, T: Transforms, F: Folder>(
     match asked_by(alloc, words) {
         Ok(asked) => {
             let mut listeners: Vec<Recorder> = Vec::new(alloc);
-            invoke::<A, T, F, Recorder>(alloc, folder, tables, &asked, &mut listeners)
+            invoke::<A, T, F, Recorder, W>(alloc, folder, tables, &asked, &mut listeners, writer)
         }
         Err(fault) => Err(fault),
     }

@@ -21,13 +21,14 @@ use gb_folder::folder::Folder;
 use gb_invocation::invocation::invoke;
 use gb_listen::listener::TaskListener;
 use gb_meaning::events::{Answer, Event};
+use gb_printer::printer::Silent;
 use gb_provider::transforms::Transforms;
 use gb_registry::tables::Tables;
 use gb_report::fault::Fault;
 use gb_report::report::Report;
 use std::alloc::{AllocError, Global};
 
-/// Takes the events in their order, and answers each. It fails only where there is no memory for the
+/// Takes the events in their order, and answers each. Nothing is printed. It fails only where there is no memory for the
 /// answers, and then before the first event, with nothing changed and nothing told.
 pub fn run_events<A: Actions, T: Transforms, F: Folder, L: TaskListener>(
     alloc: Global,
@@ -117,8 +118,13 @@ fn take<A: Actions, T: Transforms, F: Folder, L: TaskListener>(
         Event::Put(place, bytes) => edited(put(folder, place, bytes)),
         Event::Remove(place) => edited(remove(folder, place)),
         Event::Lost => edited(lose(alloc, folder)),
-        Event::Invoke(invocation) => built(invoke::<A, T, F, L>(
-            alloc, folder, tables, invocation, listeners,
+        Event::Invoke(invocation) => built(invoke::<A, T, F, L, Silent>(
+            alloc,
+            folder,
+            tables,
+            invocation,
+            listeners,
+            &mut Silent,
         )),
     }
 }

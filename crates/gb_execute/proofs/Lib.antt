@@ -11,3 +11,4 @@ pub mod Walking
 pub mod Skipping
 pub mod Outlining
 pub mod Asking
+pub mod Printing

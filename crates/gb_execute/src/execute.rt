@@ -9,6 +9,7 @@ ghost use Rattle.gb_meaning.specs.Kinds.{Kinds};
 ghost use Rattle.gb_meaning.specs.Memory.{Memory};
 ghost use Rattle.gb_meaning.specs.Outline.{Outlines};
 ghost use Rattle.gb_plan.specs.Graph.{order};
+ghost use Rattle.gb_printer.specs.Printing.{Prints, parts_text};
 ghost use Rattle.gb_records.specs.Said.{IsText};
 ghost use Rattle.gb_store.specs.Changes.{ChangesOnly};
 ghost use Rattle.gb_task.specs.Turned.{Registering, setting_with};
@@ -29,33 +30,40 @@ use gb_history::record::Record;
 use gb_listen::laws::told_is_heard;
 use gb_listen::listener::TaskListener;
 use gb_plan::plan::{Plan, Planned};
+use gb_printer::printer::Printer;
 use gb_report::report::{Options, Report, TaskReport, TaskReports};
 use gb_start::plans::starts_of;
 use std::alloc::{AllocError, Global};
 
 /// Builds a plan. `records` has what was read of its tasks' records, in their order. Each task that starts is
-/// told to all listeners before its turn and after it. It fails only for want of memory before the first
-/// turn, with nothing changed and nothing told; what goes wrong later is told as a task's failure. In a dry
-/// run nothing starts, and each task is reported as skipped.
-pub fn execute<A: Actions, F: Folder, L: TaskListener>(
+/// told to all listeners before its turn and after it, and its part is printed as soon as its turn has ended.
+/// It fails only for want of memory before the first turn, with nothing changed, nothing told and nothing
+/// printed; what goes wrong later is told as a task's failure. In a dry run nothing starts, each task is
+/// reported as skipped, and nothing is printed.
+pub fn execute<A: Actions, F: Folder, L: TaskListener, P: Printer>(
     alloc: Global,
     folder: &mut F,
     plan: &Plan,
     table: &ActionTable<A::Stored>,
     records: &[Option<Record>],
     listeners: &mut Vec<L>,
+    printer: &mut P,
     options: Options,
 ) -> Result<Report, AllocError>
     requires can { CanBuild A.meanings table.now plan.now }
     requires each { length records.now ≡ length plan.now }
     ensures unbegun { OnErr result (folder.new ≡ folder.old) }
     ensures untold { OnErr result (listeners.new ≡ listeners.old) }
+    ensures unprinted { OnErr result (printer.new ≡ printer.old) }
     ensures dry_run { IfOk result (λ report. report.dry_run ≡ options.dry_run) }
     ensures of_tasks { IfOk result (λ report. AllZip IsOf plan.now report.tasks) }
     // Over any folder: which tasks start, and what each may answer.
     ensures outline { IfOk result (λ report. Outlines options plan.now report.tasks) }
     ensures heard { IfOk result (λ report.
         HaveHeard report (map L.ear listeners.old.items) (map L.ear listeners.new.items)) }
+    // The parts of its tasks were printed; or a beginning of them, where they could not be.
+    ensures printed { IfOk result (λ report.
+        Prints P.contents P.whole (parts_text report) printer.old printer.new) }
     ensures asks { Asks F.failures F.may_leave F.asked
         (in_build A.meanings table.now options plan.now records.now)
         folder.old folder.new }
@@ -94,13 +102,14 @@ pub fn execute<A: Actions, F: Folder, L: TaskListener>(
         records,
         options,
     };
-    let all_heard = take_turns::<A, F, L>(
+    let all_heard = take_turns::<A, F, L, P>(
         alloc,
         folder,
         &build,
         &mut starts,
         paths,
         listeners,
+        printer,
         &mut reports,
     );
     Ok(reported(reports, false, all_heard))

@@ -1,6 +1,6 @@
 //! The turns of all tasks of a plan.
 ghost use Rattle.std.specs.Prelude.{◌≡◌, ◌≤◌, ◌<◌, ◌+◌, ◌++◌, ◌∷◌, Bool, List, true, false, [], map, length, replicate, IsTrue, vec_len};
-ghost use Rattle.std.specs.List.{AllZip};
+ghost use Rattle.std.specs.List.{AllZip, flat_map};
 ghost use Rattle.std.specs.Vec.{vec_capacity};
 ghost use Rattle.gb_folder.specs.Calls.{Asks};
 ghost use Rattle.gb_folder.specs.Files.{Bytes};
@@ -13,7 +13,9 @@ ghost use Rattle.gb_meaning.specs.Memory.{Memory};
 ghost use Rattle.gb_meaning.specs.Outline.{AreOutlines};
 ghost use Rattle.gb_meaning.specs.Turn.{heard_of};
 ghost use Rattle.gb_plan.specs.Graph.{order};
+ghost use Rattle.gb_printer.specs.Printing.{Prints};
 ghost use Rattle.gb_records.specs.Said.{IsText};
+ghost use Rattle.gb_report.specs.Report.{task_text};
 ghost use Rattle.gb_start.specs.Plans.{AreOfPlan};
 ghost use Rattle.gb_start.specs.declared.starts.Ending.TheVariants.{ToCome};
 ghost use Rattle.gb_store.specs.Changes.{ChangesOnly};
@@ -31,6 +33,7 @@ use gb_core::path::TaskPath;
 use gb_folder::folder::Folder;
 use gb_listen::laws::told_more;
 use gb_listen::listener::TaskListener;
+use gb_printer::printer::Printer;
 use gb_report::report::TaskReport;
 use gb_start::starts::Starts;
 use std::alloc::Global;
@@ -48,15 +51,17 @@ fn push_reserved(reports: &mut Vec<TaskReport>, report: TaskReport)
     }
 }
 
-/// Takes the turns of all tasks, in their order, and puts their reports into the room that there is for them.
-/// Tells whether all listeners heard all of it. The paths are those of the tasks.
-pub(crate) fn take_turns<A: Actions, F: Folder, L: TaskListener>(
+/// Takes the turns of all tasks, in their order, prints the part of each as soon as its turn has ended, and
+/// puts their reports into the room that there is for them. Tells whether all listeners heard all of it. The
+/// paths are those of the tasks.
+pub(crate) fn take_turns<A: Actions, F: Folder, L: TaskListener, P: Printer>(
     alloc: Global,
     folder: &mut F,
     build: &Build<'_, A::Stored>,
     starts: &mut Starts,
     paths: Vec<TaskPath>,
     listeners: &mut Vec<L>,
+    printer: &mut P,
     reports: &mut Vec<TaskReport>,
 ) -> bool
     requires can { CanBuild A.meanings build.now.table.now build.now.tasks.now }
@@ -72,6 +77,7 @@ pub(crate) fn take_turns<A: Actions, F: Folder, L: TaskListener>(
         reports.new.items }
     ensures heard { AllTold (heard_of false reports.new.items) result
         (map L.ear listeners.old.items) (map L.ear listeners.new.items) }
+    ensures printed { Prints P.contents P.whole (flat_map task_text reports.new.items) printer.old printer.new }
     ensures asks { Asks F.failures F.may_leave F.asked
         (in_turns A.meanings build.now.table.now build.now.options build.now.tasks.now build.now.records.now)
         folder.old folder.new }
@@ -103,6 +109,7 @@ pub(crate) fn take_turns<A: Actions, F: Folder, L: TaskListener>(
         let _path = path.as_str();
         let taken = take_one::<A, F, L>(alloc, folder, build, starts, index, path, listeners);
         all_heard = all_heard && taken.all_heard;
+        printer.print_task(alloc, &taken.report);
         starts.end(index, &taken.report.outcome);
         push_reserved(reports, taken.report);
         index += 1;

@@ -44,7 +44,7 @@ use Rattle.gb_script.specs.declared.script.Clause.{Clause}
 use Rattle.gb_script.specs.declared.script.Clause.TheVariants as clauses
 use Rattle.gb_script.specs.declared.script.Condition.{Condition}
 use Rattle.gb_script.specs.declared.script.InputFiles.{InputFiles}
-use Rattle.gb_tasks.specs.Scripts.{declaration_of, registry_said, settled}
+use Rattle.gb_project.specs.Registered.{declaration_of, registry_said, settled}
 use Rattle.gb_invocation.proofs.Blameless.{AreBlameless, IsFair, all_after, all_append, all_flat, lookup_blameless, none_or_one, one_or_none, reference_blameless, test_blameless, tree_blameless}
 
 -- ---- Clauses

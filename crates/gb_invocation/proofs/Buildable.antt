@@ -31,7 +31,7 @@ use Rattle.gb_report.specs.declared.fault.Fault.{Fault}
 use Rattle.gb_script.specs.declared.script.Statement.{Statement}
 use Rattle.gb_scripts.proofs.PlaceLemmas.{is_fine, projects_fine}
 use Rattle.gb_tasks.proofs.FolderLemmas.{same_folder}
-use Rattle.gb_tasks.specs.Scripts.{declaration_of, registry_said, settled}
+use Rattle.gb_project.specs.Registered.{declaration_of, registry_said, settled}
 
 -- ---- Names
 

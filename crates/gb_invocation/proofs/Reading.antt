@@ -15,7 +15,7 @@ use Rattle.gb_registry.specs.Tables.{Tables}
 use Rattle.gb_scripts.proofs.OwnLemmas.{own_say_nothing}
 use Rattle.gb_scripts.specs.Scripts.{FolderSays, is_script_place}
 use Rattle.gb_store.specs.Faults.{BlamesOnly, IsOfMachine}
-use Rattle.gb_tasks.specs.Scripts.{registry_said}
+use Rattle.gb_project.specs.Registered.{registry_said}
 use Rattle.gb_invocation.specs.Scripts.{registers_in}
 
 module _ {M F Z S A : Type 0} (tables : Tables M F Z S A) (contents : Contents) where

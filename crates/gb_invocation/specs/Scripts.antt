@@ -10,7 +10,7 @@ use Rattle.gb_records.specs.Said.{IsText, text_of}
 use Rattle.gb_registry.specs.Source.{Source}
 use Rattle.gb_registry.specs.Tables.{Tables}
 use Rattle.gb_scripts.specs.Scripts.{FolderSays}
-use Rattle.gb_tasks.specs.Scripts.{registry_said}
+use Rattle.gb_project.specs.Registered.{registry_said}
 
 -- what the scripts of a folder register with these tables: the tasks of what they say, or their first fault
 abbrev pub registers_in : {M F Z S A : Type 0} → Tables M F Z S A → Registering

@@ -11,11 +11,12 @@ ghost use Rattle.gb_meaning.specs.Headline.{Agrees, EventKeeps, HaveHeard, Invoc
 ghost use Rattle.gb_meaning.specs.Headline.{HasFailed, TearsAreSeen, answer_of, times_blamed};
 ghost use Rattle.gb_meaning.specs.Kinds.{Kinds};
 ghost use Rattle.gb_meaning.specs.Outline.{IsOutlined};
+ghost use Rattle.gb_printer.specs.Printing.{Prints, parts_text};
 ghost use Rattle.gb_records.specs.Said.{IsText};
 ghost use Rattle.gb_registry.specs.Configure.{configure_faults};
 ghost use Rattle.gb_registry.specs.Tables.{tables_of};
 ghost use Rattle.gb_task.specs.Turned.{setting_with};
-ghost use Rattle.gb_tasks.specs.Scripts.{registry_said};
+ghost use Rattle.gb_project.specs.Registered.{registry_said};
 ghost use Rattle.gb_invocation.specs.Asked.{InvocationAsks};
 ghost use Rattle.gb_invocation.specs.Scripts.{registers_in, setting_of};
 
@@ -26,6 +27,7 @@ use gb_folder::folder::Folder;
 use gb_invoke::invoke::build_requested;
 use gb_listen::listener::TaskListener;
 use gb_meaning::events::{Invocation, Properties};
+use gb_printer::printer::Printer;
 use gb_provider::transforms::Transforms;
 use gb_registry::registry::Registry;
 use gb_registry::tables::Tables;
@@ -36,20 +38,26 @@ use gb_tasks::script_tasks::ScriptTasks;
 use std::alloc::{AllocError, Global};
 
 /// Reads the scripts of a folder with the values that the invocation gives, and builds what is asked of the
-/// tasks that they register. Each task that starts is told to all listeners. Refused before the first task,
-/// with nothing changed and nothing told, for the first fault of the scripts, of the words or of the plan,
-/// where memory runs out, or where scripts or records cannot be read.
-pub fn invoke<A: Actions, T: Transforms, F: Folder, L: TaskListener>(
+/// tasks that they register. Each task that starts is told to all listeners, and its part is printed as soon
+/// as its turn has ended. Refused before the first task, with nothing changed, told or printed, for the first
+/// fault of the scripts, of the words or of the plan, where memory runs out, or where scripts or records
+/// cannot be read.
+pub fn invoke<A: Actions, T: Transforms, F: Folder, L: TaskListener, P: Printer>(
     alloc: Global,
     folder: &mut F,
     tables: &Tables<A::Stored, T::Map, T::FlatMap, T::Zip, T::Test>,
     invocation: &Invocation,
     listeners: &mut Vec<L>,
+    printer: &mut P,
 ) -> Result<Report, Fault>
     ensures dry_run { IfOk result (λ report. report.dry_run ≡ invocation.now.options.dry_run) }
     ensures heard { IfOk result (λ report.
         HaveHeard report (map L.ear listeners.old.items) (map L.ear listeners.new.items)) }
     ensures untold { OnErr result (listeners.new ≡ listeners.old) }
+    // The parts of its tasks were printed; or a beginning of them, where they could not be.
+    ensures printed { IfOk result (λ report.
+        Prints P.contents P.whole (parts_text report) printer.old printer.new) }
+    ensures unprinted { OnErr result (printer.new ≡ printer.old) }
     ensures count { F.failures folder.old ≤ F.failures folder.new }
     // The device is blamed no more often than it failed.
     ensures device { HasFailed (times_blamed (answer_of result))
@@ -107,23 +115,29 @@ pub fn invoke<A: Actions, T: Transforms, F: Folder, L: TaskListener>(
 {
     let given = copy_given(alloc, &invocation.properties)?;
     let registry = read_registry::<A, T, F>(alloc, folder, tables, given)?;
-    build_registered::<A, T, F, L>(alloc, folder, tables, &registry, invocation, listeners)
+    build_registered::<A, T, F, L, P>(
+        alloc, folder, tables, &registry, invocation, listeners, printer,
+    )
 }
 
 /// Builds what is asked of the tasks of these scripts.
-fn build_registered<A: Actions, T: Transforms, F: Folder, L: TaskListener>(
+fn build_registered<A: Actions, T: Transforms, F: Folder, L: TaskListener, P: Printer>(
     alloc: Global,
     folder: &mut F,
     tables: &Tables<A::Stored, T::Map, T::FlatMap, T::Zip, T::Test>,
     registry: &Registry,
     invocation: &Invocation,
     listeners: &mut Vec<L>,
+    printer: &mut P,
 ) -> Result<Report, Fault>
     requires { configure_faults (tables_of T.meanings A.meanings tables.now) registry.now ≡ [] }
     ensures dry_run { IfOk result (λ report. report.dry_run ≡ invocation.now.options.dry_run) }
     ensures heard { IfOk result (λ report.
         HaveHeard report (map L.ear listeners.old.items) (map L.ear listeners.new.items)) }
     ensures untold { OnErr result (listeners.new ≡ listeners.old) }
+    ensures printed { IfOk result (λ report.
+        Prints P.contents P.whole (parts_text report) printer.old printer.new) }
+    ensures unprinted { OnErr result (printer.new ≡ printer.old) }
     ensures count { F.failures folder.old ≤ F.failures folder.new }
     // The device is blamed no more often than it failed.
     ensures device { HasFailed (times_blamed (answer_of result))
@@ -154,13 +168,14 @@ fn build_registered<A: Actions, T: Transforms, F: Folder, L: TaskListener>(
 {
     let _scripts = registry.scripts();
     let mut tasks = ScriptTasks::<A, T>::declare(alloc, tables, registry)?;
-    build_requested::<A, F, L, _>(
+    build_requested::<A, F, L, P, _>(
         alloc,
         folder,
         &mut tasks,
         &tables.actions,
         invocation,
         listeners,
+        printer,
     )
 }
 

@@ -7,6 +7,7 @@ ghost use Rattle.gb_meaning.specs.Headline.{Agrees, HasFailed, HaveHeard, Invoca
 ghost use Rattle.gb_meaning.specs.Kinds.{Kinds};
 ghost use Rattle.gb_meaning.specs.Outline.{IsOutlinedBy};
 ghost use Rattle.gb_meaning.specs.TrueRecord.{outside};
+ghost use Rattle.gb_printer.specs.Printing.{Prints, parts_text};
 ghost use Rattle.gb_records.specs.Said.{IsText};
 ghost use Rattle.gb_store.specs.Changes.{ChangesOnly};
 ghost use Rattle.gb_task.specs.Turned.{Registering, setting_with};
@@ -24,21 +25,24 @@ use gb_graph::plan::plan;
 use gb_listen::listener::TaskListener;
 use gb_meaning::events::Invocation;
 use gb_order::tasks::Tasks;
+use gb_printer::printer::Printer;
 use gb_report::fault::Fault;
 use gb_report::report::Report;
 use std::alloc::Global;
 
 /// Builds what is asked for: plans it, reads what is remembered of the plan's tasks, and executes the plan.
-/// Each task that starts is told to all listeners. Refused before the first task, with nothing changed and
-/// nothing told, where there is no plan, or records cannot be read; what goes wrong later is told as a task's
-/// failure. In a dry run no record is read and nothing changes.
-pub fn build_requested<A: Actions, F: Folder, L: TaskListener, Ts: Tasks>(
+/// Each task that starts is told to all listeners, and its part is printed as soon as its turn has ended.
+/// Refused before the first task, with nothing changed, told or printed, where there is no plan, or records
+/// cannot be read; what goes wrong later is told as a task's failure. In a dry run no record is read, and
+/// nothing changes or is printed.
+pub fn build_requested<A: Actions, F: Folder, L: TaskListener, P: Printer, Ts: Tasks>(
     alloc: Global,
     folder: &mut F,
     tasks: &mut Ts,
     table: &ActionTable<A::Stored>,
     invocation: &Invocation,
     listeners: &mut Vec<L>,
+    printer: &mut P,
 ) -> Result<Report, Fault>
     requires { AreBuildable A.meanings table.now (Ts.registry tasks.old) }
     ensures kept { Ts.registry tasks.new ≡ Ts.registry tasks.old }
@@ -51,6 +55,10 @@ pub fn build_requested<A: Actions, F: Folder, L: TaskListener, Ts: Tasks>(
     ensures heard { IfOk result (λ report.
         HaveHeard report (map L.ear listeners.old.items) (map L.ear listeners.new.items)) }
     ensures untold { OnErr result (listeners.new ≡ listeners.old) }
+    // The parts of its tasks were printed; or a beginning of them, where they could not be.
+    ensures printed { IfOk result (λ report.
+        Prints P.contents P.whole (parts_text report) printer.old printer.new) }
+    ensures unprinted { OnErr result (printer.new ≡ printer.old) }
     ensures count { F.failures folder.old ≤ F.failures folder.new }
     // The device is blamed no more often than it failed, if no script's fault blames it.
     ensures device { NoneBlameDevice (Ts.registry tasks.old)
@@ -90,13 +98,14 @@ pub fn build_requested<A: Actions, F: Folder, L: TaskListener, Ts: Tasks>(
     let options = invocation.options;
     let plan = plan(alloc, tasks, requested, excluded)?;
     let records = records_for(alloc, folder, plan.as_slice(), options.dry_run)?;
-    let report = execute::<A, F, L>(
+    let report = execute::<A, F, L, P>(
         alloc,
         folder,
         &plan,
         table,
         records.as_slice(),
         listeners,
+        printer,
         options,
     )?;
     Ok(report)

@@ -1,6 +1,7 @@
 //! The lines of an input in their order.
 ghost use Rattle.std.specs.Prelude.{◌≡◌, ◌⊎◌, ◌+◌, ◌-◌, ◌^◌, IfErr, IfOk, min};
-ghost use Rattle.gb_answer.specs.Answer.{not_built_text, refusal_text};
+ghost use Rattle.gb_answer.specs.Answer.{parts_of, refusal_text};
+ghost use Rattle.gb_printer.specs.Printing.{Prints};
 ghost use Rattle.gb_report.specs.declared.fault.Fault.TheVariants as faults;
 ghost use Rattle.gb_lines.specs.declared.stop.Stop.TheVariants as stops;
 
@@ -9,16 +10,21 @@ use crate::show::shown_files;
 use crate::stop::Stop;
 use crate::texts::answer_text;
 use gb_action::actions::Actions;
-use gb_answer::answer::{not_built_text, refusal_text};
+use gb_answer::answer::refusal_text;
+use gb_answer::printing::print_rest;
 use gb_core::place::Place;
 use gb_events::events::run_events;
 use gb_folder::folder::Folder;
 use gb_folder::memory::MemoryFolder;
+use gb_invocation::invocation::invoke;
 use gb_listen::listener::Recorder;
 use gb_meaning::events::Event;
+use gb_printer::page::Page;
+use gb_printer::printer::Printer;
 use gb_provider::transforms::Transforms;
 use gb_registry::tables::Tables;
 use gb_report::fault::Fault;
+use gb_report::report::Report;
 use gb_words::words::read;
 use std::alloc::{AllocError, Global};
 use std::io::{ErrorKind, Read, Write};
@@ -46,27 +52,40 @@ pub fn replay<A: Actions, T: Transforms, R: Read, W: Write>(
     writer: &mut W,
     tables: &Handed<A, T>,
 ) -> u8 {
-    match try_replay::<A, T, R, W>(alloc, reader, writer, tables) {
+    let mut page = Page::new(writer);
+    match try_replay::<A, T, R, Page<&mut W>>(alloc, reader, &mut page, tables) {
         Ok(()) => 0,
         Err(Stop::BadLine(_)) => 2,
         Err(_) => 1,
     }
 }
 
-fn try_replay<A: Actions, T: Transforms, R: Read, W: Write>(
+fn try_replay<A: Actions, T: Transforms, R: Read, P: Printer>(
     alloc: Global,
     reader: &mut R,
-    writer: &mut W,
+    printer: &mut P,
     tables: &Handed<A, T>,
 ) -> Result<(), Stop> {
     let input = read_input(alloc, reader)?;
-    let taken = take_input::<A, T, W>(alloc, writer, tables, input.as_slice());
+    let taken = take_input::<A, T, P>(alloc, printer, tables, input.as_slice());
     if let Err(Stop::BadLine(number)) = taken {
         let text = bad_line_text(alloc, number)?;
-        writer.write_all(text.as_slice())?;
+        printer.print(text.as_slice());
     }
-    writer.flush()?;
+    printer.print(b"");
+    is_printed(printer)?;
     taken
+}
+
+/// Fails where something could not be printed.
+fn is_printed<P: Printer>(printer: &P) -> Result<(), Stop>
+    ensures { IfErr result (λ stop. stop ≡ stops.Device) }
+{
+    if printer.is_whole() {
+        Ok(())
+    } else {
+        Err(Stop::Device)
+    }
 }
 
 /// What is printed of a bad line of this number.
@@ -101,9 +120,9 @@ fn is_too_large(input: &[u8]) -> bool {
     input.len() as u64 > MAX_INPUT
 }
 
-fn take_input<A: Actions, T: Transforms, W: Write>(
+fn take_input<A: Actions, T: Transforms, P: Printer>(
     alloc: Global,
-    writer: &mut W,
+    printer: &mut P,
     tables: &Handed<A, T>,
     input: &[u8],
 ) -> Result<(), Stop> {
@@ -113,25 +132,41 @@ fn take_input<A: Actions, T: Transforms, W: Write>(
     let mut folder = MemoryFolder::new(alloc);
     let mut lines_before = 0u64;
     for line in input.split(|byte| *byte == b'\n') {
-        take_line::<A, T, MemoryFolder, W>(alloc, &mut folder, writer, tables, line, lines_before)?;
+        take_line::<A, T, MemoryFolder, P>(
+            alloc,
+            &mut folder,
+            printer,
+            tables,
+            line,
+            lines_before,
+        )?;
         lines_before = lines_before.saturating_add(1);
     }
     Ok(())
 }
 
 /// Takes a line, with as many lines before it.
-fn take_line<A: Actions, T: Transforms, F: Folder, W: Write>(
+fn take_line<A: Actions, T: Transforms, F: Folder, P: Printer>(
     alloc: Global,
     folder: &mut F,
-    writer: &mut W,
+    printer: &mut P,
     tables: &Handed<A, T>,
     line: &[u8],
     lines_before: u64,
 ) -> Result<(), Stop> {
-    let line = read_numbered(alloc, line, lines_before)?;
-    let text = line_text::<A, T, F>(alloc, folder, tables, line)?;
-    writer.write_all(text.as_slice())?;
-    Ok(())
+    match read_numbered(alloc, line, lines_before)? {
+        Line::Empty => {}
+        Line::Run(words) => build::<A, T, F, P>(alloc, folder, printer, tables, words),
+        Line::Show(place) => printer.print(shown_files(alloc, folder, &place)?.as_slice()),
+        Line::Put(place, bytes) => {
+            edit::<A, T, F, P>(alloc, folder, printer, tables, Event::Put(place, bytes))?;
+        }
+        Line::Remove(place) => {
+            edit::<A, T, F, P>(alloc, folder, printer, tables, Event::Remove(place))?;
+        }
+        Line::Lost => edit::<A, T, F, P>(alloc, folder, printer, tables, Event::Lost)?,
+    }
+    is_printed(printer)
 }
 
 /// Reads a line, and counts it from 1 where it is none.
@@ -146,50 +181,54 @@ fn read_numbered(alloc: Global, line: &[u8], lines_before: u64) -> Result<Line, 
     }
 }
 
-/// Does what a line says, and answers what is printed of it.
-fn line_text<A: Actions, T: Transforms, F: Folder>(
+/// Builds what the words ask for: the part of each task is printed as soon as its turn has ended.
+fn build<A: Actions, T: Transforms, F: Folder, P: Printer>(
     alloc: Global,
     folder: &mut F,
-    tables: &Handed<A, T>,
-    line: Line,
-) -> Result<Vec<u8>, Stop> {
-    match line {
-        Line::Empty => Ok(Vec::new(alloc)),
-        Line::Put(place, bytes) => event_text::<A, T, F>(
-            alloc,
-            folder,
-            tables,
-            Event::Put(place, bytes),
-        ),
-        Line::Remove(place) => event_text::<A, T, F>(alloc, folder, tables, Event::Remove(place)),
-        Line::Lost => event_text::<A, T, F>(alloc, folder, tables, Event::Lost),
-        Line::Run(words) => build_text::<A, T, F>(alloc, folder, tables, words),
-        Line::Show(place) => shown_files(alloc, folder, &place),
-    }
-}
-
-/// Builds what the words ask for.
-fn build_text<A: Actions, T: Transforms, F: Folder>(
-    alloc: Global,
-    folder: &mut F,
+    printer: &mut P,
     tables: &Handed<A, T>,
     words: Vec<String>,
-) -> Result<Vec<u8>, Stop> {
+) {
+    let answer = built::<A, T, F, P>(alloc, folder, printer, tables, words);
+    print_rest(alloc, printer, &answer);
+    drop(answer);
+}
+
+/// What becomes of the words.
+fn built<A: Actions, T: Transforms, F: Folder, P: Printer>(
+    alloc: Global,
+    folder: &mut F,
+    printer: &mut P,
+    tables: &Handed<A, T>,
+    words: Vec<String>,
+) -> Result<Report, Fault>
+    ensures { Prints P.contents P.whole (parts_of result) printer.old printer.new }
+{
     match read(alloc, words) {
-        Ok(invocation) => event_text::<A, T, F>(alloc, folder, tables, Event::Invoke(invocation)),
-        Err(fault) => Ok(fault_text(alloc, fault)?),
+        Ok(asked) => {
+            let mut listeners: Vec<Recorder> = Vec::new(alloc);
+            invoke::<A, T, F, Recorder, P>(alloc, folder, tables, &asked, &mut listeners, printer)
+        }
+        Err(fault) => Err(fault),
     }
 }
 
-/// What is printed of a build that this fault refuses.
-fn fault_text(alloc: Global, fault: Fault) -> Result<Vec<u8>, AllocError>
-    ensures { IfOk result (λ text. text.items ≡ not_built_text fault) }
-{
-    let text = not_built_text(alloc, &fault);
-    drop(fault);
-    text
+/// Does what an edit says, and prints what becomes of it, if that is anything.
+fn edit<A: Actions, T: Transforms, F: Folder, P: Printer>(
+    alloc: Global,
+    folder: &mut F,
+    printer: &mut P,
+    tables: &Handed<A, T>,
+    event: Event,
+) -> Result<(), Stop> {
+    let text = event_text::<A, T, F>(alloc, folder, tables, event)?;
+    if !text.is_empty() {
+        printer.print(text.as_slice());
+    }
+    Ok(())
 }
 
+/// Does what an event says, and answers what is printed of it.
 fn event_text<A: Actions, T: Transforms, F: Folder>(
     alloc: Global,
     folder: &mut F,

@@ -8,6 +8,8 @@ use Rattle.gb_meaning.specs.declared.events.Invocation.{Invocation}
 use Rattle.gb_plan.specs.Ready.{Rows}
 use Rattle.gb_report.specs.declared.fault.Fault.{Fault}
 use Rattle.gb_report.specs.declared.report.Report.{Report}
+use Rattle.gb_answer.proofs.Parts.{printed_of}
+use Rattle.gb_printer.proofs.Printed.{prints_nothing}
 use Rattle.gb_command.specs.Answered.{AskFor, AsksFor, Given}
 use Rattle.gb_command.proofs.run.answered.Goals as goal
 
@@ -35,3 +37,10 @@ returns-in-Ok-clause-asks g c =
 
 pub returns-in-Err-clause-asks : goal.returns-in-Err-clause-asks
 returns-in-Err-clause-asks g c = asks_nothing c.args.folder.now
+
+pub returns-in-Ok-clause-printed : goal.returns-in-Ok-clause-printed
+returns-in-Ok-clause-printed g c =
+    printed_of g.W.Printer.contents g.W.Printer.whole c.invoke.result c.args.writer.now c.invoke.new.printer c.invoke.ensures.printed c.invoke.ensures.unprinted
+
+pub returns-in-Err-clause-printed : goal.returns-in-Err-clause-printed
+returns-in-Err-clause-printed g c = prints_nothing g.W.Printer.contents g.W.Printer.whole c.args.writer.now

@@ -1,10 +1,13 @@
-use Rattle.std.proofs.Common.{Bool, true, List, [], inl, inr, map, sym, ap, subst, ◌∙◌}
-use Rattle.std.specs.List.{AllZip}
+use Rattle.std.proofs.Common.{cond, Bool, true, List, [], inl, inr, map, sym, ap, subst, ◌∙◌}
+use Rattle.std.specs.List.{AllZip, flat_map}
 use Rattle.gb_listen.specs.Telling.{AllTold}
 use Rattle.gb_meaning.specs.Events.{State}
 use Rattle.gb_meaning.specs.Outline.{AreOutlines}
 use Rattle.gb_meaning.specs.Turn.{dry_reports, heard_of}
 use Rattle.gb_plan.specs.declared.plan.Planned.{Planned}
+use Rattle.gb_printer.specs.Printing.{Prints}
+use Rattle.gb_printer.proofs.Printed.{prints_nothing}
+use Rattle.gb_report.specs.Report.{task_text}
 use Rattle.gb_report.specs.declared.report.TaskReport.{TaskReport}
 use Rattle.gb_store.specs.Changes.{ChangesOnly}
 use Rattle.gb_task.specs.Turned.{setting_with}
@@ -33,6 +36,13 @@ returns-then-options-clause-heard g c =
     let ears = map g.L.TaskListener.ear c.args.listeners.now.items in
     c.told_is_heard.ensures c.reported.result true ears ears c.reported.ensures.refused
     (subst (λ (dry : Bool). AllTold (heard_of dry c.reported.result.tasks) true ears ears) (sym c.reported.ensures.dry_run) (untold ears))
+
+pub returns-then-options-clause-printed : goal.returns-then-options-clause-printed
+returns-then-options-clause-printed g c =
+    let P = g.P.Printer in
+    let start = c.args.printer.now in
+    subst (λ (dry : Bool). Prints P.contents P.whole (cond dry [] (flat_map task_text c.reported.result.tasks)) start start) (sym c.reported.ensures.dry_run)
+    (prints_nothing P.contents P.whole start)
 
 pub returns-then-options-clause-device : goal.returns-then-options-clause-device
 returns-then-options-clause-device g c =
@@ -66,6 +76,15 @@ returns-clause-heard g c =
     (subst (λ (rs : List TaskReport). AllTold (heard_of c.reported-2.result.dry_run rs) c.take_turns-all_heard.result first last) (sym c.reported-2.ensures.tasks)
     (subst (λ (dry : Bool). AllTold (heard_of dry c.take_turns-all_heard.new.reports.items) c.take_turns-all_heard.result first last) (sym c.reported-2.ensures.dry_run)
     c.take_turns-all_heard.ensures.heard))
+
+pub returns-clause-printed : goal.returns-clause-printed
+returns-clause-printed g c =
+    let P = g.P.Printer in
+    let start = c.args.printer.now in
+    let end = c.take_turns-all_heard.new.printer in
+    subst (λ (dry : Bool). Prints P.contents P.whole (cond dry [] (flat_map task_text c.reported-2.result.tasks)) start end) (sym c.reported-2.ensures.dry_run)
+    (subst (λ (rs : List TaskReport). Prints P.contents P.whole (flat_map task_text rs) start end) (sym c.reported-2.ensures.tasks)
+    c.take_turns-all_heard.ensures.printed)
 
 pub returns-clause-changes : goal.returns-clause-changes
 returns-clause-changes g c = λ tells.

@@ -1,5 +1,5 @@
 use Rattle.std.proofs.Common.{rules, ◌≡◌, ◌<◌, ◌≤◌, ◌+◌, ◌-◌, ◌++◌, ◌∷◌, ◌&&◌, [], ℕ, Bool, true, false, List, IsTrue, drop, length, map, take, replicate, ◌⊎◌, inl, inr, not, refl, sym, ap, subst, ◌∙◌, arith, slice_set}
-use Rattle.std.specs.List.{AllByRecursion, AllZip}
+use Rattle.std.specs.List.{AllByRecursion, AllZip, flat_map}
 use Rattle.std.specs.Vec.Iter.{into_iter_items}
 use Rattle.std.proofs.lemmas.List.{drop_all, get_or-replicate, length-append, length-drop, length-map, length-replicate, length-set, map-append, take_all}
 use Rattle.std.proofs.Math.ListN.{get_or-eq_default}
@@ -16,6 +16,9 @@ use Rattle.gb_plan.proofs.Tests.{not_false, not_true}
 use Rattle.gb_plan.specs.Graph.{no_repeats, order}
 use Rattle.gb_plan.specs.Task.{Path}
 use Rattle.gb_plan.specs.declared.plan.Planned.{Planned}
+use Rattle.gb_printer.specs.Printing.{Prints}
+use Rattle.gb_printer.proofs.Printed.{prints_more, prints_nothing}
+use Rattle.gb_report.specs.Report.{task_text}
 use Rattle.gb_report.specs.declared.report.Heard.{Heard}
 use Rattle.gb_report.specs.declared.report.Outcome.{Outcome}
 use Rattle.gb_report.specs.declared.report.TaskReport.{TaskReport}
@@ -37,6 +40,7 @@ use Rattle.gb_execute.proofs.Ending.{endings_more, none_ended}
 use Rattle.gb_execute.proofs.Hearing.{heard_more, untold}
 use Rattle.gb_execute.proofs.Knowing.{knows}
 use Rattle.gb_execute.proofs.Outlining.{outlines_more}
+use Rattle.gb_execute.proofs.Printing.{parts_more}
 use Rattle.gb_execute.proofs.Shut.{HasOwnPlaces}
 use Rattle.gb_execute.proofs.Underway.{IsUnderway, begun, built, goes_on, outcome_in}
 use Rattle.gb_execute.proofs.Walking.{all_more, at_index, changes_more, drop_at, each_at, left_less, next_path, once_behind, placed_where, take_at, whole_at, zip_more}
@@ -57,6 +61,7 @@ all_come endings n is number = ap (λ (es : List Ending). ending_in es number) i
 pub loop-path-init : goal.loop-path-init
 loop-path-init g c =
     let F = g.F.Folder in
+    let P = g.P.Printer in
     let tasks = c.args.build.now.tasks.now in
     let start = c.args.folder.now in
     let ears = map g.L.TaskListener.ear c.args.listeners.now.items in
@@ -74,6 +79,8 @@ loop-path-init g c =
       outline = subst (λ (rs : List TaskReport). AreOutlines c.args.build.now.options tasks [] [] rs) (sym none) tt;
       places = tt;
       heard = subst (λ (rs : List TaskReport). AllTold (heard_of false rs) true ears ears) (sym none) (untold ears);
+      printed = subst (λ (rs : List TaskReport). Prints P.contents P.whole (flat_map task_text rs) c.args.printer.now c.args.printer.now) (sym none)
+          (prints_nothing P.contents P.whole c.args.printer.now);
       asks = asks_nothing start;
       device = subst (λ (rs : List TaskReport). HasFailed (times_blamed rs) (F.failures start) (F.failures start)) (sym none) (inl (omega arith));
       changes = λ tells. changes_none (is_of_turns []) (F.contents start) (F.contents start) refl;
@@ -92,6 +99,7 @@ take_one-taken-requires-clause-path g c = λ planned is.
 pub loop-path-preserved : goal.loop-path-preserved
 loop-path-preserved g c =
     let F = g.F.Folder in
+    let P = g.P.Printer in
     let ear = g.L.TaskListener.ear in
     let build = c.args.build.now in
     let tasks = build.tasks.now in
@@ -150,6 +158,9 @@ loop-path-preserved g c =
       heard = subst (λ (b : Bool). AllTold (heard_of false c.push_reserved.new.reports.items) b first last) (sym both)
           (subst (λ (hs : List Heard). AllTold hs (c.loop-path.all_heard && c.take_one-taken.result.all_heard) first last)
           (sym (ap (heard_of false) items ∙ heard_more reports report)) told);
+      printed = subst (λ (rs : List TaskReport). Prints P.contents P.whole (flat_map task_text rs) c.args.printer.now c.print_task.new.self) (sym items)
+          (subst (λ (text : List ℕ). Prints P.contents P.whole text c.args.printer.now c.print_task.new.self) (sym (parts_more reports report))
+          (prints_more P.contents P.whole (flat_map task_text reports) (task_text report) c.args.printer.now c.loop-path.printer c.print_task.new.self inv.printed c.print_task.ensures));
       asks = asks_then inv.asks c.take_one-taken.ensures.asks;
       device = subst (λ (rs : List TaskReport). HasFailed (times_blamed rs) (F.failures start) (F.failures next)) (sym items)
           (failed_more reports report (F.failures start) (F.failures now) (F.failures next) inv.device c.take_one-taken.ensures.asks.count c.take_one-taken.ensures.blame);

@@ -1,5 +1,5 @@
 use Rattle.std.proofs.Common.{◌≡◌, ◌≤◌, Bool, false, List, [], IsTrue, drop, length, map, take}
-use Rattle.std.specs.List.{AllByRecursion, AllZip}
+use Rattle.std.specs.List.{AllByRecursion, AllZip, flat_map}
 use Rattle.std.specs.Vec.{vec_capacity}
 use Rattle.std.specs.Vec.Iter.{into_iter_items}
 use Rattle.gb_folder.specs.Calls.{Asks}
@@ -12,7 +12,9 @@ use Rattle.gb_meaning.specs.Memory.{Memory}
 use Rattle.gb_meaning.specs.Outline.{AreOutlines}
 use Rattle.gb_meaning.specs.Turn.{heard_of}
 use Rattle.gb_plan.specs.Graph.{order}
+use Rattle.gb_printer.specs.Printing.{Prints}
 use Rattle.gb_records.specs.Said.{IsText}
+use Rattle.gb_report.specs.Report.{task_text}
 use Rattle.gb_start.specs.Plans.{AreEndings, AreOfPlan}
 use Rattle.gb_store.specs.Changes.{ChangesOnly}
 use Rattle.gb_task.specs.Turned.{Registering}
@@ -28,6 +30,7 @@ use Rattle.gb_execute.proofs.turns.take_turns.Given as goal
 abbrev pub invariant-loop-path : goal.invariant-loop-path
 invariant-loop-path g l =
     let F = g.F.Folder in
+    let P = g.P.Printer in
     let ear = g.L.TaskListener.ear in
     let tasks = l.build.tasks.now in
     let start = l.fn.folder in
@@ -44,6 +47,7 @@ invariant-loop-path g l =
       outline : AreOutlines l.build.options tasks [] done l.reports.items;
       places : AllByRecursion HasOwnPlaces done;
       heard : AllTold (heard_of false l.reports.items) l.all_heard (map ear l.fn.listeners.items) (map ear l.listeners.items);
+      printed : Prints P.contents P.whole (flat_map task_text l.reports.items) l.fn.printer l.printer;
       asks : Asks F.failures F.may_leave F.asked (in_turns g.A.Actions.meanings l.build.table.now l.build.options tasks l.build.records.now) start l.folder;
       device : HasFailed (times_blamed l.reports.items) (F.failures start) (F.failures l.folder);
       changes : IsTrue F.tells → ChangesOnly (is_of_turns done) (F.contents start) (F.contents l.folder);

@@ -16,7 +16,8 @@ use Rattle.gb_plan.specs.Graph.{IsRegistry, Registry}
 use Rattle.gb_registry.specs.Seen.{scripts_in}
 use Rattle.gb_registry.specs.Tables.{tables_of}
 use Rattle.gb_task.specs.Turned.{setting_with}
-use Rattle.gb_tasks.specs.Scripts.{registry_in, registry_said}
+use Rattle.gb_project.specs.Registered.{registry_said}
+use Rattle.gb_tasks.specs.Scripts.{registry_in}
 use Rattle.gb_invocation.proofs.Blamed.{memory_blames_none}
 use Rattle.gb_invocation.proofs.BlamelessTasks.{declared_blame_none}
 use Rattle.gb_invocation.proofs.Buildable.{are_buildable}

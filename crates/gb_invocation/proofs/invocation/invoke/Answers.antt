@@ -14,7 +14,7 @@ use Rattle.gb_meaning.specs.Headline.{KeepsElsewhere, answer_of, times_blamed}
 use Rattle.gb_registry.specs.Tables.{tables_of}
 use Rattle.gb_report.specs.declared.fault.Fault.{Fault}
 use Rattle.gb_report.specs.declared.fault.Fault.TheVariants as faults
-use Rattle.gb_tasks.specs.Scripts.{registry_said}
+use Rattle.gb_project.specs.Registered.{registry_said}
 use Rattle.gb_invocation.specs.Scripts.{registers_in, setting_of}
 use Rattle.gb_invocation.proofs.Blamed.{failed_since, memory_blames_none, reading_fails}
 use Rattle.gb_invocation.proofs.Keeping.{begun_before, each_fault, invoked_keeps, of_fault, refusal_keeps}
