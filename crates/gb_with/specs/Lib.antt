@@ -1,4 +1,6 @@
 pub mod Both
+pub mod Names
 pub mod Own
 pub mod FileKinds
+pub mod Functions
 pub mod TreeKinds

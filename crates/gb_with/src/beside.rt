@@ -1,8 +1,10 @@
 //! Two tables of actions as one.
-ghost use Rattle.std.specs.Prelude.{◌≡◌, ◌≤◌, ◌∷◌, ◌++◌, [], IfErr, IfOk, IsTrue, OnOk};
+ghost use Rattle.std.specs.Prelude.{◌≡◌, ◌≤◌, ◌∷◌, ◌++◌, [], false, true, IfErr, IfOk, IsErrOf, IsTrue, OnOk};
 ghost use Rattle.gb_core.specs.Name.{is_name};
 ghost use Rattle.gb_action.specs.declared.table.TableFault.TheVariants.{OutOfMemory};
 ghost use Rattle.gb_with.specs.Both.{firsts, seconds};
+ghost use Rattle.gb_with.specs.Names.{are_new, share, stand_once};
+ghost use Rattle.gb_with.specs.declared.both.Either.{Either};
 
 use crate::both::Either;
 use crate::stored::{Call, OwnAction};
@@ -25,20 +27,39 @@ pub fn only<C: Call>(
     Ok(table)
 }
 
-/// The actions of two tables in one, with one space of names: refused (41) where a name stands in both.
+/// The actions of two tables in one, with one space of names. Tables whose names each stand once are refused
+/// (41) exactly where a name stands in both, unless memory runs out.
 pub fn beside<A: Drop, B: Drop>(
     alloc: Global,
     first: ActionTable<A>,
     second: ActionTable<B>,
 ) -> Result<ActionTable<Either<A, B>>, TableFault>
-    ensures { IfOk result (λ table. table ≡ firsts first ++ seconds second) }
+    ensures ok { IfOk result (λ table. table ≡ firsts first ++ seconds second) }
+    ensures once { IfOk result (λ table. IsTrue (stand_once table)) }
+    ensures apart { IfOk result (λ _. share first second ≡ false) }
+    ensures duplicate { IsErrOf result TableFault.DuplicateAction
+        → IsTrue (stand_once first) → IsTrue (stand_once second) → IsTrue (share first second) }
 {
     let mut table = ActionTable::new(alloc);
+    add_firsts(&mut table, first)?;
+    add_seconds(&mut table, second)?;
+    Ok(table)
+}
+
+/// Adds the actions of one table.
+fn add_firsts<A: Drop, B: Drop>(
+    table: &mut ActionTable<Either<A, B>>,
+    first: ActionTable<A>,
+) -> Result<(), TableFault>
+    ensures ok { OnOk result (table.new ≡ table.old ++ firsts first) }
+    ensures new { OnOk result (are_new {S = Either A B} table.old (firsts first) ≡ true) }
+    ensures duplicate { IsErrOf result TableFault.DuplicateAction
+        → are_new {S = Either A B} table.old (firsts first) ≡ false }
+{
     for (name, stored) in first.into_entries()? {
         table.add_under(name.as_str(), Either::First(stored))?;
     }
-    add_seconds(&mut table, second)?;
-    Ok(table)
+    Ok(())
 }
 
 /// Adds the actions of another table.
@@ -46,7 +67,10 @@ fn add_seconds<A: Drop, B: Drop>(
     table: &mut ActionTable<Either<A, B>>,
     second: ActionTable<B>,
 ) -> Result<(), TableFault>
-    ensures { OnOk result (table.new ≡ table.old ++ seconds second) }
+    ensures ok { OnOk result (table.new ≡ table.old ++ seconds second) }
+    ensures new { OnOk result (are_new {S = Either A B} table.old (seconds second) ≡ true) }
+    ensures duplicate { IsErrOf result TableFault.DuplicateAction
+        → are_new {S = Either A B} table.old (seconds second) ≡ false }
 {
     for (name, stored) in second.into_entries()? {
         table.add_under(name.as_str(), Either::Second(stored))?;

@@ -10,6 +10,7 @@ pub mod beside;
 pub mod both;
 pub mod by_file;
 pub mod file_kind;
+pub mod functions;
 pub mod of_trees;
 pub mod stored;
 pub mod tree_kind;

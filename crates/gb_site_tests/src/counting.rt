@@ -1,0 +1,51 @@
+//! A listener of one's own: it counts the tasks that were executed, beside all that it hears.
+ghost use Rattle.std.specs.Prelude.{◌≡◌, ◌∷◌, [], OnErr, OnOk};
+ghost use Rattle.gb_listen.specs.Telling.{Refuses};
+ghost use Rattle.gb_meaning.specs.Headline.{HearsAll};
+ghost use Rattle.gb_report.specs.declared.report.Heard.TheVariants.{Start, End};
+
+use gb_core::path::TaskPath;
+use gb_listen::listener::{Recorder, TaskListener};
+use gb_report::report::{Heard, Outcome};
+use std::alloc::{AllocError, Global};
+
+/// It keeps what it hears in a recorder, which is its ear.
+#[derive(Drop)]
+pub struct Counting {
+    recorder: Recorder,
+    pub executed: u64,
+}
+
+impl Counting {
+    /// It has heard nothing yet.
+    pub fn new(alloc: Global) -> Counting {
+        Counting {
+            recorder: Recorder::new(alloc),
+            executed: 0,
+        }
+    }
+}
+
+impl TaskListener for Counting {
+    ghost ear = { λ listener. listener.recorder };
+
+    fn before_execute(&mut self, alloc: Global, task: &TaskPath) -> Result<(), AllocError> {
+        self.recorder.before_execute(alloc, task)
+    }
+
+    fn after_execute(
+        &mut self,
+        alloc: Global,
+        task: &TaskPath,
+        outcome: &Outcome,
+    ) -> Result<(), AllocError> {
+        if let Outcome::Executed = outcome {
+            self.executed = self.executed.saturating_add(1);
+        }
+        self.recorder.after_execute(alloc, task, outcome)
+    }
+
+    fn heard(&self) -> &[Heard] {
+        self.recorder.heard()
+    }
+}

@@ -1,0 +1,33 @@
+//! Kinds of two tables under one name.
+use crate::offering::builtin;
+use crate::steps::is_told;
+use gb_action::table::TableFault;
+use gb_here::refused::print_refused;
+use gb_pages::kinds::Markdown;
+use gb_with::beside::{beside, only};
+use gb_with::by_file::ByFile;
+use std::alloc::Global;
+use std::test::Fail;
+
+/// Why the kind of pages cannot stand beside the built-in kind under its name.
+fn refusal(alloc: Global) -> Result<Option<TableFault>, Fail> {
+    let own = only::<ByFile<Markdown>>(alloc, "copyFiles", 1)?;
+    Ok(beside(alloc, builtin(alloc)?, own).err())
+}
+
+/// What is printed of a refusal.
+fn printed(alloc: Global, fault: TableFault) -> Result<String, Fail> {
+    let mut out = Vec::new(alloc);
+    if !print_refused(&mut out, fault) {
+        return Err(Fail::new("not printed"));
+    }
+    Ok(String::from_utf8(out)?)
+}
+
+#[test]
+fn a_name_of_a_built_in_kind_is_refused(rt: HostRuntime) -> Result<(), Fail> {
+    let alloc = rt.alloc();
+    assert_eq!(rt; refusal(alloc)?, Some(TableFault::DuplicateAction));
+    let text = printed(alloc, TableFault::DuplicateAction)?;
+    is_told("REFUSED 41 duplicate action\nBUILD FAILED\n", text.as_str())
+}

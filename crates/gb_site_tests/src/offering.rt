@@ -1,0 +1,65 @@
+//! What a site is built with: a built-in kind and those of pages in one table, and one function of values.
+use gb_action::actions::Actions;
+use gb_action::table::ActionTable;
+use gb_core::name::Name;
+use gb_kinds::builtin::{Builtin, StoredAction};
+use gb_kinds::files::copy_files;
+use gb_kinds::function_table::FunctionTable;
+use gb_kinds::functions::{OUTPUT, output};
+use gb_kinds::shapes::{COPY_FILES, copy_files_shape};
+use gb_kinds::stored::StoredFlat;
+use gb_pages::actions::{Pages, page_actions};
+use gb_provider::transforms::Transforms;
+use gb_registry::tables::Tables;
+use gb_with::beside::beside;
+use gb_with::both::Both;
+use std::alloc::Global;
+use std::test::Fail;
+
+/// The built-in kinds, and those of pages.
+pub type Kinds = Both<Builtin, Pages>;
+
+pub type Handed<A, T> = Tables<
+    <A as Actions>::Stored,
+    <T as Transforms>::Map,
+    <T as Transforms>::FlatMap,
+    <T as Transforms>::Zip,
+    <T as Transforms>::Test,
+>;
+
+fn copying(alloc: Global) -> Result<StoredAction, Fail> {
+    let shape = copy_files_shape(alloc)?;
+    let run = Box::new(alloc, copy_files)?;
+    Ok(StoredAction::new(COPY_FILES, 1, shape, run))
+}
+
+/// The one built-in kind that the site asks for. With a closure at hand each way out is dear to check.
+pub fn builtin(alloc: Global) -> Result<ActionTable<StoredAction>, Fail> {
+    let name = Name::read(alloc, "copyFiles")?;
+    let mut table = ActionTable::new(alloc);
+    table.add(&name, copying(alloc)?)?;
+    Ok(table)
+}
+
+fn choosing(alloc: Global) -> Result<StoredFlat, Fail> {
+    let run = Box::new(alloc, output)?;
+    Ok(StoredFlat::new(OUTPUT, 1, run))
+}
+
+/// The one function of values that the site asks for.
+fn functions(alloc: Global) -> Result<FunctionTable, Fail> {
+    let name = Name::read(alloc, "output")?;
+    let mut table = FunctionTable::new(alloc);
+    table.add_flat(&name, choosing(alloc)?)?;
+    Ok(table)
+}
+
+/// What a build of the site is handed.
+pub fn offered(alloc: Global) -> Result<Handed<Kinds, Builtin>, Fail> {
+    let transforms = functions(alloc)?;
+    let actions = beside(alloc, builtin(alloc)?, page_actions(alloc)?)?;
+    Ok(Tables {
+        actions,
+        transforms,
+    })
+}

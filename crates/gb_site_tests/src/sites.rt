@@ -1,0 +1,138 @@
+//! A site is built, edited and built again.
+use crate::offering::{Handed, Kinds, offered};
+use crate::steps::{Step, go_on, stand, stands};
+use gb_action::actions::Actions;
+use gb_folder::memory::MemoryFolder;
+use gb_kinds::builtin::Builtin;
+use gb_provider::transforms::Transforms;
+use std::alloc::Global;
+use std::test::Fail;
+
+/// The script of the site.
+pub const SCRIPT: &[u8] = b"
+register html : markdown {
+    doFirst checkPages
+    inputFiles src incremental from dir(\"pages\")
+    outputDir out = dir(\"build/html\")
+}
+register laidOut : template(\"page\") {
+    inputFiles src from task(\"html\").flatMap(output(\"out\"))
+    inputFiles layout from file(\"layout.html\")
+    outputDir out = dir(\"build/laid-out\")
+}
+register all : index(\"All\") {
+    inputFiles src from dir(\"pages\")
+    outputDir out = dir(\"build/all\")
+}
+register site : copyFiles {
+    inputFiles src incremental from task(\"laidOut\").flatMap(output(\"out\")), task(\"all\").flatMap(output(\"out\"))
+    outputDir out = dir(\"build/site\")
+}
+";
+
+/// The script, a layout and two pages.
+pub const PAGES: [Step<'static>; 4] = [
+    Step::Put("build.gb", SCRIPT),
+    Step::Put("layout.html", b"<body>{{page}}</body>\n"),
+    Step::Put("pages/a.md", b"# A\n1 < 2\n"),
+    Step::Put("pages/b.md", b"# B\n"),
+];
+
+/// What is printed of its first build.
+pub const FIRST: &str =
+    "> Task :all\n> Task :html\nADDED a.md\nADDED b.md\n> Task :laidOut\n> Task :site\n\
+ADDED a.html\nADDED b.html\nADDED index.html\nBUILD SUCCESSFUL\n4 actionable tasks: 4 executed\n";
+
+/// What is printed where nothing is to do.
+pub const IDLE: &str =
+    "> Task :all UP-TO-DATE\n> Task :html UP-TO-DATE\n> Task :laidOut UP-TO-DATE\n\
+> Task :site UP-TO-DATE\nBUILD SUCCESSFUL\n4 actionable tasks: 4 up-to-date\n";
+
+/// It is built, and then nothing is to do.
+const BUILDS: [Step<'static>; 2] = [Step::Run("site", 4, FIRST), Step::Run("site", 0, IDLE)];
+
+/// One page is edited: it alone is made again of its text, and copied.
+const EDIT: [Step<'static>; 3] = [
+    Step::Put("pages/b.md", b"# B\n*new*\n"),
+    Step::Run(
+        "site",
+        4,
+        "> Task :all\n> Task :html\nMODIFIED b.md\n> Task :laidOut\n> Task :site\nMODIFIED b.html\n\
+BUILD SUCCESSFUL\n4 actionable tasks: 4 executed\n",
+    ),
+    Step::Run("site", 0, IDLE),
+];
+
+/// One page is removed.
+const REMOVAL: [Step<'static>; 3] = [
+    Step::Delete("pages/a.md"),
+    Step::Run(
+        "site",
+        4,
+        "> Task :all\n> Task :html\nREMOVED a.md\n> Task :laidOut\n> Task :site\nREMOVED a.html\n\
+MODIFIED index.html\nBUILD SUCCESSFUL\n4 actionable tasks: 4 executed\n",
+    ),
+    Step::Run("site", 0, IDLE),
+];
+
+/// A folder in memory with the site.
+pub fn written<A: Actions, T: Transforms>(
+    alloc: Global,
+    tables: &Handed<A, T>,
+) -> Result<MemoryFolder, Fail> {
+    let mut folder = MemoryFolder::new(alloc);
+    go_on::<A, T>(alloc, &mut folder, tables, &PAGES)?;
+    Ok(folder)
+}
+
+/// Fails where the pages of the first build are others.
+fn is_first<A: Actions, T: Transforms>(
+    alloc: Global,
+    folder: &mut MemoryFolder,
+    tables: &Handed<A, T>,
+) -> Result<(), Fail> {
+    go_on::<A, T>(alloc, folder, tables, &BUILDS)?;
+    stands(
+        alloc,
+        folder,
+        "build/site/a.html",
+        "<body><h1>A</h1>\n<p>1 &lt; 2</p>\n</body>\n",
+    )?;
+    stands(
+        alloc,
+        folder,
+        "build/site/index.html",
+        "<h1>All</h1>\n<ul>\n<li><a href=\"a.html\">a</a></li>\n<li><a href=\"b.html\">b</a></li>\n</ul>\n",
+    )
+}
+
+/// Fails where an edit makes something else, or a removed page stays.
+fn follows<A: Actions, T: Transforms>(
+    alloc: Global,
+    folder: &mut MemoryFolder,
+    tables: &Handed<A, T>,
+) -> Result<(), Fail> {
+    go_on::<A, T>(alloc, folder, tables, &EDIT)?;
+    stands(
+        alloc,
+        folder,
+        "build/site/b.html",
+        "<body><h1>B</h1>\n<p><em>new</em></p>\n</body>\n",
+    )?;
+    go_on::<A, T>(alloc, folder, tables, &REMOVAL)?;
+    stand(
+        alloc,
+        folder,
+        "build/site",
+        "build/site/b.html\nbuild/site/index.html\n",
+    )
+}
+
+#[test]
+fn a_site_follows_its_pages(rt: HostRuntime) -> Result<(), Fail> {
+    let alloc = rt.alloc();
+    let tables = offered(alloc)?;
+    let mut folder = written::<Kinds, Builtin>(alloc, &tables)?;
+    is_first::<Kinds, Builtin>(alloc, &mut folder, &tables)?;
+    follows::<Kinds, Builtin>(alloc, &mut folder, &tables)
+}

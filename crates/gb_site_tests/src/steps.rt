@@ -1,0 +1,155 @@
+//! Edits of a site in memory and builds of it, and what becomes of them.
+use crate::counting::Counting;
+use crate::offering::Handed;
+use gb_action::actions::Actions;
+use gb_answer::answer::answer_text;
+use gb_core::place::Place;
+use gb_folder::folder::Folder;
+use gb_folder::memory::MemoryFolder;
+use gb_invocation::invocation::invoke;
+use gb_printer::printer::Silent;
+use gb_provider::transforms::Transforms;
+use gb_report::fault::Fault;
+use gb_report::report::Report;
+use gb_words::words::read;
+use std::alloc::Global;
+use std::test::Fail;
+
+/// `put PLACE` with bytes, or `del PLACE`, of which nothing is told; or `run WORD..`, how many tasks are
+/// executed as the listener counts, and what is printed.
+pub enum Step<'a> {
+    Put(&'a str, &'a [u8]),
+    Delete(&'a str),
+    Run(&'a str, u64, &'a str),
+}
+
+/// Takes these steps, and fails at the first build that tells something else.
+pub fn go_on<A: Actions, T: Transforms>(
+    alloc: Global,
+    folder: &mut MemoryFolder,
+    tables: &Handed<A, T>,
+    steps: &[Step<'_>],
+) -> Result<(), Fail> {
+    for step in steps {
+        take::<A, T>(alloc, folder, tables, step)?;
+    }
+    Ok(())
+}
+
+fn take<A: Actions, T: Transforms>(
+    alloc: Global,
+    folder: &mut MemoryFolder,
+    tables: &Handed<A, T>,
+    step: &Step<'_>,
+) -> Result<(), Fail> {
+    match step {
+        Step::Put(place, bytes) => {
+            let place = Place::read(alloc, place)?;
+            Ok(folder.write(&place, bytes, 10_000)?)
+        }
+        Step::Delete(place) => {
+            let place = Place::read(alloc, place)?;
+            Ok(folder.remove(&place)?)
+        }
+        Step::Run(words, executed, text) => {
+            build::<A, T>(alloc, folder, tables, words, *executed, text)
+        }
+    }
+}
+
+/// Builds what the words ask for, beside one listener, and fails where something else is told.
+fn build<A: Actions, T: Transforms>(
+    alloc: Global,
+    folder: &mut MemoryFolder,
+    tables: &Handed<A, T>,
+    words: &str,
+    executed: u64,
+    text: &str,
+) -> Result<(), Fail> {
+    let mut listeners = vec![in alloc; Counting::new(alloc)]?;
+    let told = told_beside::<A, T>(alloc, folder, tables, words, &mut listeners)?;
+    is_told(text, told.as_str())?;
+    have_counted(executed, listeners.as_slice())
+}
+
+/// What is told of the words, while these listen.
+fn told_beside<A: Actions, T: Transforms>(
+    alloc: Global,
+    folder: &mut MemoryFolder,
+    tables: &Handed<A, T>,
+    words: &str,
+    listeners: &mut Vec<Counting>,
+) -> Result<String, Fail> {
+    let invocation = read(alloc, words_of(alloc, words)?)?;
+    let answer = invoke::<A, T, MemoryFolder, Counting, Silent>(
+        alloc,
+        folder,
+        tables,
+        &invocation,
+        listeners,
+        &mut Silent,
+    );
+    drop(invocation);
+    told(alloc, answer)
+}
+
+/// What is told of an answer.
+fn told(alloc: Global, answer: Result<Report, Fault>) -> Result<String, Fail> {
+    let text = answer_text(alloc, &answer);
+    drop(answer);
+    Ok(String::from_utf8(text?)?)
+}
+
+/// The words of a line.
+fn words_of(alloc: Global, line: &str) -> Result<Vec<String>, Fail> {
+    let mut words = Vec::new(alloc);
+    for word in line.split_whitespace() {
+        words.push(String::from_str(alloc, word)?)?;
+    }
+    Ok(words)
+}
+
+/// Fails where another count was counted.
+fn have_counted(executed: u64, listeners: &[Counting]) -> Result<(), Fail> {
+    match listeners {
+        [listener] if listener.executed == executed => Ok(()),
+        _ => Err(Fail::new("another count of executed tasks")),
+    }
+}
+
+/// Fails where something else is told.
+pub fn is_told(expected: &str, told: &str) -> Result<(), Fail> {
+    if told == expected {
+        Ok(())
+    } else {
+        Err(Fail::new(told))
+    }
+}
+
+/// Fails where other bytes stand at a place.
+pub fn stands(
+    alloc: Global,
+    folder: &mut MemoryFolder,
+    place: &str,
+    expected: &str,
+) -> Result<(), Fail> {
+    let place = Place::read(alloc, place)?;
+    let text = String::from_utf8(folder.read(alloc, &place, 10_000)?)?;
+    is_told(expected, text.as_str())
+}
+
+/// Fails where other files stand beneath a place, each with a line feed behind it.
+pub fn stand(
+    alloc: Global,
+    folder: &mut MemoryFolder,
+    root: &str,
+    expected: &str,
+) -> Result<(), Fail> {
+    let mut out = String::new(alloc);
+    let places = folder.list(alloc, &Place::read(alloc, root)?)?;
+    for place in places.iter() {
+        out.push_str(place.as_str())?;
+        out.push_str("\n")?;
+    }
+    is_told(expected, out.as_str())
+}
