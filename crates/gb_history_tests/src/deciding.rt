@@ -35,7 +35,7 @@ fn incremental(alloc: Global, asked: &str) -> Result<Vec<Name>, Fail> {
 }
 
 /// What there is now.
-fn present(alloc: Global, task: &TaskPath, text: &str, asked: &str) -> Result<Present, Fail> {
+pub fn present(alloc: Global, task: &TaskPath, text: &str, asked: &str) -> Result<Present, Fail> {
     let incremental = incremental(alloc, asked)?;
     Ok(Present {
         now: read_record(alloc, task, text.as_bytes())?,

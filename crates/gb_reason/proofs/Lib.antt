@@ -1,0 +1,5 @@
+pub mod Lists
+pub mod Elements
+pub mod Parts
+pub mod Loops
+pub mod Whole

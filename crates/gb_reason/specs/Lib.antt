@@ -1,0 +1,4 @@
+pub mod Same
+pub mod Reasons
+pub mod Real
+pub mod Text

@@ -1,0 +1,80 @@
+-- What a reason says, and what follows from the definition of reasons.
+use Rattle.std.specs.Prelude.{◌≡◌, ◌≢◌, ◌↔◌, ℕ, true, List, [], map, Option, Some, None, IsTrue, Contains}
+use Rattle.std.specs.List.{AllByRecursion}
+use Rattle.std.specs.FinMap.Entries.{is_sorted}
+use Rattle.gb_core.specs.Lists.{byte_order}
+use Rattle.gb_core.specs.declared.value.Value.{Value}
+use Rattle.gb_action.specs.Changes.{IsChange}
+use Rattle.gb_action.specs.Files.{Tree}
+use Rattle.gb_action.specs.declared.change.Change.{Change}
+use Rattle.gb_action.specs.declared.output.Form.{Form}
+use Rattle.gb_history.specs.Decision.{Decides}
+use Rattle.gb_history.specs.Remembered.{Remembered, prints_in}
+use Rattle.gb_history.specs.declared.decide.Decision.{Decision}
+use Rattle.gb_history.specs.declared.decide.Decision.TheVariants as decisions
+use Rattle.gb_history.specs.declared.decide.Present.{Present}
+use Rattle.gb_history.specs.declared.record.OutputRecord.{OutputRecord}
+use Rattle.gb_reason.specs.Reasons.{reasons_of}
+use Rattle.gb_reason.specs.declared.reason.Reason.{Reason}
+use Rattle.gb_reason.specs.declared.reason.Reason.TheVariants as reasons
+
+-- the names by which things are remembered
+abbrev pub names : {X : Type 0} → List (List ℕ × X) → List (List ℕ)
+names entries = map (λ entry. entry.0) entries
+
+-- an output without its files
+abbrev pub declared : OutputRecord → List ℕ × Form × List ℕ
+declared output = (output.prints.0, output.form, output.place)
+
+-- an input value of this name is not what it was
+abbrev pub IsOtherValue : Remembered → Remembered → List ℕ → Value → Value → Type 0
+IsOtherValue old new name was is =
+    Contains old.values (name, was) × Contains new.values (name, is) × (was ≢ is)
+
+-- the files of the output at this place changed in this way
+abbrev pub IsOutputChange : Remembered → Remembered → List ℕ → Change → Type 0
+IsOutputChange old new place change =
+    (left : OutputRecord) × (stands : OutputRecord) × Contains old.outputs left × Contains new.outputs stands
+    × (left.place ≡ place) × (stands.place ≡ place) × IsChange left.prints.1 stands.prints.1 change
+
+-- the files of this property changed in this way
+abbrev pub IsFileChange : Remembered → Remembered → List ℕ → Change → Type 0
+IsFileChange old new name change =
+    (read : Tree) × (stands : Tree) × Contains old.inputs (name, read) × Contains new.inputs (name, stands)
+    × IsChange read stands change
+
+-- the reason is true of a run that is remembered and of what the task has now
+abbrev pub IsRealFrom : Remembered → Present → Reason → Type 0
+IsRealFrom run present reasons.NoRecord = ⊥
+IsRealFrom run present reasons.Rerun = present.rerun ≡ true
+IsRealFrom run present reasons.Stale = present.is_stale ≡ true
+IsRealFrom run present reasons.NoOutputs = present.now.outputs ≡ []
+IsRealFrom run present reasons.Actions = run.actions ≢ present.now.actions
+IsRealFrom run present reasons.ValueNames = names run.values ≢ names present.now.values
+IsRealFrom run present (reasons.Value name was is) = IsOtherValue run present.now name was is
+IsRealFrom run present reasons.OutputNames = map declared run.outputs ≢ map declared present.now.outputs
+IsRealFrom run present (reasons.Output place change) = IsOutputChange run present.now place change
+IsRealFrom run present reasons.FileNames = names run.inputs ≢ names present.now.inputs
+IsRealFrom run present (reasons.File name change) = IsFileChange run present.now name change
+
+abbrev pub IsReal : Option Remembered → Present → Reason → Type 0
+IsReal None present reason = reason ≡ reasons.NoRecord
+IsReal (Some run) present reason = IsRealFrom run present reason
+
+-- each reason is true
+abbrev pub EachIsReal : Type 0
+EachIsReal =
+    (old : Option Remembered) (present : Present) (reason : Reason)
+    → Contains (reasons_of old present) reason → IsReal old present reason
+
+-- the paths of each property and of each output strictly rise, as they do in any record
+pub record HasPathsInOrder (run : Remembered) : Type 0 where
+  pub inputs : AllByRecursion (λ prints. IsTrue (is_sorted byte_order prints.1)) run.inputs
+  pub outputs : AllByRecursion (λ prints. IsTrue (is_sorted byte_order prints.1)) (prints_in run.outputs)
+
+-- there is none exactly where the task is up to date
+abbrev pub NoneIsUpToDate : Type 0
+NoneIsUpToDate =
+    (old : Option Remembered) (present : Present) (decision : Decision)
+    → ((run : Remembered) → old ≡ Some run → HasPathsInOrder run) → HasPathsInOrder present.now
+    → Decides old present decision → (reasons_of old present ≡ []) ↔ (decision ≡ decisions.UpToDate)

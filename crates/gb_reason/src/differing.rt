@@ -1,0 +1,158 @@
+//! How parts of two runs differ.
+ghost use Rattle.std.specs.Prelude.{◌≡◌, ◌++◌, length, OnOk};
+ghost use Rattle.std.specs.Cmp.Lexicographic.{pointwise};
+ghost use Rattle.std.specs.List.{flat_map, zip};
+ghost use Rattle.gb_reason.specs.Reasons.{part};
+
+use crate::reason::{Reason, copied};
+use crate::same::Same;
+use gb_core::name::Name;
+use gb_core::value::Value;
+use gb_history::record::OutputRecord;
+use gb_tree::changes::compare;
+use gb_tree::prints::Prints;
+use std::alloc::{AllocError, Global};
+
+/// What a run has by name, and another has too.
+pub(crate) trait Part {
+    ghost use Rattle.std.specs.Prelude.{◌≡◌, ◌++◌, Bool, List, OnOk};
+    ghost use Rattle.gb_reason.specs.declared.reason.Reason.{Reason as Told};
+
+    ghost is_declared: { Self → Self → Bool };
+
+    ghost told: { Self × Self → List Told };
+
+    /// Whether the other is declared as it is.
+    fn is_declared_as(&self, other: &Self) -> bool
+        ensures { result ≡ is_declared self.now other.now };
+
+    /// Tells how the other differs.
+    fn tell(&self, other: &Self, alloc: Global, reasons: &mut Vec<Reason>) -> Result<(), AllocError>
+        ensures { OnOk result (reasons.new.items ≡ reasons.old.items ++ told (self.now, other.now)) };
+}
+
+/// Whether as many are declared, each as the other's at its place.
+fn are_declared_as<T: Part>(old: &[T], new: &[T]) -> bool
+    ensures { result ≡ pointwise T.is_declared old.now new.now }
+{
+    if old.len() != new.len() {
+        return false;
+    }
+    for (at, one) in old.iter().enumerate() {
+        if !one.is_declared_as(&new[at]) {
+            return false;
+        }
+    }
+    true
+}
+
+/// Tells how each differs from the other's at its place.
+fn tell_each<T: Part>(
+    alloc: Global,
+    old: &[T],
+    new: &[T],
+    reasons: &mut Vec<Reason>,
+) -> Result<(), AllocError>
+    requires { length old.now ≡ length new.now }
+    ensures { OnOk result (reasons.new.items ≡ reasons.old.items ++ flat_map T.told (zip old.now new.now)) }
+{
+    for (at, one) in old.iter().enumerate() {
+        one.tell(&new[at], alloc, reasons)?;
+    }
+    Ok(())
+}
+
+/// Tells the one reason where the two are declared otherwise, and else how each differs.
+pub(crate) fn tell_part<T: Part>(
+    alloc: Global,
+    old: &[T],
+    new: &[T],
+    otherwise: Reason,
+    reasons: &mut Vec<Reason>,
+) -> Result<(), AllocError>
+    ensures { OnOk result (reasons.new.items
+        ≡ reasons.old.items ++ part T.is_declared T.told otherwise old.now new.now) }
+{
+    if are_declared_as(old, new) {
+        return tell_each(alloc, old, new, reasons);
+    }
+    reasons.push(otherwise)?;
+    Ok(())
+}
+
+impl Part for (Name, Value) {
+    ghost use Rattle.gb_reason.specs.Reasons.{has_name, of_value};
+
+    ghost is_declared = { has_name };
+
+    ghost told = { of_value };
+
+    fn is_declared_as(&self, other: &(Name, Value)) -> bool {
+        self.0 == other.0
+    }
+
+    fn tell(
+        &self,
+        other: &(Name, Value),
+        alloc: Global,
+        reasons: &mut Vec<Reason>,
+    ) -> Result<(), AllocError> {
+        if !self.1.is_same(&other.1) {
+            let name = self.0.copy()?;
+            reasons.push(Reason::Value(name, self.1.copy(alloc)?, other.1.copy(alloc)?))?;
+        }
+        Ok(())
+    }
+}
+
+impl Part for OutputRecord {
+    ghost use Rattle.gb_reason.specs.Reasons.{is_output, of_output};
+
+    ghost is_declared = { is_output };
+
+    ghost told = { of_output };
+
+    fn is_declared_as(&self, other: &OutputRecord) -> bool {
+        self.prints.name() == other.prints.name()
+            && self.form.is(other.form)
+            && self.place == other.place
+    }
+
+    fn tell(
+        &self,
+        other: &OutputRecord,
+        alloc: Global,
+        reasons: &mut Vec<Reason>,
+    ) -> Result<(), AllocError> {
+        let changes = compare(alloc, &self.prints, &other.prints)?;
+        for change in changes.as_slice() {
+            reasons.push(Reason::Output(self.place.copy()?, copied(change)?))?;
+        }
+        Ok(())
+    }
+}
+
+impl Part for Prints {
+    ghost use Rattle.gb_reason.specs.Reasons.{has_name, of_files};
+
+    ghost is_declared = { has_name };
+
+    ghost told = { of_files };
+
+    fn is_declared_as(&self, other: &Prints) -> bool {
+        self.name() == other.name()
+    }
+
+    fn tell(
+        &self,
+        other: &Prints,
+        alloc: Global,
+        reasons: &mut Vec<Reason>,
+    ) -> Result<(), AllocError> {
+        let changes = compare(alloc, self, other)?;
+        for change in changes.as_slice() {
+            reasons.push(Reason::File(self.name().copy()?, copied(change)?))?;
+        }
+        Ok(())
+    }
+}

@@ -1,0 +1,11 @@
+//! Why a task runs: how what is remembered of it differs from what it has now.
+//!
+//! There is a reason exactly where a task is not up to date, and each reason is true of the two.
+#![tactic(auto)]
+
+mod differing;
+pub mod explain;
+pub mod laws;
+pub mod reason;
+mod same;
+pub mod text;
