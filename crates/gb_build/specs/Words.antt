@@ -1,0 +1,38 @@
+-- What the contracts of builds speak of.
+pub use Rattle.gb_action.specs.Meanings.{Meanings}
+pub use Rattle.gb_events.specs.Answers.{AnswerIsOutlined}
+pub use Rattle.gb_events.specs.Asked.{EventAsks, EventsAsk}
+pub use Rattle.gb_folder.specs.Files.{Bytes, Contents, SameTearing}
+pub use Rattle.gb_graph.specs.Answer.{IsPlanOf, IsRefusalOf}
+pub use Rattle.gb_history.specs.Places.{record_place}
+pub use Rattle.gb_invocation.specs.Asked.{InvocationAsks}
+pub use Rattle.gb_invocation.specs.Scripts.{registers_in, setting_of}
+pub use Rattle.gb_invoke.specs.Leading.{Leads}
+pub use Rattle.gb_listen.specs.Telling.{Refuses}
+pub use Rattle.gb_meaning.specs.Edits.{Shown}
+pub use Rattle.gb_meaning.specs.Events.{IsBuild, IsNotBuilt, Setting, State, has_failure, is_read_first}
+pub use Rattle.gb_meaning.specs.Every.{IsFromScratch, PlainRun, PromiseHolds, Succeeds}
+pub use Rattle.gb_meaning.specs.Granted.{MemoryGrants, SomeKindsAgree, leaves_nothing}
+pub use Rattle.gb_meaning.specs.Headline.{Agrees, AllKeepElsewhere, Ear, EventKeeps, EventsHold}
+pub use Rattle.gb_meaning.specs.Headline.{HasFailed, HaveHeard, HaveHeardAll, HearsAll, InvocationHolds}
+pub use Rattle.gb_meaning.specs.Headline.{Stands, TearsAreSeen, answer_of, times_blamed}
+pub use Rattle.gb_meaning.specs.Headline.{times_blamed_in_all}
+pub use Rattle.gb_meaning.specs.Kinds.{Kind, Kinds}
+pub use Rattle.gb_meaning.specs.Memory.{Memory}
+pub use Rattle.gb_meaning.specs.Outline.{IsOutlined}
+pub use Rattle.gb_meaning.specs.Scratch.{from_scratch}
+pub use Rattle.gb_meaning.specs.declared.events.Answer.{Answer}
+pub use Rattle.gb_meaning.specs.declared.events.Event.{Event}
+pub use Rattle.gb_meaning.specs.declared.events.Invocation.{Invocation}
+pub use Rattle.gb_plan.specs.Graph.{Registry, no_repeats}
+pub use Rattle.gb_printer.specs.Printing.{Prints, parts_text}
+pub use Rattle.gb_records.specs.Said.{IsText}
+pub use Rattle.gb_registry.specs.Configure.{configure_faults}
+pub use Rattle.gb_registry.specs.Tables.{tables_of}
+pub use Rattle.gb_report.specs.Fault.{fault_number, fault_text}
+pub use Rattle.gb_report.specs.Report.{report_text}
+pub use Rattle.gb_report.specs.declared.fault.Fault.{Fault}
+pub use Rattle.gb_report.specs.declared.report.Heard.{Heard}
+pub use Rattle.gb_report.specs.declared.report.Outcome.{Outcome}
+pub use Rattle.gb_report.specs.declared.report.Report.{Report}
+pub use Rattle.gb_project.specs.Registered.{registry_said}

@@ -1,0 +1,61 @@
+//! Builds, behind one door: all that one needs who embeds the tool, but the kinds themselves (`gb_kinds`).
+//!
+//! A folder holds scripts. [`invoke`] makes one build of it, [`run_events`] takes any list of edits and
+//! builds, and [`run_from_nothing`] does so over an empty folder in memory. [`read_words`] reads an
+//! [`Invocation`] from the words of a command line, [`render`] prints a [`Report`]. [`Tables`] has the kinds
+//! and functions that scripts may name: `builtin_actions!` and `builtin_functions!` of `gb_answer` make them.
+//!
+//! The parts that a build is made of stand here too, and their calls in a module for each task at hand:
+//! [`scripts`], [`plans`], [`trees`] and [`records`]. `docs/CRATES.md` has a table of them.
+//!
+//! A door has no code of its own: it hands on what the crates behind it have. `specs/Words.antt` hands on
+//! what the contracts of builds speak of, so that a caller's own clauses can say it.
+#![tactic(auto)]
+
+pub mod plans;
+pub mod records;
+pub mod scripts;
+pub mod trees;
+
+pub use gb_action::change::{Change, InputChanges};
+pub use gb_action::list::ActionList;
+pub use gb_action::output::Form;
+pub use gb_action::reply::{ActionFault, Reply};
+pub use gb_action::request::Request;
+pub use gb_action::run::{accepts, run_action};
+pub use gb_action::shape::{Arg, ArgList, Fit, Shape};
+pub use gb_action::snapshot::Snapshot;
+pub use gb_core::bytes::Bytes;
+pub use gb_core::name::Name;
+pub use gb_core::path::{ProjectPath, TaskPath};
+pub use gb_core::place::{Place, RelPath};
+pub use gb_core::text::{Text, Texts};
+pub use gb_core::value::Value;
+pub use gb_disk::disk::DiskFolder;
+pub use gb_events::events::run_events;
+pub use gb_events::nothing::run_from_nothing;
+pub use gb_exec::{
+    ActionTable, Actions, Fault, Folder, FolderFault, Heard, Options, Outcome, Page, Plan, Planned,
+    Printer, Record, Recorder, Report, Silent, TaskListener, TaskReport, TaskReports, execute,
+};
+pub use gb_folder::faulty::{FaultMode, FaultPlan, FaultyFolder};
+pub use gb_folder::memory::MemoryFolder;
+pub use gb_history::decide::{Decision, Present};
+pub use gb_history::history::History;
+pub use gb_invocation::invocation::invoke;
+pub use gb_meaning::events::{Answer, Event, Invocation, Properties};
+pub use gb_order::tasks::Tasks;
+pub use gb_plan::task::TaskDeclaration;
+pub use gb_provider::expression::Node;
+pub use gb_provider::providers::Providers;
+pub use gb_provider::table::TransformTable;
+pub use gb_provider::transforms::Transforms;
+pub use gb_registry::registry::Registry;
+pub use gb_registry::tables::Tables;
+pub use gb_report::render::{render, render_fault};
+pub use gb_script::script::{Script, Settings};
+pub use gb_tasks::script_tasks::ScriptTasks;
+pub use gb_tree::pattern::Pattern;
+pub use gb_tree::prints::Prints;
+pub use gb_words::words::read as read_words;
+pub use gb_workspace::workspace::Workspace;

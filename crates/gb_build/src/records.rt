@@ -1,0 +1,4 @@
+//! Records read and written, and what they decide.
+pub use gb_history::decide::decide;
+pub use gb_history::text::{read_record, record_text};
+pub use gb_records::reading::read_records;

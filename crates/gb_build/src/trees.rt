@@ -1,0 +1,5 @@
+//! Trees of files read, digested and compared.
+pub use gb_tree::changes::compare;
+pub use gb_tree::digest::prints;
+pub use gb_tree::output::outputs;
+pub use gb_tree::property::snapshot;
