@@ -9,6 +9,7 @@ use gb_disk::disk::DiskFolder;
 use gb_folder::folder::Folder;
 use gb_folder::memory::MemoryFolder;
 use gb_kinds::builtin::Builtin;
+use gb_printer::page::Page;
 use gb_provider::transforms::Transforms;
 use std::alloc::Global;
 use std::fs;
@@ -101,7 +102,13 @@ fn build<A: Actions, T: Transforms, F: Folder>(
     out: &mut Vec<u8>,
 ) -> Result<u8, Fail> {
     let given = words_of(alloc, words)?;
-    match run::<A, T, F, Vec<u8>>(alloc, folder, Ok(given), out, tables) {
+    match run::<A, T, F, Page<&mut Vec<u8>>>(
+        alloc,
+        folder,
+        Ok(given),
+        &mut Page::new(out),
+        tables,
+    ) {
         Some(status) => Ok(status),
         None => Err(Fail::new("not printed")),
     }
@@ -202,7 +209,8 @@ fn words_ask_for_a_build_or_for_none(rt: HostRuntime) -> Result<(), Fail> {
 fn unprinted<A: Actions, T: Transforms>(alloc: Global, tables: &Handed<A, T>) -> Result<(), Fail> {
     let mut folder = MemoryFolder::new(alloc);
     let words = Ok(Vec::new(alloc));
-    match run::<A, T, _, _>(alloc, &mut folder, words, &mut FailingWriter, tables) {
+    let mut page = Page::new(FailingWriter);
+    match run::<A, T, _, _>(alloc, &mut folder, words, &mut page, tables) {
         None => Ok(()),
         Some(status) => Err(Fail::new(status)),
     }

@@ -15,6 +15,7 @@ use gb_kinds::builtin::{Builtin, StoredAction};
 use gb_listen::listener::{Recorder, TaskListener};
 use gb_plan::plan::{Plan, Planned};
 use gb_plan::task::{FileProperties, Outputs, TaskDeclaration};
+use gb_printer::printer::Silent;
 use gb_report::report::{Options, Outcome};
 use std::alloc::Global;
 use std::test::Fail;
@@ -66,13 +67,14 @@ fn built(alloc: Global, runs: bool, options: Options) -> Result<(&'static str, u
     let records = vec![in alloc; None]?;
     let mut folder = MemoryFolder::new(alloc);
     let mut listeners = vec![in alloc; Recorder::new(alloc)]?;
-    let report = execute::<Builtin, MemoryFolder, Recorder>(
+    let report = execute::<Builtin, MemoryFolder, Recorder, Silent>(
         alloc,
         &mut folder,
         &plan,
         &table,
         records.as_slice(),
         &mut listeners,
+        &mut Silent,
         options,
     )?;
     let told = match report.tasks.as_slice() {

@@ -183,21 +183,49 @@ const FAILED_AND_REFUSED: &str =
     "> Task :bad FAILED\n> Task :fin\nFAILED :bad: 12 blocked build/x/y\n\
 FAILED listener: 91 listener refused\nBUILD FAILED\n2 actionable tasks: 2 executed\n";
 
-/// What the first and the last have heard, and between them the one that refused the second call.
-const BETWEEN: &str = "start :bad\nfailed :bad\nstart :fin\nexecuted :fin\n|\
-start :bad\nstart :fin\nexecuted :fin\n|start :bad\nfailed :bad\nstart :fin\nexecuted :fin\n|";
+/// What is heard of that build where nothing is refused.
+const CALLS: [&str; 4] = [
+    "start :bad\n",
+    "failed :bad\n",
+    "start :fin\n",
+    "executed :fin\n",
+];
 
-/// Fails where a build beside one that refuses its second call, between two that refuse none, tells one of
-/// them something else.
+/// All calls but the one of this number, counted from 1.
+fn calls_without(alloc: Global, at: usize) -> Result<String, Fail> {
+    let mut out = String::new(alloc);
+    for (before, call) in CALLS.iter().enumerate() {
+        if before + 1 != at {
+            out.push_str(*call)?;
+        }
+    }
+    Ok(out)
+}
+
+/// What the first and the last have heard, and between them the one that refused a call.
+fn heard_between(alloc: Global, at: usize) -> Result<String, Fail> {
+    let all = calls_without(alloc, 0)?;
+    let missing = calls_without(alloc, at)?;
+    let mut out = String::new(alloc);
+    for text in [all.as_str(), missing.as_str(), all.as_str()] {
+        out.push_str(text)?;
+        out.push_str("|")?;
+    }
+    Ok(out)
+}
+
+/// Fails where a build beside one that refuses this call, between two that refuse none, tells one of them
+/// something else.
 fn one_is_missed<A: Actions, T: Transforms>(
     alloc: Global,
     tables: &Handed<A, T>,
+    at: u64,
 ) -> Result<(), Fail> {
     let mut folder = MemoryFolder::new(alloc);
     go_on::<A, T, MemoryFolder>(alloc, &mut folder, tables, &FINALIZED)?;
     let mut listeners = Vec::<Box<dyn TaskListener>>::new(alloc);
     listeners.push(Box::new(alloc, Recorder::new(alloc))?)?;
-    listeners.push(Box::new(alloc, Refusing::new(alloc, 2))?)?;
+    listeners.push(Box::new(alloc, Refusing::new(alloc, at))?)?;
     listeners.push(Box::new(alloc, Recorder::new(alloc))?)?;
     let text = told_beside::<A, T, MemoryFolder, Box<dyn TaskListener>>(
         alloc,
@@ -208,14 +236,25 @@ fn one_is_missed<A: Actions, T: Transforms>(
     )?;
     is_told(FAILED_AND_REFUSED, text.as_str())?;
     is_told(
-        BETWEEN,
+        heard_between(alloc, at as usize)?.as_str(),
         heard_by_each(alloc, listeners.as_slice())?.as_str(),
     )
 }
 
+/// Refuses each of the four calls.
+fn each_is_missed<A: Actions, T: Transforms>(
+    alloc: Global,
+    tables: &Handed<A, T>,
+) -> Result<(), Fail> {
+    for at in 1..5u64 {
+        one_is_missed::<A, T>(alloc, tables, at)?;
+    }
+    Ok(())
+}
+
 #[test]
-fn one_that_refuses_an_end_hears_all_else(rt: HostRuntime) -> Result<(), Fail> {
+fn one_that_refuses_a_call_hears_all_else(rt: HostRuntime) -> Result<(), Fail> {
     let alloc = rt.alloc();
     let tables = offered(alloc)?;
-    one_is_missed::<Builtin, Builtin>(alloc, &tables)
+    each_is_missed::<Builtin, Builtin>(alloc, &tables)
 }

@@ -9,6 +9,8 @@ mod building;
 #[cfg(test)]
 mod commanding;
 #[cfg(test)]
+mod damaging;
+#[cfg(test)]
 mod disturbing;
 #[cfg(test)]
 mod ending;
@@ -24,6 +26,8 @@ mod listening;
 mod noting;
 #[cfg(test)]
 mod offering;
+#[cfg(test)]
+mod printing;
 #[cfg(test)]
 mod stopping;
 #[cfg(test)]

@@ -1,11 +1,13 @@
-//! Two kinds: one that writes a text, and one that works on files.
+//! Three kinds: one that writes a text, and two that work on files.
 use gb_action::actions::Actions;
 use gb_action::table::ActionTable;
 use gb_core::name::Name;
 use gb_kinds::builtin::{Builtin, StoredAction};
-use gb_kinds::files::copy_files;
+use gb_kinds::files::{concat, copy_files};
 use gb_kinds::function_table::FunctionTable;
-use gb_kinds::shapes::{COPY_FILES, WRITE_TEXT, copy_files_shape, write_text_shape};
+use gb_kinds::shapes::{
+    CONCAT, COPY_FILES, WRITE_TEXT, concat_shape, copy_files_shape, write_text_shape,
+};
 use gb_kinds::texts::write_text;
 use gb_provider::transforms::Transforms;
 use gb_registry::tables::Tables;
@@ -39,6 +41,12 @@ fn copying(alloc: Global) -> Result<StoredAction, Fail> {
     Ok(StoredAction::new(COPY_FILES, 1, shape, run))
 }
 
+fn joining(alloc: Global) -> Result<StoredAction, Fail> {
+    let shape = concat_shape(alloc)?;
+    let run = Box::new(alloc, concat)?;
+    Ok(StoredAction::new(CONCAT, 1, shape, run))
+}
+
 fn add(
     alloc: Global,
     table: &mut ActionTable<StoredAction>,
@@ -70,6 +78,16 @@ pub fn offered(alloc: Global) -> Result<Handed<Builtin, Builtin>, Fail> {
 pub fn offered_anew(alloc: Global) -> Result<Handed<Builtin, Builtin>, Fail> {
     let mut actions = ActionTable::new(alloc);
     add(alloc, &mut actions, "writeText", writing_anew(alloc)?)?;
+    Ok(Tables {
+        actions,
+        transforms: FunctionTable::new(alloc),
+    })
+}
+
+/// What a build is handed whose one kind joins files.
+pub fn offered_joining(alloc: Global) -> Result<Handed<Builtin, Builtin>, Fail> {
+    let mut actions = ActionTable::new(alloc);
+    add(alloc, &mut actions, "concat", joining(alloc)?)?;
     Ok(Tables {
         actions,
         transforms: FunctionTable::new(alloc),

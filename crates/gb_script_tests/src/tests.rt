@@ -504,6 +504,54 @@ fn takes_a_mebibyte_of_text(rt: HostRuntime) -> Result<(), Fail> {
     ])
 }
 
+/// A script with blocks, texts and comments.
+const WHOLE: &str = "// a failing task and its finalizer
+property p set p = [\"x\", file(\"a/b\")].map(joined)
+register bad : fail(\"boom\") { finalizedBy \"end\" onlyIf p is present }
+register end { doLast printLine(\"e\\n\") outputDir out = dir(\"build/e\") }
+";
+
+/// Whether the text is read, or refused in a line that it has.
+fn is_answered(alloc: Global, bytes: &[u8]) -> Result<bool, AllocError> {
+    match read_script(alloc, bytes) {
+        Ok(_) => Ok(true),
+        Err(fault) => {
+            let text = format!(in alloc; "{fault}")?;
+            let lines = bytes.iter().filter(|byte| **byte == b'\n').count() + 1;
+            Ok(match text.as_str().strip_prefix("syntax error in line ") {
+                Some(line) => line
+                    .parse::<usize>()
+                    .is_ok_and(|line| 0 < line && line <= lines),
+                None => text.as_str() == "not UTF-8",
+            })
+        }
+    }
+}
+
+/// Whether each front of the text is answered, and the text with the byte behind that front raised by one.
+fn are_answered(alloc: Global, text: &[u8]) -> Result<bool, AllocError> {
+    for at in 0..text.len() {
+        let mut raised = text.to_vec(alloc)?;
+        raised[at] = text[at].wrapping_add(1);
+        if !is_answered(alloc, &text[..at])? || !is_answered(alloc, raised.as_slice())? {
+            return Ok(false);
+        }
+    }
+    Ok(true)
+}
+
+#[test]
+fn answers_damaged_texts(rt: HostRuntime) -> Result<(), Fail> {
+    let alloc = rt.alloc();
+    all_hold(&[
+        ("the whole text", is_read(alloc, WHOLE)),
+        (
+            "its fronts and raised bytes",
+            are_answered(alloc, WHOLE.as_bytes()) == Ok(true),
+        ),
+    ])
+}
+
 #[test]
 fn tells_other_faults(rt: HostRuntime) -> Result<(), Fail> {
     all_hold(&[

@@ -1,0 +1,181 @@
+//! What is printed of a build, and when.
+use crate::building::words_of;
+use crate::offering::{Handed, offered};
+use gb_action::actions::Actions;
+use gb_command::run::run;
+use gb_core::place::Place;
+use gb_folder::folder::Folder;
+use gb_folder::memory::MemoryFolder;
+use gb_kinds::builtin::Builtin;
+use gb_printer::page::Page;
+use gb_provider::transforms::Transforms;
+use std::alloc::Global;
+use std::io::{self, ErrorKind, Write};
+use std::test::Fail;
+
+/// The script of two tasks, a line for each.
+const TASKS: [&str; 2] = [
+    "register a : writeText(\"a\") { outputFile out = file(\"build/a.txt\") }\n",
+    "register b : writeText(\"b\") { outputFile out = file(\"build/b.txt\") }\n",
+];
+
+/// What a first build prints.
+const MADE: &str = "> Task :a\n> Task :b\nBUILD SUCCESSFUL\n2 actionable tasks: 2 executed\n";
+
+/// What a later one prints.
+const KEPT: &str =
+    "> Task :a UP-TO-DATE\n> Task :b UP-TO-DATE\nBUILD SUCCESSFUL\n2 actionable tasks: 2 up-to-date\n";
+
+/// What becomes of a build that cannot be printed whole, and of the next.
+type End = (Option<u8>, Vec<u8>);
+
+/// Takes so many bytes, and fails from then on.
+#[derive(Drop)]
+struct Scarce {
+    text: Vec<u8>,
+    room: usize,
+}
+
+impl Write for Scarce {
+    fn write(&mut self, buf: &[u8]) -> io::Result<usize> {
+        let taken = buf.len().min(self.room);
+        if taken == 0 {
+            return Err(io::Error::from(ErrorKind::Other));
+        }
+        self.text.extend_from_slice(&buf[..taken])?;
+        self.room -= taken;
+        Ok(taken)
+    }
+
+    fn flush(&mut self) -> io::Result<()> {
+        Ok(())
+    }
+}
+
+/// Keeps how much had been written at each flush.
+#[derive(Drop)]
+struct Flushed {
+    written: usize,
+    seen: Vec<usize>,
+}
+
+impl Write for Flushed {
+    fn write(&mut self, buf: &[u8]) -> io::Result<usize> {
+        self.written = self.written.saturating_add(buf.len());
+        Ok(buf.len())
+    }
+
+    fn flush(&mut self) -> io::Result<()> {
+        self.seen.push(self.written)?;
+        Ok(())
+    }
+}
+
+/// A folder in memory with the script.
+fn laid_out(alloc: Global) -> Result<MemoryFolder, Fail> {
+    let mut folder = MemoryFolder::new(alloc);
+    let place = Place::read(alloc, "build.gb")?;
+    let mut script = String::new(alloc);
+    for task in TASKS {
+        script.push_str(task)?;
+    }
+    folder.write(&place, script.as_bytes(), 10_000)?;
+    Ok(folder)
+}
+
+/// Builds all in a folder, where so many bytes can be printed: the status, and what was printed.
+fn built_in<A: Actions, T: Transforms>(
+    alloc: Global,
+    folder: &mut MemoryFolder,
+    tables: &Handed<A, T>,
+    room: usize,
+) -> Result<End, Fail> {
+    let mut page = Page::new(Scarce {
+        text: Vec::new(alloc),
+        room,
+    });
+    let words = Ok(words_of(alloc, "a b")?);
+    let status = run::<A, T, MemoryFolder, Page<Scarce>>(alloc, folder, words, &mut page, tables);
+    let Scarce { text, room: _ } = page.into_writer();
+    Ok((status, text))
+}
+
+/// Fails where something else was printed, or the status is another.
+fn is_end(end: &End, status: Option<u8>, printed: &[u8]) -> Result<(), Fail> {
+    if end.0 == status && end.1.as_slice() == printed {
+        Ok(())
+    } else {
+        Err(Fail::new(printed.len()))
+    }
+}
+
+/// Fails where a build of which so many bytes can be printed prints other ones, has a status, or leaves less
+/// than a whole build.
+fn stops_nothing<A: Actions, T: Transforms>(
+    alloc: Global,
+    tables: &Handed<A, T>,
+    room: usize,
+) -> Result<(), Fail> {
+    let mut folder = laid_out(alloc)?;
+    let whole = MADE.as_bytes();
+    let status = if room < whole.len() { None } else { Some(0) };
+    let end = built_in::<A, T>(alloc, &mut folder, tables, room)?;
+    is_end(&end, status, &whole[..room.min(whole.len())])?;
+    let next = built_in::<A, T>(alloc, &mut folder, tables, 10_000)?;
+    is_end(&next, Some(0), KEPT.as_bytes())
+}
+
+fn stop_nothing<A: Actions, T: Transforms>(
+    alloc: Global,
+    tables: &Handed<A, T>,
+) -> Result<(), Fail> {
+    for room in 0..=MADE.len() {
+        stops_nothing::<A, T>(alloc, tables, room)?;
+    }
+    Ok(())
+}
+
+#[test]
+fn what_cannot_be_printed_stops_nothing(rt: HostRuntime) -> Result<(), Fail> {
+    let tables = offered(rt.alloc())?;
+    stop_nothing::<Builtin, Builtin>(rt.alloc(), &tables)
+}
+
+/// How much had been written at each flush of a build of all.
+fn seen_at_flushes<A: Actions, T: Transforms>(
+    alloc: Global,
+    folder: &mut MemoryFolder,
+    tables: &Handed<A, T>,
+) -> Result<Vec<usize>, Fail> {
+    let mut page = Page::new(Flushed {
+        written: 0,
+        seen: Vec::new(alloc),
+    });
+    let words = Ok(words_of(alloc, "a b")?);
+    let status = run::<A, T, MemoryFolder, Page<Flushed>>(alloc, folder, words, &mut page, tables);
+    let Flushed { written: _, seen } = page.into_writer();
+    match status {
+        Some(0) => Ok(seen),
+        _ => Err(Fail::new("another status")),
+    }
+}
+
+/// Fails where a first build is not seen part by part, or a later one not at once.
+fn are_seen<A: Actions, T: Transforms>(alloc: Global, tables: &Handed<A, T>) -> Result<(), Fail> {
+    let mut folder = laid_out(alloc)?;
+    let made = seen_at_flushes::<A, T>(alloc, &mut folder, tables)?;
+    let kept = seen_at_flushes::<A, T>(alloc, &mut folder, tables)?;
+    if made.as_slice() == [10, 20, MADE.len()].as_slice()
+        && kept.as_slice() == [KEPT.len()].as_slice()
+    {
+        Ok(())
+    } else {
+        Err(Fail::new("seen at other moments"))
+    }
+}
+
+#[test]
+fn each_part_is_seen_once_its_turn_has_ended(rt: HostRuntime) -> Result<(), Fail> {
+    let tables = offered(rt.alloc())?;
+    are_seen::<Builtin, Builtin>(rt.alloc(), &tables)
+}
