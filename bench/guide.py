@@ -1,10 +1,10 @@
 #!/usr/bin/env python3
-"""The examples of docs/GUIDE.md, as gb_replay takes them.
+"""The examples of the documents (README.md and docs/), as gb_replay takes them.
 
-    bench/guide.py --list         each example: its number and its line in the guide
-    bench/guide.py --input N      the input of example N, as gb_replay reads it
-    bench/guide.py --run PROGRAM  runs each example by PROGRAM and fails where one differs
-    bench/guide.py --cases FOLDER writes each example and its output there, for rt try --cases FOLDER
+    bench/guide.py --list          each example: its name, as GUIDE-03, and its line in that document
+    bench/guide.py --input NAME    the input of an example, as gb_replay reads it
+    bench/guide.py --run PROGRAM   runs each example by PROGRAM and fails where one differs
+    bench/guide.py --cases FOLDER  writes each example and its output there, for rt try --cases FOLDER
 
 An example is a block ```replay and the block ```output behind it; `status N` behind `output` tells a status
 that is not 0. Lines that begin with four spaces are the text of the `put` above them. The gate runs them by
@@ -16,12 +16,12 @@ import subprocess
 import sys
 
 ROOT = os.path.dirname(os.path.dirname(os.path.abspath(__file__)))
-GUIDE = os.path.join(ROOT, "docs", "GUIDE.md")
-MOST_COLUMNS = 110
+DOCS = ["README.md"] + [f"docs/{name}" for name in sorted(os.listdir(f"{ROOT}/docs")) if name.endswith(".md")]
 
 
 class Example:
-    def __init__(self, line, text, output, status):
+    def __init__(self, name, line, text, output, status):
+        self.name = name
         self.line = line
         self.input = text
         self.output = output
@@ -50,14 +50,17 @@ def replay_text(lines, at):
 
 
 def examples():
-    with open(GUIDE, encoding="utf-8") as file:
+    return [example for path in DOCS for example in examples_in(path)]
+
+
+def examples_in(path):
+    with open(os.path.join(ROOT, path), encoding="utf-8") as file:
         lines = file.read().split("\n")
+    title = os.path.splitext(os.path.basename(path))[0]
     found = []
     waiting = None
     fence = None
     for number, line in enumerate(lines, 1):
-        if len(line) > MOST_COLUMNS:
-            fail(f"{number}: more than {MOST_COLUMNS} columns")
         if fence is not None:
             if line != "```":
                 fence[2].append(line)
@@ -66,21 +69,22 @@ def examples():
             fence = None
             if kind == "replay":
                 if waiting is not None:
-                    fail(f"{start}: the example above has no output")
+                    fail(f"{path}:{start}: the example above has no output")
                 waiting = (start, replay_text(block, start + 1))
                 continue
             told = re.fullmatch(r"output( status (\d))?", kind)
             if told is None:
                 continue
             if waiting is None:
-                fail(f"{start}: an output without an example")
+                fail(f"{path}:{start}: an output without an example")
             text = "".join(line + "\n" for line in block)
-            found.append(Example(waiting[0], waiting[1], text, int(told.group(2) or 0)))
+            name = f"{title}-{len(found) + 1:02}"
+            found.append(Example(name, waiting[0], waiting[1], text, int(told.group(2) or 0)))
             waiting = None
         elif line.startswith("```"):
             fence = (line[3:], number, [])
     if fence is not None or waiting is not None:
-        fail("the last block is cut")
+        fail(f"{path}: the last block is cut")
     return found
 
 
@@ -93,11 +97,11 @@ def outcome(program, text):
 def run(program):
     differ = 0
     found = examples()
-    for number, example in enumerate(found, 1):
+    for example in found:
         told, status = outcome(program, example.input)
         if (told, status) != (example.output, example.status):
             differ += 1
-            print(f"---- example {number}, line {example.line}: status {status}")
+            print(f"---- {example.name}, line {example.line}: status {status}")
             print(told, end="")
     print(f"{len(found)} examples, {differ} differ")
     return 1 if differ else 0
@@ -105,8 +109,8 @@ def run(program):
 
 def write_cases(folder):
     os.makedirs(folder, exist_ok=True)
-    for number, example in enumerate(examples(), 1):
-        name = os.path.join(folder, f"{number:02}")
+    for example in examples():
+        name = os.path.join(folder, example.name)
         for path, text in ((name, example.input), (name + ".stdout", example.output)):
             with open(path, "w", encoding="utf-8") as file:
                 file.write(text)
@@ -114,16 +118,17 @@ def write_cases(folder):
 
 def main(words):
     if words == ["--list"]:
-        for number, example in enumerate(examples(), 1):
-            print(number, example.line)
+        for example in examples():
+            print(example.name, example.line)
     elif len(words) == 2 and words[0] == "--input":
-        sys.stdout.write(examples()[int(words[1]) - 1].input)
+        named = [example for example in examples() if example.name == words[1]]
+        sys.stdout.write(named[0].input if named else fail(f"no example {words[1]}"))
     elif len(words) == 2 and words[0] == "--run":
         return run(words[1])
     elif len(words) == 2 and words[0] == "--cases":
         write_cases(words[1])
     else:
-        fail("usage: guide.py --list | --input N | --run PROGRAM | --cases FOLDER")
+        fail("usage: guide.py --list | --input NAME | --run PROGRAM | --cases FOLDER")
     return 0
 
 

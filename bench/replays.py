@@ -1,6 +1,6 @@
 #!/usr/bin/env python3
 """The replays that the gate makes by gb_replay, all in one run: the worked ones, bench/replays/NAME.in with
-what is printed in NAME.out, and behind them the examples of docs/GUIDE.md.
+what is printed in NAME.out, and behind them the examples of the documents.
 
     bench/replays.py PROGRAM  runs each alone by a built gb_replay and fails where one differs; else writes
                               crates/gb_replay/stdin and crates/gb_replay/stdout, and runs them all in one
@@ -45,9 +45,9 @@ def rows():
     """The worked replays by name, then the examples."""
     names = sorted({os.path.splitext(name)[0] for name in os.listdir(ROWS)})
     found = [Row(name, *(read(os.path.join(ROWS, name + end)) for end in (".in", ".out"))) for name in names]
-    for number, example in enumerate(guide.examples(), 1):
+    for example in guide.examples():
         if example.status == 0:
-            found.append(Row(f"guide-{number:02}", example.input, example.output))
+            found.append(Row(example.name, example.input, example.output))
     return found
 
 
@@ -118,10 +118,10 @@ def literal(text):
 def check_tests():
     """Fails where an example with a status that is not 0 is no row of gb_builds_tests."""
     tests = " ".join(read(TESTS).split())
-    for number, example in enumerate(guide.examples(), 1):
+    for example in guide.examples():
         row = f"{literal(example.input)}, {literal(example.output)}, {example.status}"
         if example.status != 0 and row not in tests:
-            guide.fail(f"example {number} is no row of gb_builds_tests: {row}")
+            guide.fail(f"{example.name} is no row of gb_builds_tests: {row}")
 
 
 def make(program):
@@ -139,7 +139,7 @@ def main(words):
     if words == ["--check"]:
         given, wanted = read(INPUT), read(OUTPUT)
         if joined(rows(), told_leaves(given)) != (given, wanted):
-            guide.fail("crates/gb_replay/stdin or stdout is not in step with bench/replays or docs/GUIDE.md")
+            guide.fail("crates/gb_replay/stdin or stdout is not in step with bench/replays or the documents")
     elif len(words) == 1 and not words[0].startswith("-"):
         make(words[0])
     else:

@@ -1,4 +1,4 @@
-" Vim syntax file for the notation of build.gb and settings.gb (docs/GUIDE.md, section 2).
+" Vim syntax file for the notation of build.gb and settings.gb (docs/REFERENCE.md, "The notation").
 " Copy it to ~/.vim/syntax/gb.vim, and put into ~/.vim/ftdetect/gb.vim:
 "   autocmd BufNewFile,BufRead *.gb setfiletype gb
 

@@ -1,0 +1,192 @@
+#!/usr/bin/env python3
+"""Sees that documents say what stands in the repository.
+
+    bench/quotes.py            fails where one of these does not hold
+    bench/quotes.py --theorem  prints the files of definitions that the theorem's clause reaches
+
+- A block ```quote FILE stands in FILE, line by line and in one piece.
+- A link to a file of the repository leads to one, and one with `#` to a heading of it.
+- The block ```theorem of docs/PROOF.md has the files that the theorem's clause reaches, import by import.
+- docs/CRATES.md has a section for each crate, in the order of crates.txt, and README.md a line for each.
+- A file of a crate's src/ that is named in the tables of docs/CRATES.md is there, and each one is named.
+- Files and definitions in that page's table of rules are there.
+- No line of a document is longer than 110 columns.
+"""
+import os
+import re
+import sys
+import textwrap
+
+ROOT = os.path.dirname(os.path.dirname(os.path.abspath(__file__)))
+DOCS = ["README.md"] + [f"docs/{name}" for name in sorted(os.listdir(f"{ROOT}/docs")) if name.endswith(".md")]
+MOST_COLUMNS = 110
+# What the clause `promise` of run_events names.
+ROOTS = [
+    ("gb_meaning", "Every"),
+    ("gb_meaning", "Headline"),
+    ("gb_meaning", "Kinds"),
+    ("gb_records", "Said"),
+    ("gb_history", "Places"),
+    ("gb_invocation", "Scripts"),
+    ("gb_registry", "Tables"),
+]
+faults = []
+
+
+def lines_of(path):
+    with open(os.path.join(ROOT, path), encoding="utf-8") as file:
+        return file.read().split("\n")
+
+
+def blocks(path):
+    """The fenced blocks: the number of their first line, what stands behind the fence, their lines."""
+    start = None
+    for number, line in enumerate(lines_of(path), 1):
+        if line.startswith("```"):
+            if start is None:
+                start, kind, block = number, line[3:], []
+            else:
+                yield start, kind, block
+                start = None
+        elif start is not None:
+            block.append(line)
+
+
+def has_piece(lines, piece):
+    return any(lines[at : at + len(piece)] == piece for at in range(len(lines) - len(piece) + 1))
+
+
+def check_quotes(path):
+    for number, kind, block in blocks(path):
+        if kind.startswith("quote "):
+            file = kind.removeprefix("quote ")
+            if not os.path.isfile(os.path.join(ROOT, file)) or not has_piece(lines_of(file), block):
+                faults.append(f"{path}:{number}: this does not stand so in {file}")
+
+
+def theorem():
+    """The files of definitions that the theorem's clause reaches, a line for each crate."""
+    reached, ahead = set(), list(ROOTS)
+    while ahead:
+        crate, name = ahead.pop()
+        path = f"crates/{crate}/specs/{name}.antt"
+        if (crate, name) not in reached and os.path.isfile(os.path.join(ROOT, path)):
+            reached.add((crate, name))
+            ahead += re.findall(r"Rattle\.(gb\w*)\.specs\.(\w+)", "\n".join(lines_of(path)))
+    by_crate = {crate: sorted(name for other, name in reached if other == crate) for crate, _ in reached}
+    return [f"{crate}: {' '.join(by_crate[crate])}" for crate in crates() if crate in by_crate]
+
+
+def check_theorem():
+    told = [block for _, kind, block in blocks("docs/PROOF.md") if kind == "theorem"]
+    if told != [folded(theorem())]:
+        faults.append("docs/PROOF.md: the files of the theorem are those of bench/quotes.py --theorem")
+
+
+def folded(lines):
+    """The lines, each within the columns."""
+    return [part for line in lines for part in textwrap.wrap(line, MOST_COLUMNS, subsequent_indent="    ")]
+
+
+def anchor(heading):
+    """The name under which a heading is linked to."""
+    text = re.sub(r"[^\w\- ]", "", heading.strip().lower())
+    return text.replace(" ", "-")
+
+
+def anchors(path):
+    return {anchor(line.lstrip("#")) for line in prose(path) if line.startswith("#")}
+
+
+def prose(path):
+    """The lines that stand in no block."""
+    inside = False
+    for line in lines_of(path):
+        if line.startswith("```"):
+            inside = not inside
+        elif not inside and not line.startswith("    "):
+            yield line
+
+
+def check_links(path):
+    for link in re.findall(r"\]\(([^)\s]+)\)", "\n".join(prose(path))):
+        if re.match(r"\w+:", link):
+            continue
+        file, _, name = link.partition("#")
+        file = os.path.normpath(os.path.join(os.path.dirname(path), file)) if file else path
+        if not os.path.exists(os.path.join(ROOT, file)):
+            faults.append(f"{path}: no file {file}")
+        elif name and name not in anchors(file):
+            faults.append(f"{path}: no heading {name} in {file}")
+
+
+def crates():
+    rows = [line.split("#")[0] for line in lines_of("crates.txt")]
+    return [row.split(":")[0].split()[0] for row in rows if row.strip()]
+
+
+def check_crates():
+    page = "\n".join(lines_of("docs/CRATES.md"))
+    sections = re.findall(r"(?m)^## (gb\w*)$", page)
+    listed = [name for name in crates() if not name.endswith("_tests")]
+    if sections != listed or not sections:
+        first = next((pair for pair in zip(sections, listed) if pair[0] != pair[1]), (sections, listed))
+        faults.append(f"docs/CRATES.md: its sections are not those of crates.txt in their order: {first}")
+        return
+    readme = "\n".join(lines_of("README.md"))
+    for name in crates():
+        if not re.search(rf"\b{name}\b", readme):
+            faults.append(f"README.md: no line has {name}")
+    for name, text in zip(sections, re.split(r"(?m)^## .*$", page[page.find(f"\n## {sections[0]}\n") :])[1:]):
+        check_files(name, text)
+
+
+def check_files(name, text):
+    """The rows of a section's table name the files of src/, each once."""
+    rows = [row.split("|")[1] for row in re.findall(r"(?m)^\|.*\|$", text)]
+    named = re.findall(r"`(\w+\.rt)`", " ".join(rows))
+    there = [file for file in sorted(os.listdir(f"{ROOT}/crates/{name}/src")) if file != "lib.rt"]
+    for file in sorted(set(named) ^ set(there)):
+        faults.append(f"docs/CRATES.md: {name}: {file} is {'not there' if file in named else 'not named'}")
+
+
+def check_rules():
+    """`A`: `B.c` is the definition c of crates/A/specs/B.antt, and `A/b.rt` a file of crates/A/src."""
+    page = "\n".join(lines_of("docs/CRATES.md"))
+    table = page.partition("## From a rule to its file")[2].partition("\n## ")[0]
+    for name, file in re.findall(r"`(gb\w*)/(\w+\.rt)`", table):
+        if not os.path.isfile(f"{ROOT}/crates/{name}/src/{file}"):
+            faults.append(f"docs/CRATES.md: no file {file} in {name}")
+    for name, file, word in re.findall(r"`(gb\w*)`: `(\w+)(?:\.(\w+))?", table):
+        path = f"crates/{name}/specs/{file}.antt"
+        if not os.path.isfile(os.path.join(ROOT, path)):
+            faults.append(f"docs/CRATES.md: no file {path}")
+        elif word and not re.search(rf"\bpub \w* ?{word}\b|\bpub {word}\b", "\n".join(lines_of(path))):
+            faults.append(f"docs/CRATES.md: no {word} in {path}")
+
+
+def check_columns(path):
+    for number, line in enumerate(lines_of(path), 1):
+        if len(line) > MOST_COLUMNS:
+            faults.append(f"{path}:{number}: more than {MOST_COLUMNS} columns")
+
+
+def main(words):
+    if words == ["--theorem"]:
+        print("\n".join(folded(theorem())))
+        return 0
+    for path in DOCS:
+        check_quotes(path)
+        check_links(path)
+        check_columns(path)
+    check_crates()
+    check_rules()
+    check_theorem()
+    for fault in faults:
+        print(fault)
+    print(f"{len(DOCS)} documents, {len(faults)} faults")
+    return 1 if faults else 0
+
+
+if __name__ == "__main__":
+    sys.exit(main(sys.argv[1:]))
