@@ -3,7 +3,8 @@ ghost use Rattle.std.specs.Prelude.{◌≡◌, ◌++◌, string_bytes, OnOk};
 ghost use Rattle.std.specs.List.{flat_map};
 ghost use Rattle.gb_core.specs.Place.{beneath};
 ghost use Rattle.gb_report.specs.Fault.{shown, shown_character};
-ghost use Rattle.gb_reason.specs.Text.{difference_text, file_text, output_text, quoted, reason_text, value_text};
+ghost use Rattle.gb_reason.specs.Text.{difference_text, file_text, output_text, quoted, reason_text};
+ghost use Rattle.gb_reason.specs.Text.{value_text};
 
 use crate::reason::Reason;
 use gb_action::change::Change;
