@@ -1,5 +1,5 @@
 -- What the contract of `execute` speaks of.
-pub use Rattle.gb_execute.specs.Asking.{in_build}
+pub use Rattle.gb_execute.specs.Asking.{WereCurrent, in_build}
 pub use Rattle.gb_execute.specs.Building.{CanBuild, IsBuildable, is_of_turns}
 pub use Rattle.gb_execute.specs.Built.{AreWorth, HasBuilt}
 pub use Rattle.gb_execute.specs.Failing.{times_blamed}

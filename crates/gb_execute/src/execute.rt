@@ -13,7 +13,7 @@ ghost use Rattle.gb_printer.specs.Printing.{Prints, parts_text};
 ghost use Rattle.gb_records.specs.Said.{IsText};
 ghost use Rattle.gb_store.specs.Changes.{ChangesOnly};
 ghost use Rattle.gb_task.specs.Turned.{Registering, setting_with};
-ghost use Rattle.gb_execute.specs.Asking.{in_build};
+ghost use Rattle.gb_execute.specs.Asking.{WereCurrent, in_build};
 ghost use Rattle.gb_execute.specs.Building.{CanBuild, is_of_turns};
 ghost use Rattle.gb_execute.specs.Built.{AreWorth, HasBuilt};
 ghost use Rattle.gb_execute.specs.Failing.{times_blamed};
@@ -65,8 +65,11 @@ pub fn execute<A: Actions, F: Folder, L: TaskListener, P: Printer>(
     ensures printed { IfOk result (λ report.
         Prints P.contents P.whole (parts_text report) printer.old printer.new) }
     ensures asks { Asks F.failures F.may_leave F.asked
-        (in_build A.meanings table.now options plan.now records.now)
+        (in_build F.failures F.may_leave F.asked folder.old A.meanings table.now options plan.now records.now)
         folder.old folder.new }
+    // What is told up to date was found so on what was answered in this build.
+    ensures current { IfOk result (λ report. WereCurrent F.failures F.may_leave F.asked folder.old options
+        plan.now records.now report.tasks) }
     // The device is blamed no more often than it failed.
     ensures device { IfOk result (λ report.
         HasFailed (times_blamed report.tasks) (F.failures folder.old) (F.failures folder.new)) }

@@ -1,7 +1,8 @@
 //! The turn of one task of a plan.
-ghost use Rattle.std.specs.Prelude.{◌≡◌, ◌<◌, [], ◌∷◌, ℕ, List, None, Some, false, map, length, slice_get, slice_index_or, IsTrue};
+ghost use Rattle.std.specs.Prelude.{◌≡◌, ◌<◌, [], ◌∷◌, ℕ, List, None, Some, false, map, length};
+ghost use Rattle.std.specs.Prelude.{slice_get, slice_index_or, IsTrue};
 ghost use Rattle.gb_case.specs.Case.{IsKnown};
-ghost use Rattle.gb_folder.specs.Calls.{Asks};
+ghost use Rattle.gb_folder.specs.Calls.{Asks, changes_at};
 ghost use Rattle.gb_folder.specs.Files.{HasRisen};
 ghost use Rattle.gb_history.specs.Places.{record_place};
 ghost use Rattle.gb_listen.specs.Telling.{AllTold};
@@ -17,9 +18,10 @@ ghost use Rattle.gb_records.specs.Standing.{Standing};
 ghost use Rattle.gb_report.specs.declared.report.Outcome.TheVariants.{Failed, NotRun};
 ghost use Rattle.gb_start.specs.Plans.{AreEndings, AreOfPlan};
 ghost use Rattle.gb_store.specs.Changes.{ChangesOnly};
+ghost use Rattle.gb_task.specs.Current.{IsToldCurrent};
 ghost use Rattle.gb_task.specs.Turned.{Registering, is_of_turn, setting_with};
 ghost use Rattle.gb_execute.specs.Asking.{in_turns};
-ghost use Rattle.gb_execute.specs.Building.{CanBuild};
+ghost use Rattle.gb_execute.specs.Building.{CanBuild, is_of_turns};
 ghost use Rattle.gb_execute.specs.Built.{IsTurnOf};
 ghost use Rattle.gb_execute.specs.Reports.{IsOf, report_with};
 
@@ -91,9 +93,15 @@ pub(crate) fn take_one<A: Actions, F: Folder, L: TaskListener>(
         → IsOf planned result.report }
     ensures heard { AllTold (heard_of false (result.report ∷ [])) result.all_heard
         (map L.ear listeners.old.items) (map L.ear listeners.new.items) }
-    ensures asks { Asks F.failures F.may_leave F.asked
-        (in_turns A.meanings build.now.table.now build.now.options build.now.tasks.now build.now.records.now)
+    // Of a build that turns of the plan led here since it began.
+    ensures asks { (begun : _)
+        → Asks F.failures F.may_leave F.asked (changes_at (is_of_turns build.now.tasks.now)) begun folder.old
+        → Asks F.failures F.may_leave F.asked (in_turns F.failures F.may_leave F.asked begun A.meanings
+        build.now.table.now build.now.options build.now.tasks.now build.now.records.now)
         folder.old folder.new }
+    ensures current { (planned : Planned) → slice_get build.now.tasks.now index ≡ Some planned
+        → IsToldCurrent F.failures F.may_leave F.asked build.now.options planned.task
+        (slice_index_or build.now.records.now index None) folder.old folder.new result.report.outcome }
     ensures blame { (place : List ℕ) → result.report.outcome ≡ Failed (Fault.Device place)
         → HasRisen (F.failures folder.old) (F.failures folder.new) }
     ensures changes { IsTrue F.tells → (planned : Planned)

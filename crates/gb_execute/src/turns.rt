@@ -1,5 +1,6 @@
 //! The turns of all tasks of a plan.
-ghost use Rattle.std.specs.Prelude.{◌≡◌, ◌≤◌, ◌<◌, ◌+◌, ◌++◌, ◌∷◌, Bool, List, true, false, [], map, length, replicate, IsTrue, vec_len};
+ghost use Rattle.std.specs.Prelude.{◌≡◌, ◌≤◌, ◌<◌, ◌+◌, ◌++◌, ◌∷◌, Bool, List, true, false, [], map, length};
+ghost use Rattle.std.specs.Prelude.{replicate, IsTrue, vec_len};
 ghost use Rattle.std.specs.List.{AllZip, flat_map};
 ghost use Rattle.std.specs.Vec.{vec_capacity};
 ghost use Rattle.gb_folder.specs.Calls.{Asks};
@@ -20,7 +21,7 @@ ghost use Rattle.gb_start.specs.Plans.{AreOfPlan};
 ghost use Rattle.gb_start.specs.declared.starts.Ending.TheVariants.{ToCome};
 ghost use Rattle.gb_store.specs.Changes.{ChangesOnly};
 ghost use Rattle.gb_task.specs.Turned.{Registering, setting_with};
-ghost use Rattle.gb_execute.specs.Asking.{in_turns};
+ghost use Rattle.gb_execute.specs.Asking.{WereCurrent, in_turns};
 ghost use Rattle.gb_execute.specs.Building.{CanBuild, is_of_turns};
 ghost use Rattle.gb_execute.specs.Built.{AreWorth, HasBuilt};
 ghost use Rattle.gb_execute.specs.Failing.{times_blamed};
@@ -77,10 +78,13 @@ pub(crate) fn take_turns<A: Actions, F: Folder, L: TaskListener, P: Printer>(
         reports.new.items }
     ensures heard { AllTold (heard_of false reports.new.items) result
         (map L.ear listeners.old.items) (map L.ear listeners.new.items) }
-    ensures printed { Prints P.contents P.whole (flat_map task_text reports.new.items) printer.old printer.new }
+    ensures printed { Prints P.contents P.whole (flat_map task_text reports.new.items)
+        printer.old printer.new }
     ensures asks { Asks F.failures F.may_leave F.asked
-        (in_turns A.meanings build.now.table.now build.now.options build.now.tasks.now build.now.records.now)
-        folder.old folder.new }
+        (in_turns F.failures F.may_leave F.asked folder.old A.meanings build.now.table.now build.now.options
+        build.now.tasks.now build.now.records.now) folder.old folder.new }
+    ensures current { WereCurrent F.failures F.may_leave F.asked folder.old build.now.options
+        build.now.tasks.now build.now.records.now reports.new.items }
     ensures device { HasFailed (times_blamed reports.new.items)
         (F.failures folder.old) (F.failures folder.new) }
     ensures changes { IsTrue F.tells

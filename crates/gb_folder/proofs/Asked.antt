@@ -1,6 +1,5 @@
 -- What calls one after another ask of a folder: for callers of folders.
 use Rattle.std.proofs.Common.{◌≡◌, ◌≤◌, ℕ, Bool, true, List, Option, Some, None, refl, sym, arith, subst}
-use Rattle.std.specs.Prelude.{Result}
 use Rattle.gb_folder.specs.Calls.{Call, Lists, Reads, ReadsPart, Writes, Removes, Permit, IsPermitted, Leads, none, then, Asks, no_change, put_at, taken_at, takes_at, changes_at}
 use Rattle.gb_folder.specs.Files.{Tearing, SameTearing}
 use Rattle.gb_folder.proofs.Changes.{SameTearing-same, SameTearing-chain}

@@ -8,3 +8,4 @@ pub mod Rows
 pub mod Leaving
 pub mod Asked
 pub mod Noting
+pub mod Answering

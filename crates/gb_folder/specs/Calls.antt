@@ -45,8 +45,9 @@ pub data Leads {F : Type 0} (asked : F → Call → F → Type 0) (permit : Perm
   then : {mid : F} (call : Call) (new : F) → Leads asked permit old mid → IsPermitted permit call
       → asked mid call new → Leads asked permit old new
 
--- What is asked of a folder on the way from the one to the other: whatever such calls led to the one, such calls
--- lead to the other. The device's count of failures never falls, and what a stopped call may leave stays the same.
+-- What is asked of a folder on the way from the one to the other: whatever such calls led to the one,
+-- such calls lead to the other. The device's count of failures never falls, and what a stopped call
+-- may leave stays the same.
 pub record Asks {F : Type 0} (failures : F → ℕ) (may_leave : F → Tearing) (asked : F → Call → F → Type 0)
     (permit : Permit) (old new : F) : Type 0 where
   pub count : failures old ≤ failures new

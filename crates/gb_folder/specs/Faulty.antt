@@ -1,5 +1,6 @@
 -- Folders whose device fails as planned.
-use Rattle.std.specs.Prelude.{ℕ, ◌≡◌, ◌⊎◌, ◌+◌, ◌-◌, ◌^◌, ◌==◌, ◌&&◌, nat_le, Bool, true, false, if◌then◌else◌, Option, Some, IsTrue, min}
+use Rattle.std.specs.Prelude.{ℕ, ◌≡◌, ◌⊎◌, ◌+◌, ◌-◌, ◌^◌, ◌==◌, ◌&&◌, nat_le, Bool, true, false}
+use Rattle.std.specs.Prelude.{if◌then◌else◌, Option, Some, IsTrue, min}
 use Rattle.gb_folder.specs.Files.{Tearing}
 use Rattle.gb_folder.specs.declared.faulty.FaultMode.{FaultMode}
 use Rattle.gb_folder.specs.declared.faulty.FaultMode.TheVariants.{FailOnce, Stop, StopTorn}

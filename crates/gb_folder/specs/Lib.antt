@@ -1,5 +1,6 @@
 pub mod Files
 pub mod Calls
+pub mod Answers
 pub mod FileTree
 pub mod Faults
 pub mod Memory

@@ -1,5 +1,5 @@
 //! Files in memory by the texts of their places, of which one may stand at a folder of another.
-ghost use Rattle.std.specs.Prelude.{◌≡◌, [], IsTrue, IfOk, OnOk, OnErr};
+ghost use Rattle.std.specs.Prelude.{◌≡◌, [], length, IsTrue, IfOk, OnOk, OnErr};
 ghost use Rattle.std.specs.FinMap.Entries.{is_sorted};
 ghost use Rattle.gb_core.specs.Lists.{byte_order};
 ghost use Rattle.gb_folder.specs.Files.{are_placed, is_blocked, places_under, with_file};
@@ -38,6 +38,13 @@ impl FileMap {
             alloc,
             held: BTreeMap::new(alloc),
         }
+    }
+
+    /// How many files there are.
+    pub fn len(&self) -> usize
+        ensures { result ≡ length self.now }
+    {
+        self.held.len()
     }
 
     /// Puts a file, in the place of one that stands there.

@@ -30,4 +30,4 @@ module _ {F S : Type 0} (failures : F → ℕ) (may_leave : F → Tearing) (aske
   pub scripts_before : (result : Result Report Fault) (first old new : F) → Asks failures may_leave asked no_change first old
       → InvocationAsks failures may_leave asked meanings rows invocation result old new → InvocationAsks failures may_leave asked meanings rows invocation result first new
   scripts_before (Err fault) first old new before asks = asks_then before asks
-  scripts_before (Ok report) first old new before asks = (asks.0, asks_before meanings rows invocation.options asks.0.outlined.plan first old new before asks.1)
+  scripts_before (Ok report) first old new before asks = (asks.0, asks_before meanings rows invocation.options asks.0.outlined.plan report.tasks first old new before asks.1)

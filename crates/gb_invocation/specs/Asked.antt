@@ -11,10 +11,12 @@ use Rattle.gb_report.specs.declared.fault.Fault.{Fault}
 use Rattle.gb_report.specs.declared.report.Report.{Report}
 
 -- a refused build asks for no change, and another what the plan does that it is outlined by
-abbrev pub InvocationAsks : {F S : Type 0} → (F → ℕ) → (F → Tearing) → (F → Call → F → Type 0) → Meanings S → Rows S
+abbrev pub InvocationAsks : {F S : Type 0} → (F → ℕ) → (F → Tearing) → (F → Call → F → Type 0) → Meanings S
+    → Rows S
     → Invocation → Result Report Fault → F → F → Type 0
 InvocationAsks failures may_leave asked meanings rows invocation (Err fault) old new =
     Asks failures may_leave asked no_change old new
 InvocationAsks failures may_leave asked meanings rows invocation (Ok report) old new =
     (by : IsOutlined invocation report)
-    × PlanAsks failures may_leave asked meanings rows invocation.options by.outlined.plan old new
+    × PlanAsks failures may_leave asked meanings rows invocation.options by.outlined.plan report.tasks
+    old new

@@ -1,5 +1,6 @@
 //! One invocation over the scripts of a folder.
-ghost use Rattle.std.specs.Prelude.{◌≡◌, ◌≤◌, ◌&&◌, ◌∷◌, [], ℕ, List, Ok, map, not, true, IfErr, IfOk, IsTrue, OnErr};
+ghost use Rattle.std.specs.Prelude.{◌≡◌, ◌≤◌, ◌&&◌, ◌∷◌, [], ℕ, List, Ok, map, not, true, IfErr};
+ghost use Rattle.std.specs.Prelude.{IfOk, IsTrue, OnErr};
 ghost use Rattle.gb_folder.specs.Files.{SameTearing, is_own};
 ghost use Rattle.gb_history.specs.Places.{record_place};
 ghost use Rattle.gb_invoke.specs.Leading.{Leads};
@@ -83,7 +84,8 @@ pub fn invoke<A: Actions, T: Transforms, F: Folder, L: TaskListener, P: Printer>
         → F.contents folder.new ≡ F.contents folder.old }
     // A build changes nothing but `.gb` and the build folders of the projects, and a refusal nothing.
     ensures keeps { IsTrue F.tells
-        → EventKeeps (registers_in (tables_of T.meanings A.meanings tables.now)) (events.Invoke invocation.now)
+        → EventKeeps (registers_in (tables_of T.meanings A.meanings tables.now))
+        (events.Invoke invocation.now)
         (answer_of result) (F.contents folder.old) (F.contents folder.new) }
     // It leads any run on, with what the scripts of the folder register.
     ensures leads { IsTrue F.tells → (kinds : Kinds)

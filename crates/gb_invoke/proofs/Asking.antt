@@ -1,12 +1,11 @@
 -- What a build asks, from what its calls ask.
-use Rattle.std.specs.Prelude.{ℕ, ◌≡◌, ◌≤◌, false, List, Option, Result, Ok, Err}
+use Rattle.std.specs.Prelude.{ℕ, ◌≡◌, false, List, Option, Result, Ok, Err}
 use Rattle.std.specs.List.{AllZip}
-use Rattle.std.proofs.Common.{subst, sym, arith}
+use Rattle.std.proofs.Common.{subst, sym}
 use Rattle.gb_action.specs.Meanings.{Meanings}
 use Rattle.gb_folder.specs.Calls.{Asks, Call, no_change}
-use Rattle.gb_folder.specs.Files.{SameTearing, Tearing}
+use Rattle.gb_folder.specs.Files.{Tearing}
 use Rattle.gb_folder.proofs.Asked.{asks_nothing, asks_then}
-use Rattle.gb_folder.proofs.Changes.{SameTearing-chain}
 use Rattle.gb_meaning.specs.declared.events.Invocation.{Invocation}
 use Rattle.gb_plan.specs.Graph.{Plan, Registry, order}
 use Rattle.gb_plan.specs.Ready.{Rows}
@@ -14,6 +13,7 @@ use Rattle.gb_records.proofs.Answering.{all_answered_longer}
 use Rattle.gb_report.specs.declared.fault.Fault.{Fault}
 use Rattle.gb_report.specs.declared.report.Options.{Options}
 use Rattle.gb_report.specs.declared.report.Report.{Report}
+use Rattle.gb_report.specs.declared.report.TaskReport.{TaskReport}
 use Rattle.gb_invoke.specs.Asked.{BuildAsks, PlanAsks}
 
 module _ {F S : Type 0} {failures : F → ℕ} {may_leave : F → Tearing} {asked : F → Call → F → Type 0} (meanings : Meanings S) (rows : Rows S) where
@@ -24,19 +24,13 @@ module _ {F S : Type 0} {failures : F → ℕ} {may_leave : F → Tearing} {aske
       subst (λ (r : Result Report Fault). BuildAsks failures may_leave asked meanings rows registry invocation r old new) (sym is) asks
 
   -- what is read before it belongs to what a build asks
-  pub asks_before : (options : Options) (plan : Plan) (first old new : F) → Asks failures may_leave asked no_change first old
-      → PlanAsks failures may_leave asked meanings rows options plan old new → PlanAsks failures may_leave asked meanings rows options plan first new
-  asks_before options plan first old new before by = record {
+  pub asks_before : (options : Options) (plan : Plan) (reports : List TaskReport) (first old new : F) → Asks failures may_leave asked no_change first old
+      → PlanAsks failures may_leave asked meanings rows options plan reports old new → PlanAsks failures may_leave asked meanings rows options plan reports first new
+  asks_before options plan reports first old new before by = record {
     records = by.records;
     begun = by.begun;
     first = asks_then before by.first;
     answered = λ wet. all_answered_longer first old by.begun by.begun before (asks_nothing by.begun) (order plan) by.records (by.answered wet);
     turns = by.turns;
+    current = by.current;
   }
-
-  -- what every call keeps, a build keeps
-  pub plan_counts : (options : Options) (plan : Plan) (old new : F) → PlanAsks failures may_leave asked meanings rows options plan old new → failures old ≤ failures new
-  plan_counts options plan old new by = omega (arith, by.first.count, by.turns.count)
-
-  pub plan_tears : (options : Options) (plan : Plan) (old new : F) → PlanAsks failures may_leave asked meanings rows options plan old new → SameTearing (may_leave old) (may_leave new)
-  plan_tears options plan old new by = SameTearing-chain _ _ _ by.first.tearing by.turns.tearing

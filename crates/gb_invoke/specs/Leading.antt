@@ -25,7 +25,8 @@ StandsSeen setting seen state =
 pub record LeadsTo (setting : Setting) (clear : Bool) (seen : List Bytes) (old : State) (event : Event)
     (answer : Answer) (new : Shown) : Type 0 where
   pub remembered : Memory
-  pub step : Step setting (StillClear setting (IsTrue clear) old) seen old event answer (state_of new remembered)
+  pub step : Step setting (StillClear setting (IsTrue clear) old)
+      seen old event answer (state_of new remembered)
   pub stands : StillClear setting (IsTrue clear) old (seen_with seen old (state_of new remembered))
       → StandsSeen setting (seen ++ contents_outside old.contents) (state_of new remembered)
 

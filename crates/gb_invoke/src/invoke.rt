@@ -3,7 +3,8 @@ ghost use Rattle.std.specs.Prelude.{◌≡◌, ◌≤◌, Ok, map, true, IfErr, 
 ghost use Rattle.gb_folder.specs.Files.{SameTearing};
 ghost use Rattle.gb_history.specs.Places.{record_place};
 ghost use Rattle.gb_meaning.specs.declared.events.Event.TheVariants as events;
-ghost use Rattle.gb_meaning.specs.Headline.{Agrees, HasFailed, HaveHeard, InvocationHolds, TearsAreSeen, answer_of, is_of_build, times_blamed};
+ghost use Rattle.gb_meaning.specs.Headline.{Agrees, HasFailed, HaveHeard, InvocationHolds, TearsAreSeen};
+ghost use Rattle.gb_meaning.specs.Headline.{answer_of, is_of_build, times_blamed};
 ghost use Rattle.gb_meaning.specs.Kinds.{Kinds};
 ghost use Rattle.gb_meaning.specs.Outline.{IsOutlinedBy};
 ghost use Rattle.gb_meaning.specs.TrueRecord.{outside};

@@ -1,6 +1,7 @@
 pub mod Cases
 mod Current
-mod Growth
+pub mod Growth
 mod Names
 mod Sources
 pub mod Recorded
+pub mod Answering

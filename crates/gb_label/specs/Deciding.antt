@@ -43,7 +43,8 @@ pub record IsPresentOf (options : Options) (task : Task) (inputs : List Prints) 
 
 -- What is decided of a task from its record: what the record and the present say; or that it runs in full,
 -- since nothing is remembered of it, it is to run anew, or its outputs are such as no run leaves.
-pub data IsDecided (options : Options) (task : Task) (folder : Contents) : Option Remembered → Decision → Type 0 where
+pub data IsDecided (options : Options) (task : Task) (folder : Contents)
+    : Option Remembered → Decision → Type 0 where
   by_record : {run : Remembered} {decision : Decision} (present : Present)
       → IsPresentOf options task (digests_in (trees_of task folder.files))
       (map (recorded_of folder.files) task.outputs) present
@@ -64,7 +65,8 @@ MayDecide options task decisions.Full = ⊤
 -- the fault says that an output is such as no run leaves: a file too large, or too many files
 abbrev pub IsGrown : Fault → Type 0
 IsGrown fault =
-    ((place : Place) × (fault ≡ faults.TooLarge place)) ⊎ ((name : List ℕ) × (fault ≡ faults.TooManyFiles name))
+    ((place : Place) × (fault ≡ faults.TooLarge place))
+    ⊎ ((name : List ℕ) × (fault ≡ faults.TooManyFiles name))
 
 -- where it may go on by changes its outputs were read
 abbrev pub AreOutputsFor : Task → Decision → List Read → Type 0

@@ -1,3 +1,4 @@
 pub mod Deciding
 pub mod Looking
 pub mod Preparing
+pub mod Answered

@@ -20,10 +20,11 @@ gives_no_source pair = not pair.0.skip_when_empty || is_empty pair.1.1
 -- there are properties that skip the task when empty, and none of them has files
 abbrev pub lacks_source : {X : Type 0} → List FileProperty → List (List ℕ × List X) → Bool
 lacks_source properties inputs =
-    list_any (λ property. property.skip_when_empty) properties && list_all gives_no_source (zip properties inputs)
+    list_any (λ property. property.skip_when_empty) properties
+    && list_all gives_no_source (zip properties inputs)
 
--- What is found is the task's case. Where its record is to decide, its inputs can be read and give it a source,
--- and their digests are found; of what stands at its outputs nothing is said.
+-- What is found is the task's case. Where its record is to decide, its inputs can be read and give it a
+-- source, and their digests are found; of what stands at its outputs nothing is said.
 abbrev pub IsCase : Task → Contents → Look → Type 0
 IsCase task folder looks.Skips = early_case task folder ≡ Some Skips
 IsCase task folder looks.HasNoActions = early_case task folder ≡ Some HasNoActions

@@ -6,11 +6,15 @@ ghost use Rattle.gb_folder.specs.Files.{is_empty, is_own};
 ghost use Rattle.gb_history.specs.Decision.{DecidesFrom};
 ghost use Rattle.gb_history.specs.Remembered.{prints_in};
 ghost use Rattle.gb_history.specs.declared.decide.Present.{Present};
-ghost use Rattle.gb_label.specs.Deciding.{AreOutputsFor, AreOutputsSeenFor, HasNamesInOrder, IsDecided, IsGrown, IsPresentOf, MayDecide};
+ghost use Rattle.gb_label.specs.Answered.{WasDecided};
+ghost use Rattle.gb_label.specs.Deciding.{AreOutputsFor, AreOutputsSeenFor, HasNamesInOrder};
+ghost use Rattle.gb_label.specs.Deciding.{IsDecided, IsGrown, IsPresentOf, MayDecide};
 ghost use Rattle.gb_meaning.specs.Tree.{listing_faults, trees_of};
 ghost use Rattle.gb_plan.specs.Task.{is_output_of};
 ghost use Rattle.gb_store.specs.Faults.{Blames, BlamesOnly};
-ghost use Rattle.gb_turn.specs.Reading.{AreOutputs, AreOutputsSeen, CannotRead, digests_in, print_faults, prints_read, recorded_of, records_with};
+ghost use Rattle.gb_turn.specs.Answered.{AreOutputsAnswered};
+ghost use Rattle.gb_turn.specs.Reading.{AreOutputs, AreOutputsSeen, CannotRead};
+ghost use Rattle.gb_turn.specs.Reading.{digests_in, print_faults, prints_read, recorded_of, records_with};
 
 use crate::listing::check_outputs;
 use crate::present::present_of;
@@ -48,6 +52,8 @@ pub fn decided<F: Folder>(
     ensures may_decide { IfOk result (λ found. MayDecide options task.now found.0) }
     // Over any folder: where it may go on by changes its outputs were read.
     ensures read { IfOk result (λ found. AreOutputsFor task.now found.0 found.1.items) }
+    ensures answered { IfOk result (λ found. WasDecided F.failures F.may_leave F.asked folder.old folder.new
+        options task.now (option_copied old.entry) inputs.now found.0 found.1.items) }
     ensures same { IsTrue F.tells → F.contents folder.new ≡ F.contents folder.old }
     ensures decided { IsTrue F.tells
         → prints_read inputs.now ≡ digests_in (trees_of task.now (F.contents folder.old).files)
@@ -104,6 +110,8 @@ fn by_record<F: Folder>(
     ensures blamed { BlamesOnly (is_output_of task.now) result }
     ensures may_decide { IfOk result (λ found. MayDecide options task.now found.0) }
     ensures read { IfOk result (λ found. AreOutputsFor task.now found.0 found.1.items) }
+    ensures answered { IfOk result (λ found. WasDecided F.failures F.may_leave F.asked folder.old folder.new
+        options task.now (Some run.now) inputs.now found.0 found.1.items) }
     ensures same { IsTrue F.tells → F.contents folder.new ≡ F.contents folder.old }
     ensures decided { IsTrue F.tells
         → prints_read inputs.now ≡ digests_in (trees_of task.now (F.contents folder.old).files)
@@ -139,13 +147,16 @@ fn read_listed<F: Folder>(
     ensures blamed { BlamesOnly (is_output_of task.now) result }
     ensures same { IsTrue F.tells → F.contents folder.new ≡ F.contents folder.old }
     ensures read { IfOk result (λ found. AreOutputs task.now found.items) }
-    ensures prints { IsTrue F.tells → IfOk result (λ found.
-        prints_read found.items ≡ prints_in (map (recorded_of (F.contents folder.old).files) task.now.outputs)) }
+    ensures answered { IfOk result (λ found. AreOutputsAnswered F.failures F.may_leave F.asked
+        folder.old folder.new task.now found.items) }
+    ensures prints { IsTrue F.tells → IfOk result (λ found. prints_read found.items
+        ≡ prints_in (map (recorded_of (F.contents folder.old).files) task.now.outputs)) }
     ensures seen { IsTrue F.tells → IfOk result
         (λ found. AreOutputsSeen task.now (F.contents folder.old).files found.items) }
     ensures none_odd { IsTrue F.tells → OnOk result (listing_faults task.now (F.contents folder.old) ≡ []) }
     ensures err { IsTrue F.tells → IfErr result (λ fault.
-        (IsGrown fault × (is_empty (flat_map (print_faults (F.contents folder.old)) task.now.outputs) ≡ false))
+        (IsGrown fault
+        × (is_empty (flat_map (print_faults (F.contents folder.old)) task.now.outputs) ≡ false))
         ⊎ CannotRead (F.failures folder.old) (F.failures folder.new)
         (listing_faults task.now (F.contents folder.old)) fault) }
 {
@@ -155,7 +166,8 @@ fn read_listed<F: Folder>(
     read_outputs(alloc, folder, task, &mut room)
 }
 
-/// The same of outputs of which some lie in the tool's own folder, where nothing is read: all are listed first.
+/// The same of outputs of which some lie in the tool's own folder, where nothing is read: all are listed
+/// first.
 fn read_checked<F: Folder>(
     alloc: Global,
     folder: &mut F,
@@ -167,13 +179,16 @@ fn read_checked<F: Folder>(
     ensures blamed { BlamesOnly (is_output_of task.now) result }
     ensures same { IsTrue F.tells → F.contents folder.new ≡ F.contents folder.old }
     ensures read { IfOk result (λ found. AreOutputs task.now found.items) }
-    ensures prints { IsTrue F.tells → IfOk result (λ found.
-        prints_read found.items ≡ prints_in (map (recorded_of (F.contents folder.old).files) task.now.outputs)) }
+    ensures answered { IfOk result (λ found. AreOutputsAnswered F.failures F.may_leave F.asked
+        folder.old folder.new task.now found.items) }
+    ensures prints { IsTrue F.tells → IfOk result (λ found. prints_read found.items
+        ≡ prints_in (map (recorded_of (F.contents folder.old).files) task.now.outputs)) }
     ensures seen { IsTrue F.tells → IfOk result
         (λ found. AreOutputsSeen task.now (F.contents folder.old).files found.items) }
     ensures none_odd { IsTrue F.tells → OnOk result (listing_faults task.now (F.contents folder.old) ≡ []) }
     ensures err { IsTrue F.tells → IfErr result (λ fault.
-        (IsGrown fault × (is_empty (flat_map (print_faults (F.contents folder.old)) task.now.outputs) ≡ false))
+        (IsGrown fault
+        × (is_empty (flat_map (print_faults (F.contents folder.old)) task.now.outputs) ≡ false))
         ⊎ CannotRead (F.failures folder.old) (F.failures folder.new)
         (listing_faults task.now (F.contents folder.old)) fault) }
 {
@@ -222,7 +237,8 @@ fn decide_by(
     requires in_order { HasNamesInOrder task.now }
     requires inputs { map (λ found. found.0) inputs.now ≡ map (λ property. property.name) task.now.files }
     requires outputs { map (λ found. found.0) outputs.now ≡ map (λ output. output.name) task.now.outputs }
-    ensures { IfOk result (λ decision. (present : Present) × IsPresentOf options task.now (prints_read inputs.now)
+    ensures { IfOk result (λ decision. (present : Present)
+        × IsPresentOf options task.now (prints_read inputs.now)
         (records_with task.now.outputs (prints_read outputs.now)) present
         × DecidesFrom run.now present decision) }
 {

@@ -4,7 +4,7 @@
 
 pub mod deciding;
 mod listing;
-mod look;
+pub mod look;
 pub mod prepare;
 mod present;
 pub mod record;

@@ -3,6 +3,7 @@ ghost use Rattle.std.specs.Prelude.{◌≡◌, ◌||◌, true, false, length, Is
 ghost use Rattle.std.specs.List.{list_all, list_any, zip};
 ghost use Rattle.gb_folder.specs.Calls.{Asks, no_change};
 ghost use Rattle.gb_folder.specs.Files.{is_empty};
+ghost use Rattle.gb_label.specs.Answered.{WasLookedAt};
 ghost use Rattle.gb_label.specs.Looking.{IsCase, IsHindered, MayBe, gives_no_source, lacks_source};
 ghost use Rattle.gb_plan.specs.Task.{is_output_of};
 ghost use Rattle.gb_store.specs.Faults.{Blames, BlamesOnly};
@@ -76,6 +77,8 @@ fn look_at_files<F: Folder>(
     ensures blame { Blames result (F.failures folder.old) (F.failures folder.new) }
     ensures blamed { BlamesOnly (λ place. is_input_of task.now place || is_output_of task.now place) result }
     ensures may_be { IfOk result (MayBe task.now) }
+    ensures answered { IfOk result
+        (WasLookedAt F.failures F.may_leave F.asked folder.old folder.new task.now) }
     ensures same { IsTrue F.tells → F.contents folder.new ≡ F.contents folder.old }
     ensures case { IsTrue F.tells → IfOk result (IsCase task.now (F.contents folder.old)) }
     ensures err { IsTrue F.tells → IfErr result
@@ -103,6 +106,8 @@ pub fn looked_at<F: Folder>(
     ensures blamed { BlamesOnly (λ place. is_input_of task.now place || is_output_of task.now place) result }
     // Over any folder: which of them it may be, and that what is skipped or has no actions reads nothing.
     ensures may_be { IfOk result (MayBe task.now) }
+    ensures answered { IfOk result
+        (WasLookedAt F.failures F.may_leave F.asked folder.old folder.new task.now) }
     ensures reads { OnErr result ((task.now.runs ≡ true) × (is_empty task.now.actions ≡ false)) }
     ensures same { IsTrue F.tells → F.contents folder.new ≡ F.contents folder.old }
     ensures case { IsTrue F.tells → IfOk result (IsCase task.now (F.contents folder.old)) }

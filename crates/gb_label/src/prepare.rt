@@ -4,6 +4,7 @@ ghost use Rattle.gb_folder.specs.Calls.{Asks, no_change};
 ghost use Rattle.gb_folder.specs.Files.{is_empty};
 ghost use Rattle.gb_label.specs.Deciding.{HasNamesInOrder};
 ghost use Rattle.gb_label.specs.Looking.{IsHindered};
+ghost use Rattle.gb_label.specs.Answered.{WasPrepared};
 ghost use Rattle.gb_label.specs.Preparing.{IsPrepared, IsRead, IsSeen, MayDecideAs, MayPrepare};
 ghost use Rattle.gb_plan.specs.Task.{is_output_of};
 ghost use Rattle.gb_store.specs.Faults.{Blames, BlamesOnly};
@@ -66,6 +67,9 @@ pub fn prepare<F: Folder>(
     ensures same { IsTrue F.tells → F.contents folder.new ≡ F.contents folder.old }
     // What a run goes by was read; and it stands so in a folder that tells.
     ensures read { IfOk result (IsRead task.now) }
+    // Over any folder it is what calls answered; and what is up to date was found so on just this.
+    ensures answered { IfOk result (WasPrepared F.failures F.may_leave F.asked folder.old folder.new options
+        task.now (option_copied old.entry)) }
     ensures prepared { IsTrue F.tells → IfOk result
         (IsPrepared options task.now (F.contents folder.old) (option_copied old.entry)) }
     ensures seen { IsTrue F.tells → IfOk result (IsSeen task.now (F.contents folder.old).files) }

@@ -5,17 +5,17 @@ use Rattle.std.specs.List.{AllZip}
 use Rattle.gb_core.specs.declared.place.PlaceFault.{PlaceFault}
 use Rattle.gb_core.specs.declared.place.PlaceFault.TheVariants as places
 use Rattle.gb_folder.specs.Calls.{Asks, Call, Reads, no_change}
+use Rattle.gb_folder.proofs.Answering.{on_longer_way, on_way_here}
 use Rattle.gb_folder.specs.Files.{Bytes, Place, Tearing}
 use Rattle.gb_folder.specs.declared.folder.FolderFault.{FolderFault}
 use Rattle.gb_folder.specs.declared.folder.FolderFault.TheVariants as folders
-use Rattle.gb_folder.proofs.Asked.{asks_nothing, asks_then}
 use Rattle.gb_history.specs.Remembered.{Remembered}
 use Rattle.gb_history.specs.Places.{record_place}
 use Rattle.gb_meaning.specs.Events.{max_record}
 use Rattle.gb_plan.specs.Task.{Path}
 use Rattle.gb_report.specs.declared.fault.Fault.{Fault}
 use Rattle.gb_report.specs.declared.fault.Fault.TheVariants as faults
-use Rattle.gb_records.specs.Answered.{IsOnWay, WasAnswered}
+use Rattle.gb_records.specs.Answered.{WasAnswered}
 use Rattle.gb_records.specs.Faults.{none_for}
 use Rattle.gb_records.specs.Said.{IsReadAs, IsText, said_of}
 
@@ -35,15 +35,10 @@ none_stood failures may_leave asked old new path place folders.TooLarge = tt
 none_stood failures may_leave asked old new path place folders.BadFileName = tt
 
 module _ {F : Type 0} {failures : F → ℕ} {may_leave : F → Tearing} {asked : F → Call → F → Type 0} where
-  on_longer_way : (call : Call) (first old new last : F) → Asks failures may_leave asked no_change first old → Asks failures may_leave asked no_change new last
-      → IsOnWay failures may_leave asked call old new → IsOnWay failures may_leave asked call first last
-  on_longer_way call first old new last before behind way =
-      record { before = way.before; after = way.after; first = asks_then before way.first; is = way.is; rest = asks_then way.rest behind }
-
   pub answered_longer : (first old new last : F) → Asks failures may_leave asked no_change first old → Asks failures may_leave asked no_change new last
       → (path : Path) (read : Option Remembered) → WasAnswered failures may_leave asked old new path read → WasAnswered failures may_leave asked first last path read
   answered_longer first old new last before behind path None was = was
-  answered_longer first old new last before behind path (Some run) was = (was.0, was.1, on_longer_way _ first old new last before behind was.2)
+  answered_longer first old new last before behind path (Some run) was = (was.0, was.1, on_longer_way before behind was.2)
 
   pub all_answered_longer : (first old new last : F) → Asks failures may_leave asked no_change first old → Asks failures may_leave asked no_change new last
       → (paths : List Path) (read : List (Option Remembered)) → AllZip (WasAnswered failures may_leave asked old new) paths read → AllZip (WasAnswered failures may_leave asked first last) paths read
@@ -61,7 +56,7 @@ module _ {F : Type 0} {failures : F → ℕ} {may_leave : F → Tearing} {asked 
   answered_here old new path bytes (Ok (Some run)) asks call read = (
     bytes,
     subst (λ (b : Bytes). IsText path (said_of run) b) (sym (same bytes read.0 read.1)) read.2,
-    record { before = old; after = new; first = asks_nothing old; is = call; rest = asks_nothing new },
+    on_way_here call,
   )
     where
       same : (a b : Bytes) → Some a ≡ Some b → a ≡ b

@@ -1,21 +1,13 @@
 -- What was answered of a record, over any folder.
 use Rattle.std.specs.Prelude.{ℕ, Option, Some, None, Ok, ⊤}
-use Rattle.gb_folder.specs.Calls.{Asks, Call, Reads, no_change}
+use Rattle.gb_folder.specs.Answers.{IsOnWay}
+use Rattle.gb_folder.specs.Calls.{Call, Reads}
 use Rattle.gb_folder.specs.Files.{Bytes, Tearing}
 use Rattle.gb_history.specs.Places.{record_place}
 use Rattle.gb_history.specs.Remembered.{Remembered}
 use Rattle.gb_meaning.specs.Events.{max_record}
 use Rattle.gb_plan.specs.Task.{Path}
 use Rattle.gb_records.specs.Said.{IsText, said_of}
-
--- The call was asked on the way from the one folder to the other, on which no change was asked for.
-pub record IsOnWay {F : Type 0} (failures : F → ℕ) (may_leave : F → Tearing) (asked : F → Call → F → Type 0)
-    (call : Call) (old new : F) : Type 0 where
-  pub before : F
-  pub after : F
-  pub first : Asks failures may_leave asked no_change old before
-  pub is : asked before call after
-  pub rest : Asks failures may_leave asked no_change after new
 
 -- a text of the record was answered, as its place was read on the way
 abbrev pub WasAnswered : {F : Type 0} → (F → ℕ) → (F → Tearing) → (F → Call → F → Type 0) → F → F → Path

@@ -14,8 +14,8 @@ use Rattle.gb_meaning.specs.Memory.{Entry, World, entry_of, recalled}
 use Rattle.gb_meaning.specs.TrueRecord.{AreApart, IsMade, contents_of, record_of}
 use Rattle.gb_records.specs.Said.{IsSaidOf}
 
--- The entry is true, the folder's files stand at places, no output is the tool's own, and no two contents of the entry and
--- of what the task has now share a digest.
+-- The entry is true, the folder's files stand at places, no output is the tool's own, and no two contents of
+-- the entry and of what the task has now share a digest.
 pub record IsClearTo (kinds : Kinds) (task : Task) (files : Files) (entry : Entry) : Type 0 where
   pub is_made : IsMade kinds entry
   pub is_folder : IsFolder files

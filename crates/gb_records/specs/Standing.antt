@@ -1,12 +1,14 @@
 -- Which records stand in a folder, and what calls do to them.
-use Rattle.std.specs.Prelude.{ℕ, ◌≡◌, ◌⊎◌, Bool, false, not, ◌||◌, length, nat_lt, if◌then◌else◌, Option, Some, None, Result, Ok, Err, IsTrue}
+use Rattle.std.specs.Prelude.{ℕ, ◌≡◌, ◌⊎◌, Bool, false, not, ◌||◌, length, nat_lt, if◌then◌else◌, Option}
+use Rattle.std.specs.Prelude.{Some, None, Result, Ok, Err, IsTrue}
 use Rattle.std.specs.List.{AllByRecursion}
 use Rattle.std.specs.FinMap.Entries.{is_sorted}
 use Rattle.sha2.specs.Sha256.{sha256}
 use Rattle.gb_core.specs.Lists.{byte_order}
 use Rattle.gb_core.specs.Path.{is_task_path}
 use Rattle.gb_core.specs.Place.{is_place}
-use Rattle.gb_folder.specs.Files.{Bytes, Files, Contents, HasRisen, Tearing, file_at, is_blocked, with_file, without}
+use Rattle.gb_folder.specs.Files.{Bytes, Files, Contents, HasRisen, Tearing, file_at}
+use Rattle.gb_folder.specs.Files.{is_blocked, with_file, without}
 use Rattle.gb_plan.specs.Task.{Path}
 use Rattle.gb_history.specs.Remembered.{Remembered}
 use Rattle.gb_history.specs.Text.{record_text}

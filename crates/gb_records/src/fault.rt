@@ -41,7 +41,7 @@ impl Unwritten {
 }
 
 /// A folder's fault at a record's place.
-pub fn unwritten_by(fault: FolderFault) -> Unwritten
+pub(crate) fn unwritten_by(fault: FolderFault) -> Unwritten
     ensures { result ≡ unwritten_for fault }
 {
     match fault {

@@ -1,5 +1,6 @@
 //! Records taken out and put in.
-ghost use Rattle.std.specs.Prelude.{◌≡◌, ℕ, List, Some, None, false, length, IsTrue, IfOk, IfErr, IsErrOf, OnOk};
+ghost use Rattle.std.specs.Prelude.{◌≡◌, ℕ, List, Some, None, false, length, IsTrue, IfOk};
+ghost use Rattle.std.specs.Prelude.{IfErr, IsErrOf, OnOk};
 ghost use Rattle.gb_core.specs.Path.{is_task_path};
 ghost use Rattle.gb_core.specs.Place.{is_place};
 ghost use Rattle.gb_folder.specs.Calls.{Asks, put_at, taken_at};
@@ -9,7 +10,8 @@ ghost use Rattle.gb_meaning.specs.Headline.{TearsAreSeen};
 ghost use Rattle.gb_meaning.specs.Memory.{Entry, Memory, recalled};
 ghost use Rattle.gb_records.specs.Faults.{removed_by};
 ghost use Rattle.gb_records.specs.Said.{IsText, IsSaidOf, said_of};
-ghost use Rattle.gb_records.specs.Standing.{ComesToNothing, Standing, StandsWithout, StandsWith, taken_out, written_in};
+ghost use Rattle.gb_records.specs.Standing.{ComesToNothing, Standing, StandsWithout};
+ghost use Rattle.gb_records.specs.Standing.{StandsWith, taken_out, written_in};
 
 use crate::fault::{Unwritten, unwritten_by};
 use crate::reading::MAX_RECORD;
@@ -81,7 +83,8 @@ pub fn put_in<F: Folder>(
         (F.contents folder.old) fault (F.contents folder.new)) }
     // Which records stand then.
     ensures stands { IsTrue F.tells → TearsAreSeen IsText record_place (F.may_leave folder.old)
-        → (memory : Memory) (entry : Entry) → Standing (F.contents folder.old).files memory → IsSaidOf run.now entry
+        → (memory : Memory) (entry : Entry) → Standing (F.contents folder.old).files memory
+        → IsSaidOf run.now entry
         → StandsWith path.now entry memory result (F.contents folder.new).files }
 {
     let text = record_text(alloc, path, run)?;

@@ -1,5 +1,6 @@
 //! Laws of records, each the contract of a function that does nothing.
-ghost use Rattle.gb_records.specs.Digests.{ChangesAreOfContents, RecordsTellEntries, SinceIsIncremental, UpToDateIsCurrent};
+ghost use Rattle.gb_records.specs.Digests.{ChangesAreOfContents, RecordsTellEntries, SinceIsIncremental};
+ghost use Rattle.gb_records.specs.Digests.{UpToDateIsCurrent};
 ghost use Rattle.gb_records.specs.Laws.{StandsElsewhere, StandsForMemory, TextsAreRecords};
 
 /// Texts, places and readings of records are as builds are to have them.

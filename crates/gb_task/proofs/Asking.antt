@@ -1,5 +1,5 @@
 -- What the calls of a turn ask for together.
-use Rattle.std.specs.Prelude.{◌≡◌, ◌||◌, Bool, true, List, Option, None, Some, IsTrue}
+use Rattle.std.specs.Prelude.{◌≡◌, ◌||◌, Bool, true, List, map, Option, None, Some, IsTrue}
 use Rattle.std.specs.Cmp.Lexicographic.{bytes_decides}
 use Rattle.std.proofs.Common.{ℕ, refl, sym, ap, subst, inl, inr, ◌∙◌}
 use Rattle.gb_action.specs.Changes.{Changes}
@@ -18,14 +18,16 @@ use Rattle.gb_meaning.specs.Kinds.{Kinds}
 use Rattle.gb_meaning.specs.Label.{has_one_writer}
 use Rattle.gb_plan.proofs.Tests.{or_right}
 use Rattle.gb_plan.specs.Ready.{Rows}
-use Rattle.gb_plan.specs.Task.{is_output_of}
+use Rattle.gb_plan.specs.Task.{is_output_of, seen_files}
 use Rattle.gb_plan.specs.declared.task.TaskDeclaration.{TaskDeclaration as Task}
 use Rattle.gb_report.specs.declared.report.Options.{Options}
 use Rattle.gb_store.specs.Changes.{is_at}
 use Rattle.gb_turn.specs.declared.inputs.Inputs.{Inputs}
 use Rattle.gb_turn.specs.declared.outputs.Outputs.{Outputs}
 use Rattle.gb_task.specs.Asking.{IsInFull, IsTextAnew, IsTextBy, IsTextIn, IsTextOf, in_turn_with}
+use Rattle.gb_turn.specs.Answered.{AreInputsRead}
 use Rattle.gb_task.specs.Anew.{IsAnew}
+use Rattle.gb_task.specs.Current.{WasReadAnew}
 use Rattle.gb_task.specs.declared.anew.Anew.TheVariants as anew
 use Rattle.gb_task.specs.Keeping.{IsRecordOf}
 use Rattle.gb_task.specs.Turned.{is_of_turn}
@@ -40,6 +42,13 @@ at_record task = or_right (is_output_of task (record_place task.path)) (is_at (r
 -- and so is each at an output
 at_output : (task : Task) (place : Place) → is_output_of task place ≡ true → is_of_turn task place ≡ true
 at_output task place is = ap (λ b. b || is_at (record_place task.path) place) is
+
+-- what a turn may ask for is at a place of it
+pub of_turn : (task : Task) (text : Bytes → Type 0) (place : Place) (next : Option Bytes) → in_turn_with task text place next → is_of_turn task place ≡ true
+unfolding in_turn_with
+of_turn task text place None is = is
+of_turn task text place (Some bytes) (inl output) = at_output task place output
+of_turn task text place (Some bytes) (inr record_is) = ap (is_of_turn task) record_is.0 ∙ at_record task
 
 permitted_takes : (task : Task) (text : Bytes → Type 0) (place : Place) (next : Option Bytes) → takes_at (is_of_turn task) place next → in_turn_with task text place next
 unfolding takes_at in_turn_with
@@ -84,45 +93,53 @@ module _ {F : Type 0} {failures : F → ℕ} {may_leave : F → Tearing} {asked 
       → Asks failures may_leave asked (in_turn_with task some) old new → Asks failures may_leave asked (in_turn_with task more) old new
   text_in_turn task some more wider asks = asks_more (permitted_text task some more wider) asks
 
--- a run in full on these trees is one
-pub full_is_one : {S : Type 0} (meanings : Meanings S) (rows : Rows S) (task : Task) (trees : Trees) (bytes : Bytes) → IsTextIn meanings rows task trees bytes → IsInFull meanings rows task bytes
-unfolding IsInFull
-full_is_one meanings rows task trees bytes is = (trees, is)
+module _ {F S : Type 0} (failures : F → ℕ) (may_leave : F → Tearing) (asked : F → Call → F → Type 0) (old : F) (meanings : Meanings S) (rows : Rows S) where
+  -- a run in full on these trees is one
+  pub full_is_one : (task : Task) (trees : Trees) (read : F) → AreInputsRead failures may_leave asked old read task trees → map (λ tree. tree.0) trees ≡ seen_files task.files → (bytes : Bytes)
+      → IsTextIn meanings rows task trees bytes → IsInFull failures may_leave asked old meanings rows task bytes
+  unfolding IsInFull
+  full_is_one task trees read inputs named bytes is = (trees, read, inputs, named, is)
 
--- what was decided anew came to a run in full
-pub full_anew : {S : Type 0} (meanings : Meanings S) (rows : Rows S) (options : Options) (task : Task) (last : Remembered) (trees : Trees) (bytes : Bytes)
-    → IsTextIn meanings rows task trees bytes → IsTextAnew meanings rows options task last bytes
-unfolding IsInFull IsTextAnew
-full_anew meanings rows options task last trees bytes is = inl (trees, is)
+  -- what was decided anew came to a run in full
+  pub full_anew : (options : Options) (task : Task) (last : Remembered) (inputs : Inputs) (read : F) → WasReadAnew failures may_leave asked old read task (anew.InFull inputs)
+      → IsAnew options task last (anew.InFull inputs) → (bytes : Bytes)
+      → IsTextIn meanings rows task inputs.trees bytes → IsTextAnew failures may_leave asked old meanings rows options task last bytes
+  unfolding IsInFull IsTextAnew
+  full_anew options task last inputs read was is_anew bytes is = inl (inputs.trees, read, was, is_anew.named, is)
 
--- or to one by changes
-pub going_anew : {S : Type 0} (meanings : Meanings S) (rows : Rows S) (options : Options) (task : Task) (last : Remembered) (inputs : Inputs) (outputs : Outputs) (changes : List Changes) (bytes : Bytes)
-    → IsAnew options task last (anew.ByChanges inputs outputs changes) → IsTextBy meanings rows task inputs.trees changes outputs.seen bytes → IsTextAnew meanings rows options task last bytes
-unfolding IsTextAnew
-going_anew meanings rows options task last inputs outputs changes bytes is text = inr (record {
-  trees = inputs.trees;
-  changes = changes;
-  seen = outputs.seen;
-  named = is.0.named;
-  formed = is.1.formed;
-  decided = is.2;
-  text = text;
-})
+  -- or to one by changes
+  pub going_anew : (options : Options) (task : Task) (last : Remembered) (inputs : Inputs) (outputs : Outputs) (changes : List Changes) (read : F)
+      → WasReadAnew failures may_leave asked old read task (anew.ByChanges inputs outputs changes) → (bytes : Bytes)
+      → IsAnew options task last (anew.ByChanges inputs outputs changes) → IsTextBy meanings rows task inputs.trees changes outputs.seen bytes
+      → IsTextAnew failures may_leave asked old meanings rows options task last bytes
+  unfolding IsTextAnew
+  going_anew options task last inputs outputs changes read was bytes is text = inr (record {
+    trees = inputs.trees;
+    changes = changes;
+    seen = outputs.seen;
+    read = read;
+    inputs_read = was.0;
+    outputs_read = was.1;
+    named = is.0.named;
+    formed = is.1.formed;
+    decided = is.2;
+    text = text;
+  })
 
--- a run in full is one of the task, whatever was read of it
-pub full_of_task : {S : Type 0} (meanings : Meanings S) (rows : Rows S) (options : Options) (task : Task) (last : Option Remembered) (bytes : Bytes)
-    → IsInFull meanings rows task bytes → IsTextOf meanings rows options task last bytes
-unfolding IsTextOf
-full_of_task meanings rows options task None bytes is = is
-full_of_task meanings rows options task (Some last) bytes is = inl is
+  -- a run in full is one of the task, whatever was read of it
+  pub full_of_task : (options : Options) (task : Task) (last : Option Remembered) (bytes : Bytes)
+      → IsInFull failures may_leave asked old meanings rows task bytes → IsTextOf failures may_leave asked old meanings rows options task last bytes
+  unfolding IsTextOf
+  full_of_task options task None bytes is = is
+  full_of_task options task (Some last) bytes is = inl is
 
--- and so is one that was decided anew, where one action writes
-pub anew_of_task : {S : Type 0} (meanings : Meanings S) (rows : Rows S) (options : Options) (task : Task) (last : Remembered)
-    → ((kinds : Kinds) → Agrees meanings rows kinds → IsTrue (has_one_writer kinds task.actions)) → (bytes : Bytes)
-    → IsTextAnew meanings rows options task last bytes → IsTextOf meanings rows options task (Some last) bytes
-unfolding IsTextOf IsTextAnew
-anew_of_task meanings rows options task last one bytes (inl full) = inl full
-anew_of_task meanings rows options task last one bytes (inr on) = inr (on, one)
+  -- and so is one that was decided anew, where one action writes
+  pub anew_of_task : (options : Options) (task : Task) (last : Remembered)
+      → ((kinds : Kinds) → Agrees meanings rows kinds → IsTrue (has_one_writer kinds task.actions)) → (bytes : Bytes)
+      → IsTextAnew failures may_leave asked old meanings rows options task last bytes → IsTextOf failures may_leave asked old meanings rows options task (Some last) bytes
+  unfolding IsTextOf IsTextAnew
+  anew_of_task options task last one bytes (inl full) = inl full
+  anew_of_task options task last one bytes (inr on) = inr (on, one)
 
 pub full_text : {S : Type 0} (meanings : Meanings S) (rows : Rows S) (task : Task) (trees : Trees) (run : Remembered)
     → ((kinds : Kinds) → Agrees meanings rows kinds → IsRecordOf kinds task trees run) → IsTextIn meanings rows task trees (record_text task.path run)

@@ -25,3 +25,4 @@ mod Settling
 pub mod Asking
 mod Made
 mod Truth
+pub mod Answered

@@ -15,7 +15,8 @@ use Rattle.gb_action.specs.declared.change.Change.{Change}
 use Rattle.gb_action.specs.declared.output.Form.{Form}
 use Rattle.gb_action.specs.declared.output.OutputFiles.{OutputFiles}
 use Rattle.gb_core.specs.Lists.{byte_order}
-use Rattle.gb_folder.specs.Files.{Place, Bytes, Files, file_at}
+use Rattle.gb_folder.specs.Calls.{Call}
+use Rattle.gb_folder.specs.Files.{Place, Bytes, Files, Tearing, file_at}
 use Rattle.gb_history.specs.Decision.{IsAlike, changes_of, is_incremental}
 use Rattle.gb_history.specs.Remembered.{ArePrints, Prints, Remembered, prints_in}
 use Rattle.gb_history.specs.Text.{record_text}
@@ -30,7 +31,7 @@ use Rattle.gb_meaning.specs.Memory.{Entry, output_files}
 use Rattle.gb_meaning.specs.TrueRecord.{Record, contents_in, contents_of, prints_of, record_of}
 use Rattle.gb_meaning.proofs.Lemmas.Files.{at-where, same_files, sorted-where}
 use Rattle.gb_meaning.proofs.Lemmas.Making.{IsRight, made_of_is_right}
-use Rattle.gb_plan.specs.Task.{is_output_of, seen_outputs}
+use Rattle.gb_plan.specs.Task.{is_output_of, seen_files, seen_outputs}
 use Rattle.gb_plan.specs.declared.task.Output.{Output}
 use Rattle.gb_plan.specs.declared.task.TaskDeclaration.{TaskDeclaration as Task}
 use Rattle.gb_records.specs.Said.{output_said, said_of}
@@ -41,6 +42,7 @@ use Rattle.gb_records.proofs.Since.{SameUnless, alike_trees}
 use Rattle.gb_tree.specs.Prints.{digests_of}
 use Rattle.gb_tree.specs.Tree.{files_from}
 use Rattle.gb_tree.proofs.Digests.{same_changes}
+use Rattle.gb_turn.specs.Answered.{AreInputsRead}
 use Rattle.gb_turn.specs.Reading.{digests_in, prints_seen, recorded_of, records_with, seen_of}
 use Rattle.gb_task.specs.Keeping.{IsRecordOf, run_now}
 use Rattle.gb_task.specs.Truth.{AreMadeOf, FullRunsAreTrue, IsTextOfTrue, IsTrueBeside, LieApart, RunsByChangesStayTrue, UpToDateIsMade, contents_read}
@@ -73,22 +75,27 @@ said_now task trees files =
       files = prints;
     } in r) (said_outputs files task.outputs) (said_prints files task.outputs)
 
-text_of_record : (kinds : Kinds) (task : Task) (trees : Trees) (run : Remembered) (bytes : Bytes) → IsRecordOf kinds task trees run
-    → bytes ≡ record_text task.path run → IsTextOfTrue kinds task bytes
-text_of_record kinds task trees run bytes of text = record {
+text_of_record : {F : Type 0} (failures : F → ℕ) (may_leave : F → Tearing) (asked : F → Call → F → Type 0) (old read : F) (kinds : Kinds) (task : Task) (trees : Trees) (run : Remembered) (bytes : Bytes)
+    → AreInputsRead failures may_leave asked old read task trees → map (λ (tree : List ℕ × Tree). tree.0) trees ≡ seen_files task.files → IsRecordOf kinds task trees run
+    → bytes ≡ record_text task.path run → IsTextOfTrue failures may_leave asked old kinds task bytes
+text_of_record failures may_leave asked old read kinds task trees run bytes inputs named of text = record {
   run = run;
   text = text;
   entry = entry_by task trees of.0;
   actions = refl;
   values = refl;
   outputs = refl;
+  read = read;
+  inputs_read = inputs;
+  named = named;
   is_made = of.1;
   said = ap said_of of.2 ∙ said_now task trees of.0;
 }
 
-pub full_runs_are_true : {S : Type 0} (meanings : Meanings S) → FullRunsAreTrue meanings
+pub full_runs_are_true : {F S : Type 0} (failures : F → ℕ) (may_leave : F → Tearing) (asked : F → Call → F → Type 0) (meanings : Meanings S) → FullRunsAreTrue failures may_leave asked meanings
 unfolding Rattle.gb_task.specs.Asking.IsInFull Rattle.gb_task.specs.Asking.IsTextIn
-full_runs_are_true meanings rows kinds task bytes agrees full = text_of_record kinds task full.0 full.1.0 bytes (full.1.2 kinds agrees) full.1.1
+full_runs_are_true failures may_leave asked meanings old rows kinds task bytes agrees full =
+    text_of_record failures may_leave asked old full.1 kinds task full.0 full.4.0 bytes full.2 full.3 (full.4.2 kinds agrees) full.4.1
 
 -- ---- what the lists of changes tell of trees
 
@@ -348,10 +355,10 @@ module _ (kinds : Kinds) (task : Task) (last : Remembered) (trees : Trees) (seen
 
 -- ---- the laws
 
-pub runs_by_changes_stay_true : {S : Type 0} (meanings : Meanings S) → RunsByChangesStayTrue meanings
+pub runs_by_changes_stay_true : {F S : Type 0} (failures : F → ℕ) (may_leave : F → Tearing) (asked : F → Call → F → Type 0) (meanings : Meanings S) → RunsByChangesStayTrue failures may_leave asked meanings
 unfolding Rattle.gb_task.specs.Asking.IsTextBy
-runs_by_changes_stay_true meanings rows kinds options task last bytes agrees lie one held on so =
-    text_of_record kinds task on.trees on.text.0 bytes
+runs_by_changes_stay_true failures may_leave asked meanings old rows kinds options task last bytes agrees lie one held on so =
+    text_of_record failures may_leave asked old on.read kinds task on.trees on.text.0 bytes on.inputs_read on.named
     (on.text.2 kinds agrees so.entry.inputs so.entry.files
     (made_folder kinds task.outputs task.values so.entry.inputs task.actions so.entry.files made)
     (made_placed kinds task.outputs task.values so.entry.inputs task.actions so.entry.files made)
@@ -386,11 +393,11 @@ runs_by_changes_stay_true meanings rows kinds options task last bytes agrees lie
     made : made_of kinds task.actions task.values so.entry.inputs task.outputs ≡ Ok so.entry.files
     made = made_then kinds task last on.trees on.seen lie on.formed so actions values outputs
 
-pub up_to_date_is_made : UpToDateIsMade
-up_to_date_is_made kinds options task last present trees seen lie formed is decides so =
-    made_now kinds task last trees seen lie formed so
+pub up_to_date_is_made : {F : Type 0} (failures : F → ℕ) (may_leave : F → Tearing) (asked : F → Call → F → Type 0) → UpToDateIsMade failures may_leave asked
+up_to_date_is_made failures may_leave asked kinds options task last old new lie on so =
+    made_now kinds task on.run on.trees on.seen lie on.formed so
     (ap (λ (run : Remembered). run.actions) same) (ap (λ (run : Remembered). run.values) same)
     (ap (λ (run : Remembered). run.outputs) same) (ap (λ (run : Remembered). run.inputs) same)
   where
-    same : last ≡ record { actions = task.actions; values = task.values; inputs = digests_in trees; outputs = records_with task.outputs (prints_seen seen) }
-    same = decides.same ∙ is.now
+    same : on.run ≡ record { actions = task.actions; values = task.values; inputs = digests_in on.trees; outputs = records_with task.outputs (prints_seen on.seen) }
+    same = on.decides.same ∙ on.has.now

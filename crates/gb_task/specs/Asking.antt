@@ -1,11 +1,11 @@
 -- What a task's turn asks of a folder, whichever it is: at which places, and which records it puts in.
-use Rattle.std.specs.Prelude.{◌≡◌, ◌⊎◌, List, map, Option, Some, None, IsTrue}
+use Rattle.std.specs.Prelude.{ℕ, ◌≡◌, ◌⊎◌, List, map, Option, Some, None, IsTrue}
 use Rattle.gb_action.specs.Changes.{Changes}
 use Rattle.gb_action.specs.Files.{Trees}
 use Rattle.gb_action.specs.Meanings.{Meanings}
 use Rattle.gb_action.specs.declared.output.OutputFiles.{OutputFiles}
-use Rattle.gb_folder.specs.Calls.{Permit}
-use Rattle.gb_folder.specs.Files.{Bytes, Files, IsFolder, are_placed}
+use Rattle.gb_folder.specs.Calls.{Call, Permit}
+use Rattle.gb_folder.specs.Files.{Bytes, Files, IsFolder, Tearing, are_placed}
 use Rattle.gb_history.specs.Places.{record_place}
 use Rattle.gb_history.specs.Remembered.{Remembered}
 use Rattle.gb_history.specs.Text.{record_text}
@@ -17,6 +17,7 @@ use Rattle.gb_plan.specs.Ready.{Rows}
 use Rattle.gb_plan.specs.Task.{is_output_of, seen_files, seen_outputs}
 use Rattle.gb_plan.specs.declared.task.TaskDeclaration.{TaskDeclaration as Task}
 use Rattle.gb_report.specs.declared.report.Options.{Options}
+use Rattle.gb_turn.specs.Answered.{AreInputsRead, AreOutputsRead}
 use Rattle.gb_task.specs.Anew.{AreDecided}
 use Rattle.gb_task.specs.Keeping.{IsRecordOf}
 use Rattle.gb_task.specs.Turned.{is_of_turn}
@@ -47,35 +48,49 @@ IsTextBy meanings rows task trees changes seen bytes =
     → IsTrue (are_placed standing) → GoesOn kinds task old trees changes seen standing
     → IsRecordOf kinds task trees run)
 
--- of a run that was decided anew from what a record says: in full, or on from outputs as they were seen by
--- the changes that the record tells on the digests of just these trees and outputs
-pub record IsTextOn {S : Type 0} (meanings : Meanings S) (rows : Rows S) (options : Options) (task : Task)
-    (last : Remembered) (bytes : Bytes) : Type 0 where
+-- of a run that was decided anew from what a record says: on from outputs by the changes that the record
+-- tells on the digests of just these trees and outputs, which were answered on the way from a state of the
+-- folder before anything was changed
+pub record IsTextOn {F S : Type 0} (failures : F → ℕ) (may_leave : F → Tearing)
+    (asked : F → Call → F → Type 0) (old : F) (meanings : Meanings S) (rows : Rows S) (options : Options)
+    (task : Task) (last : Remembered) (bytes : Bytes) : Type 0 where
   pub trees : Trees
   pub changes : List Changes
   pub seen : List OutputFiles
+  pub read : F
+  pub inputs_read : AreInputsRead failures may_leave asked old read task trees
+  pub outputs_read : AreOutputsRead failures may_leave asked old read task seen
   pub named : map (λ tree. tree.0) trees ≡ seen_files task.files
   pub formed : map (λ output. (output.name, output.form)) seen ≡ seen_outputs task.outputs
   pub decided : AreDecided options task last trees seen changes
   pub text : IsTextBy meanings rows task trees changes seen bytes
 
-unfoldable pub IsInFull : {S : Type 0} → Meanings S → Rows S → Task → Bytes → Type 0
-IsInFull meanings rows task bytes = (trees : Trees) × IsTextIn meanings rows task trees bytes
+-- in full, on trees that were answered so
+unfoldable pub IsInFull : {F S : Type 0} → (F → ℕ) → (F → Tearing) → (F → Call → F → Type 0) → F → Meanings S
+    → Rows S → Task → Bytes → Type 0
+IsInFull {F = F} failures may_leave asked old meanings rows task bytes =
+    (trees : Trees) × (read : F) × AreInputsRead failures may_leave asked old read task trees
+    × (map (λ tree. tree.0) trees ≡ seen_files task.files) × IsTextIn meanings rows task trees bytes
 
-unfoldable pub IsTextAnew : {S : Type 0} → Meanings S → Rows S → Options → Task → Remembered → Bytes → Type 0
-IsTextAnew meanings rows options task last bytes =
-    IsInFull meanings rows task bytes ⊎ IsTextOn meanings rows options task last bytes
+-- in full, or on from what the record says
+unfoldable pub IsTextAnew : {F S : Type 0} → (F → ℕ) → (F → Tearing) → (F → Call → F → Type 0) → F
+    → Meanings S → Rows S → Options → Task → Remembered → Bytes → Type 0
+IsTextAnew failures may_leave asked old meanings rows options task last bytes =
+    IsInFull failures may_leave asked old meanings rows task bytes
+    ⊎ IsTextOn failures may_leave asked old meanings rows options task last bytes
 
 -- of a run of the task, from the record that was read of it: in full, or on from what that says, where one
 -- action of the task writes files
-abbrev pub IsTextFrom : {S : Type 0} → Meanings S → Rows S → Options → Task → Option Remembered → Bytes
-    → Type 0
-IsTextFrom meanings rows options task None bytes = IsInFull meanings rows task bytes
-IsTextFrom meanings rows options task (Some last) bytes =
-    IsInFull meanings rows task bytes
-    ⊎ (IsTextOn meanings rows options task last bytes
+abbrev pub IsTextFrom : {F S : Type 0} → (F → ℕ) → (F → Tearing) → (F → Call → F → Type 0) → F → Meanings S
+    → Rows S → Options → Task → Option Remembered → Bytes → Type 0
+IsTextFrom failures may_leave asked old meanings rows options task None bytes =
+    IsInFull failures may_leave asked old meanings rows task bytes
+IsTextFrom failures may_leave asked old meanings rows options task (Some last) bytes =
+    IsInFull failures may_leave asked old meanings rows task bytes
+    ⊎ (IsTextOn failures may_leave asked old meanings rows options task last bytes
     × ((kinds : Kinds) → Agrees meanings rows kinds → IsTrue (has_one_writer kinds task.actions)))
 
-unfoldable pub IsTextOf : {S : Type 0} → Meanings S → Rows S → Options → Task → Option Remembered → Bytes
-    → Type 0
-IsTextOf meanings rows options task last bytes = IsTextFrom meanings rows options task last bytes
+unfoldable pub IsTextOf : {F S : Type 0} → (F → ℕ) → (F → Tearing) → (F → Call → F → Type 0) → F → Meanings S
+    → Rows S → Options → Task → Option Remembered → Bytes → Type 0
+IsTextOf failures may_leave asked old meanings rows options task last bytes =
+    IsTextFrom failures may_leave asked old meanings rows options task last bytes

@@ -6,3 +6,4 @@ pub mod Settled
 pub mod Anew
 pub mod Asking
 pub mod Truth
+pub mod Current

@@ -14,7 +14,9 @@ ghost use Rattle.gb_meaning.specs.TrueRecord.{outside};
 ghost use Rattle.gb_plan.specs.Task.{is_output_of};
 ghost use Rattle.gb_store.specs.Faults.{Blames, BlamesOnly, IsOfMachine};
 ghost use Rattle.gb_task.specs.Anew.{IsAnew, IsAsBefore, anew_by};
+ghost use Rattle.gb_task.specs.Current.{WasReadAnew};
 ghost use Rattle.gb_task.specs.Turned.{IsToGoOn};
+ghost use Rattle.gb_turn.specs.Answered.{AreInputsAnswered, AreOutputsAnswered};
 ghost use Rattle.gb_turn.specs.Reading.{AreInputs, AreInputsSeen, AreOutputs, AreOutputsSeen, is_input_of};
 
 use gb_action::change::ChangeLists;
@@ -59,6 +61,11 @@ pub(crate) fn settle_anew<F: Folder>(
     ensures blamed { BlamesOnly (λ place. is_input_of task.now place || is_output_of task.now place) result }
     // Over any folder: the digests are those of what is worked on, and the changes are decided on them.
     ensures anew { IfOk result (IsAnew options task.now last.now) }
+    // And they are what calls answered, before and now.
+    ensures answered { (first : _) → Asks F.failures F.may_leave F.asked no_change first folder.old
+        → AreInputsAnswered F.failures F.may_leave F.asked first folder.old task.now seen.inputs.items
+        → AreOutputsAnswered F.failures F.may_leave F.asked first folder.old task.now seen.outputs.items
+        → IfOk result (WasReadAnew F.failures F.may_leave F.asked first folder.new task.now) }
     ensures same { IsTrue F.tells → F.contents folder.new ≡ F.contents folder.old }
     // Where nobody else writes it is what was decided before.
     ensures as_before { IsTrue F.tells → (kinds : Kinds) (world : World)

@@ -1,7 +1,7 @@
 //! The turn of a task that may go on from what its last run left.
 ghost use Rattle.std.specs.Prelude.{◌≡◌, ◌||◌, [], ℕ, List, false, true, not, IsTrue};
 ghost use Rattle.std.specs.List.{AllByRecursion, list_any};
-ghost use Rattle.gb_folder.specs.Calls.{Asks};
+ghost use Rattle.gb_folder.specs.Calls.{Asks, no_change};
 ghost use Rattle.gb_folder.specs.Files.{HasRisen, is_empty, is_own};
 ghost use Rattle.gb_history.specs.Places.{record_place};
 ghost use Rattle.gb_incremental.specs.Asking.{CanGoOn};
@@ -19,6 +19,7 @@ ghost use Rattle.gb_store.specs.Faults.{Blames, BlamesOnly};
 ghost use Rattle.gb_task.specs.Asking.{IsTextAnew, in_turn_with};
 ghost use Rattle.gb_task.specs.Turned.{ComesAt, HasTurned, IsToGoOn, IsToldOf, Registering, is_of_turn};
 ghost use Rattle.gb_task.specs.Turned.{outcome_of, report_of, setting_with};
+ghost use Rattle.gb_turn.specs.Answered.{AreInputsAnswered, AreOutputsAnswered};
 ghost use Rattle.gb_turn.specs.Reading.{AreInputs, AreInputsSeen, AreOutputs, AreOutputsSeen, is_input_of};
 
 use crate::anew::{Anew, settle_anew};
@@ -60,8 +61,12 @@ pub fn take_turn_by_changes<A: Actions, F: Folder>(
     ensures path { result.path ≡ task.now.path }
     ensures has_actions { result.has_actions ≡ not (is_empty task.now.actions) }
     ensures outcome { IsToldOf outcome_of result.outcome }
-    ensures asks { Asks F.failures F.may_leave F.asked
-        (in_turn_with task.now (IsTextAnew A.meanings table.now options task.now last.now))
+    // On inputs and outputs that were answered on the way from a state of the folder, records are of these.
+    ensures asks { (first : _) → Asks F.failures F.may_leave F.asked no_change first folder.old
+        → AreInputsAnswered F.failures F.may_leave F.asked first folder.old task.now seen.inputs.items
+        → AreOutputsAnswered F.failures F.may_leave F.asked first folder.old task.now seen.outputs.items
+        → Asks F.failures F.may_leave F.asked (in_turn_with task.now
+        (IsTextAnew F.failures F.may_leave F.asked first A.meanings table.now options task.now last.now))
         folder.old folder.new }
     ensures blame { (place : List ℕ) → result.outcome ≡ Failed (Fault.Device place)
         → HasRisen (F.failures folder.old) (F.failures folder.new) }
@@ -111,8 +116,12 @@ fn go_on<A: Actions, F: Folder>(
     requires inputs { AreInputs task.now seen.inputs.items }
     requires outputs { AreOutputs task.now seen.outputs.items }
     requires no_lines { lines.old ≡ [] }
-    ensures asks { Asks F.failures F.may_leave F.asked
-        (in_turn_with task.now (IsTextAnew A.meanings table.now options task.now last.now))
+    // On inputs and outputs that were answered on the way from a state of the folder, records are of these.
+    ensures asks { (first : _) → Asks F.failures F.may_leave F.asked no_change first folder.old
+        → AreInputsAnswered F.failures F.may_leave F.asked first folder.old task.now seen.inputs.items
+        → AreOutputsAnswered F.failures F.may_leave F.asked first folder.old task.now seen.outputs.items
+        → Asks F.failures F.may_leave F.asked (in_turn_with task.now
+        (IsTextAnew F.failures F.may_leave F.asked first A.meanings table.now options task.now last.now))
         folder.old folder.new }
     ensures blame { Blames result (F.failures folder.old) (F.failures folder.new) }
     ensures blamed { BlamesOnly (λ place. is_input_of task.now place || is_output_of task.now place) result }

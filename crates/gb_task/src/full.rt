@@ -1,7 +1,7 @@
 //! A full run of a task.
 ghost use Rattle.std.specs.Prelude.{◌≡◌, ◌||◌, [], ℕ, List, false, not, map, IsTrue, IfOk, IfErr, OnOk};
 ghost use Rattle.std.specs.List.{list_any};
-ghost use Rattle.gb_folder.specs.Calls.{Asks, changes_at};
+ghost use Rattle.gb_folder.specs.Calls.{Asks, changes_at, no_change};
 ghost use Rattle.gb_folder.specs.Files.{HasRisen, is_empty, is_own};
 ghost use Rattle.gb_history.specs.Places.{record_place};
 ghost use Rattle.gb_label.specs.Deciding.{HasNamesInOrder};
@@ -22,6 +22,7 @@ ghost use Rattle.gb_task.specs.Asking.{IsInFull, IsTextIn, in_turn_with};
 ghost use Rattle.gb_task.specs.Keeping.{IsRecordOf};
 ghost use Rattle.gb_task.specs.Turned.{ComesAt, HasTurned, IsDue, IsToldOf, Registering, is_of_turn};
 ghost use Rattle.gb_task.specs.Turned.{outcome_of, report_of, setting_with};
+ghost use Rattle.gb_turn.specs.Answered.{AreInputsAnswered};
 ghost use Rattle.gb_turn.specs.Reading.{AreInputs, AreInputsSeen, digests_in, is_input_of};
 
 use crate::adding::all_added;
@@ -66,8 +67,11 @@ pub fn take_full_turn<A: Actions, F: Folder>(
     ensures path { result.path ≡ task.now.path }
     ensures has_actions { result.has_actions ≡ not (is_empty task.now.actions) }
     ensures outcome { IsToldOf outcome_of result.outcome }
-    ensures asks { Asks F.failures F.may_leave F.asked
-        (in_turn_with task.now (IsInFull A.meanings table.now task.now))
+    // On inputs that were answered on the way from a state of the folder, the record is of these.
+    ensures asks { (first : _) → Asks F.failures F.may_leave F.asked no_change first folder.old
+        → AreInputsAnswered F.failures F.may_leave F.asked first folder.old task.now inputs.items
+        → Asks F.failures F.may_leave F.asked (in_turn_with task.now
+        (IsInFull F.failures F.may_leave F.asked first A.meanings table.now task.now))
         folder.old folder.new }
     ensures blame { (place : List ℕ) → result.outcome ≡ Failed (Fault.Device place)
         → HasRisen (F.failures folder.old) (F.failures folder.new) }
@@ -122,8 +126,11 @@ fn run_with_record<A: Actions, F: Folder>(
     requires apart { reads_output_of task.now task.now ≡ false }
     requires inputs { AreInputs task.now inputs.items }
     requires no_lines { lines.old ≡ [] }
-    ensures asks { Asks F.failures F.may_leave F.asked
-        (in_turn_with task.now (IsInFull A.meanings table.now task.now))
+    // On inputs that were answered on the way from a state of the folder, the record is of these.
+    ensures asks { (first : _) → Asks F.failures F.may_leave F.asked no_change first folder.old
+        → AreInputsAnswered F.failures F.may_leave F.asked first folder.old task.now inputs.items
+        → Asks F.failures F.may_leave F.asked (in_turn_with task.now
+        (IsInFull F.failures F.may_leave F.asked first A.meanings table.now task.now))
         folder.old folder.new }
     ensures blame { Blames result (F.failures folder.old) (F.failures folder.new) }
     ensures blamed { BlamesOnly (λ place. is_input_of task.now place || is_output_of task.now place) result }

@@ -2,18 +2,19 @@
 ghost use Rattle.gb_task.specs.Truth.{FullRunsAreTrue, RunsByChangesStayTrue, UpToDateIsMade};
 
 use gb_action::actions::Actions;
+use gb_folder::folder::Folder;
 
 /// What is written of a run in full is the text of a true record, over any folder.
-pub fn full_runs_are_true<A: Actions>()
-    ensures { FullRunsAreTrue A.meanings }
+pub fn full_runs_are_true<A: Actions, F: Folder>()
+    ensures { FullRunsAreTrue F.failures F.may_leave F.asked A.meanings }
 {}
 
 /// What is written of a run by changes is so where the record that it went on from is true.
-pub fn runs_by_changes_stay_true<A: Actions>()
-    ensures { RunsByChangesStayTrue A.meanings }
+pub fn runs_by_changes_stay_true<A: Actions, F: Folder>()
+    ensures { RunsByChangesStayTrue F.failures F.may_leave F.asked A.meanings }
 {}
 
 /// What was read of a task that is up to date is what its actions make, where its record is true.
-pub fn up_to_date_is_made()
-    ensures { UpToDateIsMade }
+pub fn up_to_date_is_made<F: Folder>()
+    ensures { UpToDateIsMade F.failures F.may_leave F.asked }
 {}

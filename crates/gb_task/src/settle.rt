@@ -10,6 +10,7 @@ ghost use Rattle.gb_meaning.specs.Label.{Moment, some_outcome};
 ghost use Rattle.gb_meaning.specs.TrueRecord.{outside};
 ghost use Rattle.gb_plan.specs.Graph.{Plan, needs_in};
 ghost use Rattle.gb_report.specs.Outcome.{is_executed};
+ghost use Rattle.gb_task.specs.Current.{WasSettled};
 ghost use Rattle.gb_task.specs.Settled.{AnswersAlone, IsOfTask, SettlesTurn, TellsAnswer, idle_outcome};
 ghost use Rattle.gb_task.specs.Settled.{settled_as, silent_report};
 ghost use Rattle.gb_task.specs.Turned.{Registering, setting_with};
@@ -58,6 +59,9 @@ pub fn settle<F: Folder>(
     ensures of_task { IsOfTask task.now (F.failures folder.old) (F.failures folder.new) result }
     ensures alone { AnswersAlone task.now.runs (is_empty task.now.actions) has_executed_need result }
     ensures answer { TellsAnswer options task.now result }
+    // And it goes by what calls answered.
+    ensures answered { WasSettled F.failures F.may_leave F.asked folder.old folder.new options task.now
+        (option_copied last.entry) result }
     ensures same { IsTrue F.tells → F.contents folder.new ≡ F.contents folder.old }
     // What is told is the task's turn; what is not told is its case.
     ensures settled { IsTrue F.tells → (kinds : Kinds) (registry_of : Registering) (plan : Plan)

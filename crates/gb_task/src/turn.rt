@@ -5,10 +5,11 @@ ghost use Rattle.std.specs.List.{AllByRecursion, list_any};
 ghost use Rattle.gb_action.specs.Changes.{Changes};
 ghost use Rattle.gb_case.specs.Case.{IsCaseFor, IsKnown};
 ghost use Rattle.gb_case.specs.Turns.{IsRunFor, goes_by_changes};
-ghost use Rattle.gb_folder.specs.Calls.{Asks};
+ghost use Rattle.gb_folder.specs.Calls.{Asks, no_change};
 ghost use Rattle.gb_folder.specs.Files.{HasRisen, is_empty, is_own};
 ghost use Rattle.gb_history.specs.Places.{record_place};
 ghost use Rattle.gb_incremental.specs.Asking.{CanGoOn};
+ghost use Rattle.gb_label.specs.Answered.{WasDecided};
 ghost use Rattle.gb_label.specs.Deciding.{HasNamesInOrder};
 ghost use Rattle.gb_label.specs.Preparing.{IsReadFor, IsSeenFor};
 ghost use Rattle.gb_meaning.specs.Headline.{Agrees, TearsAreSeen};
@@ -23,9 +24,11 @@ ghost use Rattle.gb_report.specs.declared.report.Options.{Options};
 ghost use Rattle.gb_report.specs.declared.report.Outcome.TheVariants.{Failed};
 ghost use Rattle.gb_store.specs.Changes.{ChangesOnly};
 ghost use Rattle.gb_task.specs.Asking.{IsTextOf, in_turn_with};
+ghost use Rattle.gb_task.specs.Current.{IsToldCurrent};
 ghost use Rattle.gb_task.specs.Settled.{IsAnswer, IsAnsweredAlone};
 ghost use Rattle.gb_task.specs.Turned.{ComesAt, HasTurned, IsToldOf, Registering, is_of_turn, outcome_of};
 ghost use Rattle.gb_task.specs.Turned.{setting_with};
+ghost use Rattle.gb_turn.specs.Answered.{AreInputsAnswered};
 ghost use Rattle.gb_turn.specs.Reading.{is_input_of};
 
 use crate::changes::take_turn_by_changes;
@@ -66,9 +69,14 @@ pub fn take_turn<A: Actions, F: Folder>(
     requires path { path ≡ task.now.path }
     ensures path { result.path ≡ task.now.path }
     ensures has_actions { result.has_actions ≡ not (is_empty task.now.actions) }
-    ensures asks { Asks F.failures F.may_leave F.asked
-        (in_turn_with task.now (IsTextOf A.meanings table.now options task.now (option_copied last.entry)))
-        folder.old folder.new }
+    // Over any folder: what may be changed, and that a record is of trees that were answered in this turn
+    // before anything was.
+    ensures asks { Asks F.failures F.may_leave F.asked (in_turn_with task.now
+        (IsTextOf F.failures F.may_leave F.asked folder.old A.meanings table.now options task.now
+        (option_copied last.entry))) folder.old folder.new }
+    // And what is told up to date was found so on what was answered in this turn.
+    ensures current { IsToldCurrent F.failures F.may_leave F.asked options task.now (option_copied last.entry)
+        folder.old folder.new result.outcome }
     ensures blame { (place : List ℕ) → result.outcome ≡ Failed (Fault.Device place)
         → HasRisen (F.failures folder.old) (F.failures folder.new) }
     ensures blamed { (place : List ℕ) → result.outcome ≡ Failed (Fault.Device place)
@@ -126,9 +134,13 @@ fn run<A: Actions, F: Folder>(
     ensures path { result.path ≡ task.now.path }
     ensures has_actions { result.has_actions ≡ not (is_empty task.now.actions) }
     ensures outcome { IsToldOf outcome_of result.outcome }
-    ensures asks { Asks F.failures F.may_leave F.asked
-        (in_turn_with task.now (IsTextOf A.meanings table.now options task.now (option_copied last.entry)))
-        folder.old folder.new }
+    ensures asks { (first : _) → Asks F.failures F.may_leave F.asked no_change first folder.old
+        → AreInputsAnswered F.failures F.may_leave F.asked first folder.old task.now seen.inputs.items
+        → WasDecided F.failures F.may_leave F.asked first folder.old options task.now
+        (option_copied last.entry) seen.inputs.items decision seen.outputs.items
+        → Asks F.failures F.may_leave F.asked (in_turn_with task.now
+        (IsTextOf F.failures F.may_leave F.asked first A.meanings table.now options task.now
+        (option_copied last.entry))) folder.old folder.new }
     ensures blame { (place : List ℕ) → result.outcome ≡ Failed (Fault.Device place)
         → HasRisen (F.failures folder.old) (F.failures folder.new) }
     ensures blamed { (place : List ℕ) → result.outcome ≡ Failed (Fault.Device place)

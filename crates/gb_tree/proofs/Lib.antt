@@ -16,3 +16,5 @@ pub mod Holding
 pub mod Listing
 pub mod Rest
 pub mod Seen
+pub mod Answering
+pub mod Gathering

@@ -1,5 +1,5 @@
 -- A file is read piece by piece.
-use Rattle.std.proofs.Common.{arith, ◌≡◌, ◌≤◌, ◌<◌, ◌+◌, ◌++◌, ℕ, true, false, List, length, take, drop, length-take, length-drop, sym, ◌∙◌, ap}
+use Rattle.std.proofs.Common.{arith, ◌≡◌, ◌≤◌, ◌<◌, ◌+◌, ◌++◌, ℕ, true, false, List, [], ◌∷◌, refl, length, take, drop, length-take, length-drop, sym, ◌∙◌, ap}
 use Rattle.std.proofs.lemmas.List.{take_all, take-append-drop}
 use Rattle.std.proofs.lemmas.Bool.Decides.{nat_tests}
 use Rattle.std.proofs.Math.Seq.{take-add}
@@ -58,3 +58,7 @@ is_none n e = grind (arith, nat_tests)
 
 pub is_some : (n : ℕ) → false ≡ (n == 0) → 0 < n
 is_some n e = grind (arith, nat_tests)
+
+pub is_nothing : (more : List ℕ) → length more ≡ 0 → more ≡ []
+is_nothing [] none = refl
+is_nothing (x ∷ more) none = absurd (omega (arith, none))

@@ -7,3 +7,4 @@ pub mod Tree
 pub mod Property
 pub mod Rising
 pub mod Reading
+pub mod Answered

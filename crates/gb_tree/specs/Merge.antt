@@ -8,7 +8,8 @@ use Rattle.gb_action.specs.declared.change.Change.TheVariants.{Added, Removed}
 
 -- what two entries that are met tell, by the order of their paths
 abbrev pub told : Ordering → List ℕ × List ℕ → List ℕ × List ℕ → List Change
-told order old new = by_order order (Removed old.0 ∷ []) (change_at old.0 (Some old.1) (Some new.1)) (Added new.0 ∷ [])
+told order old new =
+    by_order order (Removed old.0 ∷ []) (change_at old.0 (Some old.1) (Some new.1)) (Added new.0 ∷ [])
 
 -- how many entries of either list are told then
 abbrev pub past : Ordering → ℕ × ℕ

@@ -2,8 +2,8 @@
 use Rattle.std.specs.Prelude.{Bool, true, false, ◌&&◌, ◌||◌, List, [], ◌∷◌, if◌then◌else◌, Option, None, Some}
 use Rattle.gb_tree.specs.Pattern.{matches_by}
 
--- One more thing is read, which fits some items of the pattern. `entered`: a match comes to stand before the first item;
--- `waiting`: one stood there that had read nothing of the thing.
+-- One more thing is read, which fits some items of the pattern. `entered`: a match comes to stand before the
+-- first item; `waiting`: one stood there that had read nothing of the thing.
 abbrev pub pass : {P : Type 0} → (P → Bool) → (P → Bool) → Bool → Bool → List Bool → List P → List Bool × Bool
 pass any fits entered waiting states [] = (states, entered)
 pass any fits entered waiting [] (p ∷ ps) = ([], entered)
@@ -17,7 +17,8 @@ pass any fits entered waiting (stood ∷ states) (p ∷ ps) =
 abbrev pub goes_on : {P X : Type 0} → (P → Bool) → (P → X → Bool) → List Bool → List P → Bool → List X → Bool
 goes_on any fits states [] ended xs = ended && matches_by any fits [] xs
 goes_on any fits [] (p ∷ ps) ended xs = false
-goes_on any fits (stands ∷ states) (p ∷ ps) ended xs = (stands && matches_by any fits (p ∷ ps) xs) || goes_on any fits states ps ended xs
+goes_on any fits (stands ∷ states) (p ∷ ps) ended xs =
+    (stands && matches_by any fits (p ∷ ps) xs) || goes_on any fits states ps ended xs
 
 -- whether what was read fits an item; where nothing was read it fits none
 abbrev pub fits_read : {P X : Type 0} → (P → X → Bool) → Option X → P → Bool

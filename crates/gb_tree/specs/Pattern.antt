@@ -1,5 +1,6 @@
 -- Patterns, and the paths that they match.
-use Rattle.std.specs.Prelude.{ℕ, Bool, true, false, not, ◌&&◌, ◌||◌, ◌==◌, List, [], ◌∷◌, ◌++◌, if◌then◌else◌, codes, bytes_eq}
+use Rattle.std.specs.Prelude.{ℕ, Bool, true, false, not, ◌&&◌, ◌||◌, ◌==◌, List, [], ◌∷◌, ◌++◌, if◌then◌else◌}
+use Rattle.std.specs.Prelude.{codes, bytes_eq}
 use Rattle.std.specs.List.{list_any, ends_with}
 use Rattle.std.specs.Str.{chars}
 use Rattle.gb_core.specs.Place.{is_place, segments}
@@ -9,8 +10,8 @@ abbrev pub ends_of : {X : Type 0} → List X → List (List X)
 ends_of [] = [] ∷ []
 ends_of (x ∷ xs) = (x ∷ xs) ∷ ends_of xs
 
--- A row of things against a pattern: an item of the pattern that is `any` stands for any number of things, none
--- included, and each other item for one thing that fits it.
+-- A row of things against a pattern: an item of the pattern that is `any` stands for any number of things,
+-- none included, and each other item for one thing that fits it.
 abbrev pub matches_by : {P X : Type 0} → (P → Bool) → (P → X → Bool) → List P → List X → Bool
 matches_by any fits [] [] = true
 matches_by any fits [] (x ∷ xs) = false

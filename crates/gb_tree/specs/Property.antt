@@ -1,5 +1,6 @@
 -- The files of a file property, by their paths, and why they are not read.
-use Rattle.std.specs.Prelude.{ℕ, Bool, not, ◌&&◌, ◌||◌, ◌==◌, ◌+◌, ◌++◌, List, [], ◌∷◌, map, take, if◌then◌else◌, bytes_eq}
+use Rattle.std.specs.Prelude.{ℕ, Bool, not, ◌&&◌, ◌||◌, ◌==◌, ◌+◌, ◌++◌, List, [], ◌∷◌, map, take}
+use Rattle.std.specs.Prelude.{if◌then◌else◌, bytes_eq}
 use Rattle.std.specs.List.{after_last, filter, flat_map, list_any}
 use Rattle.std.specs.Ordering.{is_lt, ordering_then}
 use Rattle.std.specs.declared.cmp.Ordering.{Ordering}
@@ -28,7 +29,8 @@ matches_any patterns path = list_any (λ pattern. path_matches pattern path) pat
 
 -- some include matches the path, or there is none; and no exclude does
 abbrev pub lets_in : List (List ℕ) → List (List ℕ) → List ℕ → Bool
-lets_in include exclude path = (is_empty include || matches_any include path) && not (matches_any exclude path)
+lets_in include exclude path =
+    (is_empty include || matches_any include path) && not (matches_any exclude path)
 
 -- a file beneath the root belongs to the property
 abbrev pub is_in : List (List ℕ) → List (List ℕ) → Place → Place → Bool
@@ -41,7 +43,8 @@ path_of NameOnly root place = last_segment place
 
 -- the places that belong to the property, of those beneath a root, with their paths
 abbrev pub entries_in : Naming → List (List ℕ) → List (List ℕ) → Place → List Place → Entries
-entries_in naming include exclude root places = map (λ place. (path_of naming root place, place)) (filter (is_in include exclude root) places)
+entries_in naming include exclude root places =
+    map (λ place. (path_of naming root place, place)) (filter (is_in include exclude root) places)
 
 -- at or beneath one of the roots
 abbrev pub is_under_any : List Place → Place → Bool
@@ -54,7 +57,8 @@ distinct (place ∷ places) = place ∷ filter (λ other. not (bytes_eq place ot
 
 -- what each of the roots gives
 abbrev pub found : Naming → List (List ℕ) → List (List ℕ) → Files → List Place → Entries
-found naming include exclude files roots = flat_map (λ root. entries_in naming include exclude root (places_under files root)) roots
+found naming include exclude files roots =
+    flat_map (λ root. entries_in naming include exclude root (places_under files root)) roots
 
 -- no more of them than tell that there are too many
 abbrev pub held : Entries → Entries
@@ -68,7 +72,8 @@ entry_order a b = ordering_then (byte_order a.0 b.0) (byte_order a.1 b.1)
 
 abbrev pub inserted : List ℕ × Place → Entries → Entries
 inserted entry [] = entry ∷ []
-inserted entry (other ∷ others) = if is_lt (entry_order other entry) then other ∷ inserted entry others else entry ∷ other ∷ others
+inserted entry (other ∷ others) =
+    if is_lt (entry_order other entry) then other ∷ inserted entry others else entry ∷ other ∷ others
 
 abbrev pub in_order : Entries → Entries
 in_order [] = []
@@ -85,17 +90,22 @@ tree_of naming roots include exclude files = contents_at files (entries_of namin
 abbrev pub paths_of : Entries → List (List ℕ)
 paths_of entries = map (λ entry. entry.0) entries
 
--- Of each two paths in order that cannot stand in one tree, the same path twice or one a folder of the other: the greater.
+-- Of each two paths in order that cannot stand in one tree, the same path twice or one a folder of the other:
+-- the greater.
 abbrev pub doubled : List (List ℕ) → List (List ℕ)
 doubled [] = []
 doubled (path ∷ paths) = filter (λ other. is_under other path) paths ++ doubled paths
 
 -- What hinders listing the property's files, and then reading them, in this order.
-abbrev pub entry_faults : List ℕ → Naming → List Place → List (List ℕ) → List (List ℕ) → Contents → List TreeFault
+abbrev pub entry_faults : List ℕ → Naming → List Place → List (List ℕ) → List (List ℕ) → Contents
+    → List TreeFault
 entry_faults name naming roots include exclude contents =
     let entries = entries_of naming roots include exclude contents.files in
-    odd_roots contents (distinct roots) ++ too_many name entries ++ map (faults.DuplicateInput name) (doubled (paths_of entries))
+    odd_roots contents (distinct roots) ++ too_many name entries
+    ++ map (faults.DuplicateInput name) (doubled (paths_of entries))
 
-abbrev pub tree_faults : List ℕ → Naming → List Place → List (List ℕ) → List (List ℕ) → Contents → List TreeFault
+abbrev pub tree_faults : List ℕ → Naming → List Place → List (List ℕ) → List (List ℕ) → Contents
+    → List TreeFault
 tree_faults name naming roots include exclude contents =
-    entry_faults name naming roots include exclude contents ++ too_large contents.files (entries_of naming roots include exclude contents.files)
+    entry_faults name naming roots include exclude contents
+    ++ too_large contents.files (entries_of naming roots include exclude contents.files)

@@ -1,5 +1,6 @@
 -- The files of a property or an output as they were read, and the bytes that are kept of them.
-use Rattle.std.specs.Prelude.{◌≡◌, ◌⊎◌, ℕ, Bool, true, false, List, map, Option, None, Some, IsTrue, IsSome, bytes_eq}
+use Rattle.std.specs.Prelude.{◌≡◌, ◌⊎◌, ℕ, Bool, true, false, List, map, Option, None, Some, IsTrue, IsSome}
+use Rattle.std.specs.Prelude.{bytes_eq}
 use Rattle.std.specs.FinMap.Entries.{is_sorted}
 use Rattle.std.specs.List.{AllByRecursion, list_all}
 use Rattle.gb_action.specs.Files.{Tree}

@@ -1,8 +1,10 @@
 -- The files at places, those beneath an output's place, and why they are not read.
-use Rattle.std.specs.Prelude.{ℕ, ◌≡◌, ◌⊎◌, ◌+◌, ◌++◌, Bool, List, [], ◌∷◌, map, length, drop, if◌then◌else◌, nat_lt, unwrap_or, bytes_eq, Some, Result, Err}
+use Rattle.std.specs.Prelude.{ℕ, ◌≡◌, ◌⊎◌, ◌+◌, ◌++◌, Bool, List, [], ◌∷◌, map, length, drop, if◌then◌else◌}
+use Rattle.std.specs.Prelude.{nat_lt, unwrap_or, bytes_eq, Some, Result, Err}
 use Rattle.std.specs.List.{filter, list_any}
 use Rattle.gb_core.specs.Lists.{first_of}
-use Rattle.gb_folder.specs.Files.{Place, Bytes, Files, Contents, HasRisen, file_at, is_odd_under, is_own, places_under}
+use Rattle.gb_folder.specs.Files.{Place, Bytes, Files, Contents, HasRisen, file_at, is_odd_under, is_own}
+use Rattle.gb_folder.specs.Files.{places_under}
 use Rattle.gb_folder.specs.Limits.{max_file, max_files}
 use Rattle.gb_tree.specs.declared.fault.TreeFault.{TreeFault}
 use Rattle.gb_tree.specs.declared.fault.TreeFault.TheVariants as faults
@@ -29,7 +31,8 @@ contents_at files entries = map (λ entry. (entry.0, bytes_at files entry.1)) en
 abbrev pub entries_from : Place → List Place → Entries
 entries_from root places = map (λ place. (path_from root place, place)) places
 
--- The files of an output: those at or beneath its place, by their paths from it. Files of `.gb` belong to none.
+-- The files of an output: those at or beneath its place, by their paths from it. Files of `.gb` belong to
+-- none.
 abbrev pub output_entries : Files → Place → Entries
 output_entries files root = if is_own root then [] else entries_from root (places_under files root)
 
@@ -52,21 +55,26 @@ too_many name entries = if nat_lt max_files (length entries) then faults.TooMany
 
 -- the files that are too large, by their paths
 abbrev pub too_large : Files → Entries → List TreeFault
-too_large files entries = map (λ entry. faults.TooLarge entry.1) (filter (λ entry. is_large files entry.1) entries)
+too_large files entries =
+    map (λ entry. faults.TooLarge entry.1) (filter (λ entry. is_large files entry.1) entries)
 
 -- What hinders listing the files beneath a place, and an output's, and then reading them, in this order.
 abbrev pub listing_faults : List ℕ → Place → Contents → List TreeFault
-listing_faults name root contents = odd_roots contents (root ∷ []) ++ too_many name (entries_from root (places_under contents.files root))
+listing_faults name root contents =
+    odd_roots contents (root ∷ []) ++ too_many name (entries_from root (places_under contents.files root))
 
 abbrev pub output_listing_faults : List ℕ → Place → Contents → List TreeFault
 output_listing_faults name root contents = if is_own root then [] else listing_faults name root contents
 
 abbrev pub output_faults : List ℕ → Place → Contents → List TreeFault
-output_faults name root contents = output_listing_faults name root contents ++ too_large contents.files (output_entries contents.files root)
+output_faults name root contents =
+    output_listing_faults name root contents ++ too_large contents.files (output_entries contents.files root)
 
 -- want of memory, or a failure of the device, whose count rose
 abbrev pub IsTreeFaultOfMachine : ℕ → ℕ → TreeFault → Type 0
-IsTreeFaultOfMachine before after fault = (fault ≡ faults.OutOfMemory) ⊎ ((place : Place) × (fault ≡ faults.Device place) × HasRisen before after)
+IsTreeFaultOfMachine before after fault =
+    (fault ≡ faults.OutOfMemory)
+    ⊎ ((place : Place) × (fault ≡ faults.Device place) × HasRisen before after)
 
 -- refused by the machine, or by the first of these faults
 abbrev pub IsRefused : ℕ → ℕ → List TreeFault → TreeFault → Type 0
@@ -74,7 +82,8 @@ IsRefused before after faults fault = IsTreeFaultOfMachine before after fault �
 
 -- A fault of the device names such a place, and the count of its failures rose.
 abbrev pub Blames : {A : Type 0} → (Place → Type 0) → ℕ → ℕ → Result A TreeFault → Type 0
-Blames IsSuch before after result = (place : Place) → result ≡ Err (faults.Device place) → IsSuch place × HasRisen before after
+Blames IsSuch before after result =
+    (place : Place) → result ≡ Err (faults.Device place) → IsSuch place × HasRisen before after
 
 -- a folder's fault as a tree's, with the place at which it came
 abbrev pub tree_fault_at : Place → FolderFault → TreeFault

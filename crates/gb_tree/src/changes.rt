@@ -17,8 +17,8 @@ use std::cmp::Ordering;
 /// paths. The entries of both are gone through together, once.
 pub fn compare(alloc: Global, old: &Prints, new: &Prints) -> Result<ChangeList, AllocError>
     ensures changes { IfOk result (λ changes. changes ≡ changes_between old.now.1 new.now.1) }
-    ensures exact { IfOk result (λ changes. (before after : Tree) → old.now.1 ≡ digests_of before → new.now.1 ≡ digests_of after
-        → AreApart before after → changes ≡ changes_between before after) }
+    ensures exact { IfOk result (λ changes. (before after : Tree) → old.now.1 ≡ digests_of before
+        → new.now.1 ≡ digests_of after → AreApart before after → changes ≡ changes_between before after) }
 {
     let (before, after) = (old.as_slice(), new.as_slice());
     let mut changes = ChangeList::new(alloc);
@@ -41,7 +41,8 @@ fn tell(
     new: &(RelPath, [u8; 32]),
 ) -> Result<Ordering, AllocError>
     ensures order { IfOk result (λ order. order ≡ byte_order old.now.0 new.now.0) }
-    ensures told { OnOk result (changes.new ≡ changes.old ++ told (byte_order old.now.0 new.now.0) old.now new.now) }
+    ensures told { OnOk result
+        (changes.new ≡ changes.old ++ told (byte_order old.now.0 new.now.0) old.now new.now) }
 {
     let order = old.0.cmp(&new.0);
     match order {

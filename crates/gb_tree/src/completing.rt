@@ -3,9 +3,11 @@ ghost use Rattle.std.specs.Prelude.{◌≡◌, map, IsTrue, IfOk, IfErr};
 ghost use Rattle.std.specs.List.{AllByRecursion};
 ghost use Rattle.std.specs.FinMap.Entries.{is_sorted};
 ghost use Rattle.gb_core.specs.Lists.{byte_order};
+ghost use Rattle.gb_folder.specs.Answers.{WereRead};
 ghost use Rattle.gb_folder.specs.Calls.{Asks, no_change};
 ghost use Rattle.gb_tree.specs.Tree.{Blames, IsTreeFaultOfMachine, bytes_at, contents_at, is_among};
 ghost use Rattle.gb_tree.specs.Prints.{digests_of};
+ghost use Rattle.gb_tree.specs.Answered.{IsTreeRead, WasSeen, WereSeen};
 ghost use Rattle.gb_tree.specs.Reading.{IsReading, IsSeenIn, entries_seen, is_digest_of};
 ghost use Rattle.sha2.specs.Sha256.{sha256};
 
@@ -32,6 +34,10 @@ fn complete<F: Folder>(
     ensures same { IsTrue F.tells → F.contents folder.new ≡ F.contents folder.old }
     ensures path { IfOk result (λ made. made.0 ≡ seen.path) }
     ensures digest { IfOk result (λ made. made.2 ≡ sha256 made.1) }
+    ensures answered { (first : _) → Asks F.failures F.may_leave F.asked no_change first folder.old
+        → WasSeen F.failures F.may_leave F.asked first folder.old seen
+        → IfOk result
+        (λ made. WereRead F.failures F.may_leave F.asked first folder.new seen.place made.1) }
     ensures read { IsTrue F.tells → IsSeenIn (F.contents folder.old).files seen
         → IfOk result (λ made. made.1 ≡ bytes_at (F.contents folder.old).files seen.place) }
     ensures err { IsTrue F.tells → IsSeenIn (F.contents folder.old).files seen
@@ -66,6 +72,10 @@ pub(crate) fn complete_all<F: Folder>(
     ensures ordered { IfOk result (λ made. IsTrue (is_sorted byte_order made.1.items)) }
     ensures paths { IfOk result
         (λ made. map (λ file. file.0) made.0 ≡ map (λ file. file.path) seen.items) }
+    ensures answered { (first : _) → Asks F.failures F.may_leave F.asked no_change first folder.old
+        → WereSeen F.failures F.may_leave F.asked first folder.old seen.items
+        → IfOk result (λ made. IsTreeRead F.failures F.may_leave F.asked first folder.new
+        (entries_seen seen.items) made.0) }
     ensures read { IsTrue F.tells → AllByRecursion (IsSeenIn (F.contents folder.old).files) seen.items
         → IfOk result (λ made. made.0 ≡ contents_at (F.contents folder.old).files (entries_seen seen.items)) }
     ensures err { IsTrue F.tells → AllByRecursion (IsSeenIn (F.contents folder.old).files) seen.items

@@ -1,16 +1,20 @@
 //! The files that belong to a property, in the order of their paths.
-ghost use Rattle.std.specs.Prelude.{◌≡◌, ◌≤◌, ◌⊎◌, ◌+◌, ◌++◌, [], ◌∷◌, ℕ, List, length, take, drop, true, None, Some, IsTrue, IfOk, IfErr, OnOk, string_bytes};
-ghost use Rattle.std.specs.List.{AllByRecursion, AllPass, filter};
+ghost use Rattle.std.specs.Prelude.{◌≡◌, ◌≤◌, ◌⊎◌, ◌+◌, ◌++◌, [], ◌∷◌, ℕ, List, length, take, drop, true};
+ghost use Rattle.std.specs.Prelude.{None, Some, IsTrue, IfOk, IfErr, OnOk, string_bytes};
+ghost use Rattle.std.specs.List.{AllByRecursion, AllPass, AllZip, filter, zip};
 ghost use Rattle.std.specs.Option.{option_copied};
 ghost use Rattle.std.specs.Ordering.{is_lt};
 ghost use Rattle.std.specs.FinMap.Entries.{is_sorted};
 ghost use Rattle.gb_core.specs.Place.{is_beneath, is_under};
 ghost use Rattle.gb_core.specs.Lists.{byte_order, first_of};
+ghost use Rattle.gb_folder.specs.Answers.{WereListed};
 ghost use Rattle.gb_folder.specs.Calls.{Asks, no_change};
 ghost use Rattle.gb_folder.specs.Limits.{max_files};
 ghost use Rattle.gb_tree.specs.Tree.{Blames, IsRefused, odd_roots, too_many};
-ghost use Rattle.gb_tree.specs.Property.{distinct, doubled, entries_in, entries_of, entry_faults, found, held, in_order, is_in, is_under_any, lets_in, matches_any, paths_of};
+ghost use Rattle.gb_tree.specs.Property.{distinct, doubled, entries_in, entries_of, entry_faults, found};
+ghost use Rattle.gb_tree.specs.Property.{held, in_order, is_in, is_under_any, lets_in, matches_any, paths_of};
 ghost use Rattle.gb_tree.specs.Rising.{IsFrom, IsRising};
+ghost use Rattle.gb_tree.specs.Answered.{AreEntriesListed, listed_in};
 
 use crate::fault::TreeFault;
 use crate::path::{path_of, seen_from};
@@ -43,6 +47,8 @@ pub(crate) fn entries_of<F: Folder>(
         (λ entries. AllByRecursion (λ entry. IsTrue (is_under_any roots.now entry.1)) entries.items) }
     ensures ordered { IfOk result (λ entries. IsTrue (is_sorted byte_order entries.items)) }
     ensures same { IsTrue F.tells → F.contents folder.new ≡ F.contents folder.old }
+    ensures listed { IfOk result (λ entries. AreEntriesListed F.failures F.may_leave F.asked naming
+        roots.now include.now exclude.now folder.old folder.new entries.items) }
     ensures entries { IsTrue F.tells → IfOk result (λ entries.
         entries.items ≡ entries_of naming roots.now include.now exclude.now (F.contents folder.old).files) }
     ensures fit { IsTrue F.tells → OnOk result
@@ -96,6 +102,9 @@ fn found_few<F: Folder>(
     ensures under { IfOk result
         (λ entries. AllByRecursion (λ entry. IsTrue (is_under_any roots.now entry.1)) entries.items) }
     ensures same { IsTrue F.tells → F.contents folder.new ≡ F.contents folder.old }
+    ensures answered { IfOk result (λ entries. (listings : List (List (List ℕ)))
+        × AllZip (WereListed F.failures F.may_leave F.asked folder.old folder.new) roots.now listings
+        × (entries.items ≡ listed_in naming include.now exclude.now (zip roots.now listings))) }
     ensures found { IsTrue F.tells → IfOk result (λ entries.
         entries.items ≡ found naming include.now exclude.now (F.contents folder.old).files roots.now) }
     ensures none_odd { IsTrue F.tells → OnOk result (odd_roots (F.contents folder.old) roots.now ≡ []) }
@@ -130,6 +139,9 @@ fn found<F: Folder>(
         (λ entries. AllByRecursion (λ entry. IsTrue (is_under_any roots.now entry.1)) entries.items) }
     ensures few { IfOk result (λ entries. length entries.items ≤ max_files + 1) }
     ensures same { IsTrue F.tells → F.contents folder.new ≡ F.contents folder.old }
+    ensures answered { IfOk result (λ entries. (listings : List (List (List ℕ)))
+        × AllZip (WereListed F.failures F.may_leave F.asked folder.old folder.new) roots.now listings
+        × (entries.items ≡ held (listed_in naming include.now exclude.now (zip roots.now listings)))) }
     ensures found { IsTrue F.tells → IfOk result (λ entries.
         entries.items ≡ held (found naming include.now exclude.now (F.contents folder.old).files roots.now)) }
     ensures none_odd { IsTrue F.tells → OnOk result (odd_roots (F.contents folder.old) roots.now ≡ []) }

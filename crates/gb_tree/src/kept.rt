@@ -50,6 +50,7 @@ impl Model for Reading {
 }
 
 impl Reading {
+    ghost use Rattle.gb_tree.specs.Answered.{IsTreeRead, WereSeen};
     ghost use Rattle.gb_tree.specs.Reading.{IsReading, IsSeenIn, digests_seen, entries_seen};
 
     pub(crate) fn new(name: Name, files: Vec<SeenFile>) -> Reading
@@ -97,6 +98,11 @@ impl Reading {
         ensures prints { IfOk result (λ made. made.1 ≡ (self.0, digests_of made.0.1)) }
         ensures paths { IfOk result
             (λ made. map (λ file. file.0) made.0.1 ≡ map (λ file. file.path) self.1) }
+        // Over any folder: what was answered before, and what is answered now of the rest.
+        ensures answered { (first : _) → Asks F.failures F.may_leave F.asked no_change first folder.old
+            → WereSeen F.failures F.may_leave F.asked first folder.old self.1
+            → IfOk result (λ made. IsTreeRead F.failures F.may_leave F.asked first folder.new
+            (entries_seen self.1) made.0.1) }
         ensures tree { IsTrue F.tells → AllByRecursion (IsSeenIn (F.contents folder.old).files) self.1
             → IfOk result
             (λ made. made.0.1 ≡ contents_at (F.contents folder.old).files (entries_seen self.1)) }

@@ -32,7 +32,9 @@ impl Pass {
     /// Goes past one item; whether a match stands before it.
     fn over(&mut self, stood: bool, any: bool, fits: bool) -> bool
         ensures stands { result ≡ (self.old.entered || (any && (stood || self.old.waiting))) }
-        ensures entered { self.new.entered ≡ (if any then (self.old.entered || (any && (stood || self.old.waiting))) else ((stood || self.old.waiting) && fits)) }
+        ensures entered { self.new.entered ≡ (if any
+            then (self.old.entered || (any && (stood || self.old.waiting)))
+            else ((stood || self.old.waiting) && fits)) }
         ensures waiting { self.new.waiting ≡ (any && (stood || self.old.waiting)) }
     {
         let here = stood || self.waiting;
@@ -46,8 +48,10 @@ impl Pass {
 /// Reads one more character, or begins; whether the whole of what was read matches.
 fn read_character(states: &mut [bool], pattern: &str, read: Option<char>) -> bool
     requires { length (chars pattern.now) ≤ length states.now }
-    ensures states { states.new ≡ (pass is_star (fits_read stands_for read) (is_start read) false states.old (chars pattern.now)).0 }
-    ensures ended { result ≡ (pass is_star (fits_read stands_for read) (is_start read) false states.old (chars pattern.now)).1 }
+    ensures states { states.new ≡ (pass is_star (fits_read stands_for read) (is_start read) false
+        states.old (chars pattern.now)).0 }
+    ensures ended { result ≡ (pass is_star (fits_read stands_for read) (is_start read) false
+        states.old (chars pattern.now)).1 }
 {
     let mut pass = Pass {
         entered: read.is_none(),
@@ -88,8 +92,12 @@ fn segment_matches(pattern: &str, text: &str) -> bool
 /// Reads one more segment, or begins; whether the whole of what was read matches.
 fn read_segment(states: &mut [bool], pattern: &str, read: Option<&str>) -> bool
     requires { length (segments pattern.now) ≤ length states.now × length pattern.now ≤ 1024 }
-    ensures states { states.new ≡ (pass is_double_star (fits_read segment_matches (option_copied read.entry)) (is_start (option_copied read.entry)) false states.old (segments pattern.now)).0 }
-    ensures ended { result ≡ (pass is_double_star (fits_read segment_matches (option_copied read.entry)) (is_start (option_copied read.entry)) false states.old (segments pattern.now)).1 }
+    ensures states { states.new
+        ≡ (pass is_double_star (fits_read segment_matches (option_copied read.entry))
+        (is_start (option_copied read.entry)) false states.old (segments pattern.now)).0 }
+    ensures ended { result
+        ≡ (pass is_double_star (fits_read segment_matches (option_copied read.entry))
+        (is_start (option_copied read.entry)) false states.old (segments pattern.now)).1 }
 {
     let mut pass = Pass {
         entered: read.is_none(),

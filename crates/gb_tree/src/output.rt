@@ -7,9 +7,11 @@ ghost use Rattle.gb_core.specs.Place.{is_under};
 ghost use Rattle.gb_core.specs.Lists.{byte_order};
 ghost use Rattle.gb_folder.specs.Calls.{Asks, no_change};
 ghost use Rattle.gb_folder.specs.Files.{places_under};
-ghost use Rattle.gb_tree.specs.Tree.{Blames, IsRefused, entries_from, files_from, listing_faults, output_entries, output_faults, output_listing_faults};
+ghost use Rattle.gb_tree.specs.Tree.{Blames, IsRefused, entries_from, files_from, listing_faults};
+ghost use Rattle.gb_tree.specs.Tree.{output_entries, output_faults, output_listing_faults};
 ghost use Rattle.gb_tree.specs.Prints.{digests_of};
-ghost use Rattle.gb_tree.specs.Reading.{AreSeen, digests_seen};
+ghost use Rattle.gb_tree.specs.Answered.{AreOutputEntriesListed, WereSeen};
+ghost use Rattle.gb_tree.specs.Reading.{AreSeen, digests_seen, entries_seen};
 
 use crate::fault::TreeFault;
 use crate::kept::Reading;
@@ -93,6 +95,11 @@ pub fn output_reading<F: Folder>(
     ensures named { IfOk result (λ reading. reading.0 ≡ name.now) }
     ensures under { IfOk result
         (λ reading. AllByRecursion (λ seen. IsTrue (is_under seen.place place.now)) reading.1) }
+    // Over any folder: the files are those that calls answered, and so are the digests and the bytes.
+    ensures listed { IfOk result (λ reading. AreOutputEntriesListed F.failures F.may_leave F.asked
+        folder.old folder.new place.now (entries_seen reading.1)) }
+    ensures answered { IfOk result
+        (λ reading. WereSeen F.failures F.may_leave F.asked folder.old folder.new reading.1) }
     ensures digests { IsTrue F.tells → IfOk result (λ reading.
         digests_seen reading.1 ≡ digests_of (files_from (F.contents folder.old).files place.now)) }
     ensures seen { IsTrue F.tells → IfOk result (λ reading. AreSeen (F.contents folder.old).files
@@ -122,6 +129,8 @@ fn entries_at<F: Folder>(
         (λ entries. AllByRecursion (λ entry. IsTrue (is_under entry.1 place.now)) entries.items) }
     ensures ordered { IfOk result (λ entries. IsTrue (is_sorted byte_order entries.items)) }
     ensures same { IsTrue F.tells → F.contents folder.new ≡ F.contents folder.old }
+    ensures listed { IfOk result (λ entries. AreOutputEntriesListed F.failures F.may_leave F.asked
+        folder.old folder.new place.now entries.items) }
     ensures entries { IsTrue F.tells → IfOk result
         (λ entries. entries.items ≡ output_entries (F.contents folder.old).files place.now) }
     ensures fit { IsTrue F.tells → OnOk result
@@ -150,6 +159,8 @@ fn entries_beneath<F: Folder>(
         (λ entries. AllByRecursion (λ entry. IsTrue (is_under entry.1 place.now)) entries.items) }
     ensures ordered { IfOk result (λ entries. IsTrue (is_sorted byte_order entries.items)) }
     ensures same { IsTrue F.tells → F.contents folder.new ≡ F.contents folder.old }
+    ensures listed { IfOk result (λ entries. AreOutputEntriesListed F.failures F.may_leave F.asked
+        folder.old folder.new place.now entries.items) }
     ensures entries { IsTrue F.tells → IfOk result (λ entries.
         entries.items ≡ entries_from place.now (places_under (F.contents folder.old).files place.now)) }
     ensures fit { IsTrue F.tells → OnOk result

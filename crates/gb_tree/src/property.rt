@@ -5,7 +5,8 @@ ghost use Rattle.gb_folder.specs.Calls.{Asks, no_change};
 ghost use Rattle.gb_tree.specs.Tree.{Blames, IsRefused};
 ghost use Rattle.gb_tree.specs.Prints.{digests_of};
 ghost use Rattle.gb_tree.specs.Property.{entries_of, is_under_any, tree_faults, tree_of};
-ghost use Rattle.gb_tree.specs.Reading.{AreSeen, digests_seen};
+ghost use Rattle.gb_tree.specs.Answered.{AreEntriesListed, WereSeen};
+ghost use Rattle.gb_tree.specs.Reading.{AreSeen, digests_seen, entries_seen};
 
 use crate::entries::entries_of;
 use crate::fault::TreeFault;
@@ -115,6 +116,11 @@ pub fn reading_of<F: Folder>(
     ensures named { IfOk result (λ reading. reading.0 ≡ name.now) }
     ensures under { IfOk result
         (λ reading. AllByRecursion (λ seen. IsTrue (is_under_any roots.now seen.place)) reading.1) }
+    // Over any folder: the files are those that calls answered, and so are the digests and the bytes.
+    ensures listed { IfOk result (λ reading. AreEntriesListed F.failures F.may_leave F.asked naming roots.now
+        include.now exclude.now folder.old folder.new (entries_seen reading.1)) }
+    ensures answered { IfOk result
+        (λ reading. WereSeen F.failures F.may_leave F.asked folder.old folder.new reading.1) }
     ensures digests { IsTrue F.tells → IfOk result (λ reading. digests_seen reading.1
         ≡ digests_of (tree_of naming roots.now include.now exclude.now (F.contents folder.old).files)) }
     ensures seen { IsTrue F.tells → IfOk result (λ reading. AreSeen (F.contents folder.old).files

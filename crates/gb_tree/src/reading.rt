@@ -1,13 +1,16 @@
 //! Files are listed and read, or digested, one after another.
-ghost use Rattle.std.specs.Prelude.{◌≡◌, ◌≤◌, ◌⊎◌, [], length, take, drop, None, Some, false, true, IsTrue, IsSome, IfOk, IfErr, OnOk};
+ghost use Rattle.std.specs.Prelude.{◌≡◌, ◌≤◌, ◌⊎◌, [], length, take, drop, None, Some, false, true, IsTrue};
+ghost use Rattle.std.specs.Prelude.{IsSome, IfOk, IfErr, OnOk};
 ghost use Rattle.std.specs.List.{AllByRecursion, AllPass};
 ghost use Rattle.std.specs.List.Sorted.{IsStrictlySortedBy};
 ghost use Rattle.std.specs.FinMap.Entries.{is_sorted};
 ghost use Rattle.gb_core.specs.Place.{is_under};
 ghost use Rattle.gb_core.specs.Lists.{byte_order};
-ghost use Rattle.gb_folder.specs.Calls.{Asks, no_change};
+ghost use Rattle.gb_folder.specs.Answers.{IsOnWay, WereListed, WereRead};
+ghost use Rattle.gb_folder.specs.Calls.{Asks, ReadsPart, no_change};
 ghost use Rattle.gb_folder.specs.Files.{file_at, is_odd_under, places_under};
-ghost use Rattle.gb_tree.specs.Tree.{Blames, IsRefused, IsTreeFaultOfMachine, bytes_at, contents_at, is_among, is_large, too_large};
+ghost use Rattle.gb_tree.specs.Tree.{Blames, IsRefused, IsTreeFaultOfMachine, bytes_at, contents_at};
+ghost use Rattle.gb_tree.specs.Tree.{is_among, is_large, too_large};
 ghost use Rattle.gb_tree.specs.Prints.{digests_of};
 ghost use Rattle.sha2.specs.Sha256.{sha256};
 
@@ -38,6 +41,8 @@ pub(crate) fn listed<F: Folder>(
     ensures under { IfOk result (λ places. AllPass (λ at. is_under at place.now) places.items) }
     ensures ordered { IfOk result (λ places. IsStrictlySortedBy byte_order places.items) }
     ensures same { IsTrue F.tells → F.contents folder.new ≡ F.contents folder.old }
+    ensures answered { IfOk result (λ places. WereListed F.failures F.may_leave F.asked
+        folder.old folder.new place.now places.items) }
     ensures listed { IsTrue F.tells → IfOk result
         (λ places. places.items ≡ places_under (F.contents folder.old).files place.now) }
     ensures none_odd { IsTrue F.tells → OnOk result
@@ -62,6 +67,8 @@ pub(crate) fn read_file<F: Folder>(
     ensures blame { Blames (λ at. at ≡ place.now)
         (F.failures folder.old) (F.failures folder.new) result }
     ensures same { IsTrue F.tells → F.contents folder.new ≡ F.contents folder.old }
+    ensures answered { IfOk result (λ bytes. WereRead F.failures F.may_leave F.asked
+        folder.old folder.new place.now bytes) }
     ensures read { IsTrue F.tells → IfOk result
         (λ bytes. bytes ≡ bytes_at (F.contents folder.old).files place.now) }
     ensures small { IsTrue F.tells → OnOk result
@@ -118,6 +125,8 @@ pub(crate) fn read_piece<F: Folder>(
         (F.failures folder.old) (F.failures folder.new) result }
     ensures same { IsTrue F.tells → F.contents folder.new ≡ F.contents folder.old }
     ensures within { IfOk result (λ piece. length piece.items ≤ len) }
+    ensures answered { IfOk result (λ piece. IsOnWay F.failures F.may_leave F.asked
+        (ReadsPart place.now at len (Ok piece.items)) folder.old folder.new) }
     ensures read { IsTrue F.tells → IfOk result
         (λ piece. piece.items ≡ take len (drop at (bytes_at (F.contents folder.old).files place.now))) }
     ensures stands { IsTrue F.tells → OnOk result

@@ -1,12 +1,16 @@
 //! Files are read once each, one after another: the digest of each is taken, and its bytes are kept
 //! where there is room.
-ghost use Rattle.std.specs.Prelude.{◌≡◌, ◌⊎◌, ◌++◌, [], None, Some, false, true, map, IsTrue, IsSome, IfOk, IfErr, OnOk};
+ghost use Rattle.std.specs.Prelude.{◌≡◌, ◌⊎◌, ◌++◌, ℕ, List, [], None, Some, false, true, map, IsTrue};
+ghost use Rattle.std.specs.Prelude.{IsSome, IfOk, IfErr, OnOk};
 ghost use Rattle.std.specs.List.{AllByRecursion};
 ghost use Rattle.std.specs.FinMap.Entries.{is_sorted};
 ghost use Rattle.gb_core.specs.Lists.{byte_order};
+ghost use Rattle.gb_folder.specs.Answers.{WereRead};
 ghost use Rattle.gb_folder.specs.Calls.{Asks, no_change};
 ghost use Rattle.gb_folder.specs.Files.{file_at};
-ghost use Rattle.gb_tree.specs.Tree.{Blames, IsRefused, IsTreeFaultOfMachine, bytes_at, is_among, is_large, too_large};
+ghost use Rattle.gb_tree.specs.Tree.{Blames, IsRefused, IsTreeFaultOfMachine, bytes_at, is_among, is_large};
+ghost use Rattle.gb_tree.specs.Tree.{too_large};
+ghost use Rattle.gb_tree.specs.Answered.{WasSeen, WereSeen};
 ghost use Rattle.gb_tree.specs.Reading.{IsReading, IsSeenIn, KeepsOnly, entries_seen, is_digest_of};
 ghost use Rattle.sha2.specs.Sha256.{sha256};
 
@@ -70,6 +74,9 @@ fn see_bytes<F: Folder>(
         (F.failures folder.old) (F.failures folder.new) result }
     ensures same { IsTrue F.tells → F.contents folder.new ≡ F.contents folder.old }
     ensures digested { IfOk result (λ found. IsTrue (is_digest_of found.1 found.0)) }
+    ensures answered { IfOk result (λ found. (bytes : List ℕ)
+        × WereRead F.failures F.may_leave F.asked folder.old folder.new place.now bytes
+        × (found.0 ≡ sha256 bytes) × KeepsOnly bytes found.1) }
     ensures digest { IsTrue F.tells → IfOk result
         (λ found. found.0 ≡ sha256 (bytes_at (F.contents folder.old).files place.now)) }
     ensures kept { IsTrue F.tells → IfOk result
@@ -118,6 +125,8 @@ fn see_file<F: Folder>(
     ensures path { IfOk result (λ seen. seen.path ≡ path.now) }
     ensures place { IfOk result (λ seen. seen.place ≡ place.now) }
     ensures digested { IfOk result (λ seen. IsTrue (is_digest_of seen.kept seen.digest)) }
+    ensures answered { IfOk result
+        (λ seen. WasSeen F.failures F.may_leave F.asked folder.old folder.new seen) }
     ensures seen { IsTrue F.tells → IfOk result (IsSeenIn (F.contents folder.old).files) }
     ensures err { IsTrue F.tells → IsSome (file_at (F.contents folder.old).files place.now)
         → IfErr result (λ fault. IsTreeFaultOfMachine (F.failures folder.old) (F.failures folder.new) fault
@@ -147,6 +156,8 @@ pub(crate) fn see_all<F: Folder>(
     ensures same { IsTrue F.tells → F.contents folder.new ≡ F.contents folder.old }
     ensures placed { IfOk result (λ seen. entries_seen seen.items ≡ entries.now) }
     ensures reading { IfOk result (λ seen. IsReading seen.items) }
+    ensures answered { IfOk result
+        (λ seen. WereSeen F.failures F.may_leave F.asked folder.old folder.new seen.items) }
     ensures seen { IsTrue F.tells → IfOk result
         (λ seen. AllByRecursion (IsSeenIn (F.contents folder.old).files) seen.items) }
     ensures small { IsTrue F.tells → OnOk result (too_large (F.contents folder.old).files entries.now ≡ []) }

@@ -3,6 +3,7 @@ ghost use Rattle.std.specs.Prelude.{◌≡◌, IsTrue, IfOk, IfErr};
 ghost use Rattle.std.specs.List.{AllByRecursion};
 ghost use Rattle.gb_folder.specs.Calls.{Asks, no_change};
 ghost use Rattle.gb_store.specs.Faults.{Blames, BlamesOnly, IsOfMachine};
+ghost use Rattle.gb_tree.specs.Answered.{IsTreeRead, WereSeen};
 ghost use Rattle.gb_tree.specs.Prints.{digests_of};
 ghost use Rattle.gb_tree.specs.Reading.{IsSeenIn, entries_seen};
 ghost use Rattle.gb_tree.specs.Tree.{contents_at, is_among};
@@ -27,6 +28,11 @@ pub(crate) fn complete<F: Folder>(
     ensures same { IsTrue F.tells → F.contents folder.new ≡ F.contents folder.old }
     ensures named { IfOk result (λ made. made.0.0 ≡ reading.0) }
     ensures digests { IfOk result (λ made. made.1 ≡ (reading.0, digests_of made.0.1)) }
+    // Over any folder: what was answered before, and what is answered now of the rest.
+    ensures answered { (first : _) → Asks F.failures F.may_leave F.asked no_change first folder.old
+        → WereSeen F.failures F.may_leave F.asked first folder.old reading.1
+        → IfOk result (λ made. IsTreeRead F.failures F.may_leave F.asked first folder.new
+        (entries_seen reading.1) made.0.1) }
     ensures tree { IsTrue F.tells → AllByRecursion (IsSeenIn (F.contents folder.old).files) reading.1
         → IfOk result
         (λ made. made.0.1 ≡ contents_at (F.contents folder.old).files (entries_seen reading.1)) }

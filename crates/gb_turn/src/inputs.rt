@@ -8,7 +8,9 @@ ghost use Rattle.gb_store.specs.Faults.{Blames, BlamesOnly, IsOfMachine};
 ghost use Rattle.gb_tree.specs.Prints.{digests_of};
 ghost use Rattle.gb_tree.specs.Property.{is_under_any};
 ghost use Rattle.gb_tree.specs.Reading.{digests_seen};
-ghost use Rattle.gb_turn.specs.Reading.{AreInputs, AreInputsSeen, CannotRead, IsPropertySeen, digests_in, is_input_of, prints_read};
+ghost use Rattle.gb_turn.specs.Answered.{AreInputsAnswered, AreInputsRead, IsInputAnswered};
+ghost use Rattle.gb_turn.specs.Reading.{AreInputs, AreInputsSeen, CannotRead, IsPropertySeen};
+ghost use Rattle.gb_turn.specs.Reading.{digests_in, is_input_of, prints_read};
 
 use crate::completing::complete;
 use crate::fault::told;
@@ -35,6 +37,8 @@ fn read_one<F: Folder>(
     ensures named { IfOk result (λ reading. reading.0 ≡ property.now.name) }
     ensures within { IfOk result
         (λ reading. AllByRecursion (λ seen. IsTrue (is_under_any property.now.roots seen.place)) reading.1) }
+    ensures answered { IfOk result
+        (IsInputAnswered F.failures F.may_leave F.asked folder.old folder.new property.now) }
     ensures digests { IsTrue F.tells → IfOk result (λ reading. digests_seen reading.1
         ≡ digests_of (tree_of property.now (F.contents folder.old).files)) }
     ensures seen { IsTrue F.tells
@@ -72,6 +76,9 @@ pub fn read_inputs<F: Folder>(
     ensures blame { Blames result (F.failures folder.old) (F.failures folder.new) }
     ensures blamed { BlamesOnly (is_input_of task.now) result }
     ensures read { IfOk result (λ readings. AreInputs task.now readings.items) }
+    // Over any folder: the files are those that calls answered, and so are their digests and bytes.
+    ensures answered { IfOk result (λ readings. AreInputsAnswered F.failures F.may_leave F.asked
+        folder.old folder.new task.now readings.items) }
     ensures same { IsTrue F.tells → F.contents folder.new ≡ F.contents folder.old }
     ensures prints { IsTrue F.tells → IfOk result (λ readings.
         prints_read readings.items ≡ digests_in (trees_of task.now (F.contents folder.old).files)) }
@@ -113,6 +120,11 @@ pub fn complete_inputs<F: Folder>(
     // Over any folder: the names of the properties, and the digests of the very trees.
     ensures named { IfOk result (λ inputs. map (λ tree. tree.0) inputs.trees ≡ seen_files task.now.files) }
     ensures digests { IfOk result (λ inputs. inputs.prints.items ≡ digests_in inputs.trees) }
+    // And what was answered before, with what is answered now of the rest.
+    ensures answered { (first : _) → Asks F.failures F.may_leave F.asked no_change first folder.old
+        → AreInputsAnswered F.failures F.may_leave F.asked first folder.old task.now readings.items
+        → IfOk result (λ inputs. AreInputsRead F.failures F.may_leave F.asked first folder.new task.now
+        inputs.trees) }
     ensures same { IsTrue F.tells → F.contents folder.new ≡ F.contents folder.old }
     ensures trees { IsTrue F.tells → AreInputsSeen task.now (F.contents folder.old).files readings.items
         → IfOk result (λ inputs. inputs.trees ≡ trees_of task.now (F.contents folder.old).files) }

@@ -6,10 +6,13 @@ ghost use Rattle.gb_folder.specs.Calls.{Asks, no_change};
 ghost use Rattle.gb_history.specs.Remembered.{prints_in};
 ghost use Rattle.gb_plan.specs.Task.{is_output_of, seen_outputs};
 ghost use Rattle.gb_store.specs.Faults.{Blames, BlamesOnly, IsOfMachine};
+ghost use Rattle.gb_tree.specs.Answered.{IsTreeRead, WereSeen};
 ghost use Rattle.gb_tree.specs.Prints.{digests_of};
 ghost use Rattle.gb_tree.specs.Reading.{IsSeenIn, digests_seen, entries_seen};
 ghost use Rattle.gb_tree.specs.Tree.{contents_at, files_from, is_among};
-ghost use Rattle.gb_turn.specs.Reading.{AreOutputs, AreOutputsSeen, CannotRead, IsOutputSeen, print_faults, prints_read, prints_seen, recorded_of, records_with, seen_of};
+ghost use Rattle.gb_turn.specs.Answered.{AreOutputsAnswered, AreOutputsRead, IsOutputAnswered};
+ghost use Rattle.gb_turn.specs.Reading.{AreOutputs, AreOutputsSeen, CannotRead, IsOutputSeen, print_faults};
+ghost use Rattle.gb_turn.specs.Reading.{prints_read, prints_seen, recorded_of, records_with, seen_of};
 
 use crate::completing::complete;
 use crate::fault::told;
@@ -37,6 +40,8 @@ fn read_one<F: Folder>(
     ensures named { IfOk result (λ reading. reading.0 ≡ output.now.name) }
     ensures within { IfOk result
         (λ reading. AllByRecursion (λ seen. IsTrue (is_under seen.place output.now.place)) reading.1) }
+    ensures answered { IfOk result
+        (IsOutputAnswered F.failures F.may_leave F.asked folder.old folder.new output.now) }
     ensures digests { IsTrue F.tells → IfOk result (λ reading. digests_seen reading.1
         ≡ digests_of (files_from (F.contents folder.old).files output.now.place)) }
     ensures seen { IsTrue F.tells → IfOk result (IsOutputSeen (F.contents folder.old).files output.now) }
@@ -64,6 +69,9 @@ pub fn read_outputs<F: Folder>(
     ensures blame { Blames result (F.failures folder.old) (F.failures folder.new) }
     ensures blamed { BlamesOnly (is_output_of task.now) result }
     ensures read { IfOk result (λ readings. AreOutputs task.now readings.items) }
+    // Over any folder: the files are those that calls answered, and so are their digests and bytes.
+    ensures answered { IfOk result (λ readings. AreOutputsAnswered F.failures F.may_leave F.asked
+        folder.old folder.new task.now readings.items) }
     ensures same { IsTrue F.tells → F.contents folder.new ≡ F.contents folder.old }
     ensures prints { IsTrue F.tells → IfOk result (λ readings. prints_read readings.items
         ≡ prints_in (map (recorded_of (F.contents folder.old).files) task.now.outputs)) }
@@ -104,6 +112,11 @@ fn complete_one<F: Folder>(
     ensures named { IfOk result (λ made. made.0.name ≡ output.now.name) }
     ensures formed { IfOk result (λ made. made.0.form ≡ output.now.form) }
     ensures digests { IfOk result (λ made. made.1 ≡ (reading.0, digests_of made.0.files)) }
+    // Over any folder: what was answered before, and what is answered now of the rest.
+    ensures answered { (first : _) → Asks F.failures F.may_leave F.asked no_change first folder.old
+        → WereSeen F.failures F.may_leave F.asked first folder.old reading.1
+        → IfOk result (λ made. IsTreeRead F.failures F.may_leave F.asked first folder.new
+        (entries_seen reading.1) made.0.files) }
     ensures files { IsTrue F.tells → AllByRecursion (IsSeenIn (F.contents folder.old).files) reading.1
         → IfOk result
         (λ made. made.0.files ≡ contents_at (F.contents folder.old).files (entries_seen reading.1)) }
@@ -135,6 +148,11 @@ pub fn complete_outputs<F: Folder>(
     ensures formed { IfOk result (λ outputs. map (λ output. (output.name, output.form)) outputs.seen
         ≡ seen_outputs task.now.outputs) }
     ensures digests { IfOk result (λ outputs. outputs.prints.items ≡ prints_seen outputs.seen) }
+    // And what was answered before, with what is answered now of the rest.
+    ensures answered { (first : _) → Asks F.failures F.may_leave F.asked no_change first folder.old
+        → AreOutputsAnswered F.failures F.may_leave F.asked first folder.old task.now readings.items
+        → IfOk result (λ outputs. AreOutputsRead F.failures F.may_leave F.asked first folder.new task.now
+        outputs.seen) }
     ensures same { IsTrue F.tells → F.contents folder.new ≡ F.contents folder.old }
     ensures files { IsTrue F.tells → AreOutputsSeen task.now (F.contents folder.old).files readings.items
         → IfOk result

@@ -18,8 +18,8 @@ use Rattle.gb_execute.specs.Failing.{times_blamed}
 use Rattle.gb_execute.specs.Reports.{IsOf}
 use Rattle.gb_execute.proofs.Skipping.{dry_blames, dry_built, dry_of}
 use Rattle.gb_execute.proofs.Hearing.{untold}
-use Rattle.gb_execute.proofs.Asking.{build_asks}
-use Rattle.gb_execute.specs.Asking.{in_turns}
+use Rattle.gb_execute.proofs.Asking.{build_asks, dry_current}
+use Rattle.gb_execute.specs.Asking.{WereCurrent, in_turns}
 use Rattle.gb_folder.specs.Calls.{Asks}
 use Rattle.gb_execute.proofs.execute.execute.Goals as goal
 
@@ -95,6 +95,23 @@ returns-clause-changes g c = λ tells.
 pub returns-clause-asks : goal.returns-clause-asks
 returns-clause-asks g c =
     let F = g.F.Folder in
-    build_asks g.A.Actions.meanings c.args.table.now c.args.options c.args.plan.now c.args.records.now c.if-options.false
-    (subst (λ (ps : List Planned). Asks F.failures F.may_leave F.asked (in_turns g.A.Actions.meanings c.args.table.now c.args.options ps c.args.records.now) c.args.folder.now c.take_turns-all_heard.new.folder)
+    let start = c.args.folder.now in
+    build_asks F.failures F.may_leave F.asked start g.A.Actions.meanings c.args.table.now c.args.options c.args.plan.now c.args.records.now c.if-options.false start c.take_turns-all_heard.new.folder
+    (subst (λ (ps : List Planned). Asks F.failures F.may_leave F.asked (in_turns F.failures F.may_leave F.asked start g.A.Actions.meanings c.args.table.now c.args.options ps c.args.records.now)
+    start c.take_turns-all_heard.new.folder)
     c.as_slice-tasks.ensures c.take_turns-all_heard.ensures.asks)
+
+pub returns-then-options-clause-current : goal.returns-then-options-clause-current
+returns-then-options-clause-current g c =
+    let F = g.F.Folder in
+    subst (WereCurrent F.failures F.may_leave F.asked c.args.folder.now c.args.options c.args.plan.now c.args.records.now)
+    (sym (c.reported.ensures.tasks ∙ c.in_ok-dry_reports.ensures ∙ ap dry_reports c.as_slice-tasks.ensures))
+    (dry_current F.failures F.may_leave F.asked c.args.folder.now c.args.options c.args.plan.now c.args.records.now)
+
+pub returns-clause-current : goal.returns-clause-current
+returns-clause-current g c =
+    let F = g.F.Folder in
+    let start = c.args.folder.now in
+    subst (WereCurrent F.failures F.may_leave F.asked start c.args.options c.args.plan.now c.args.records.now) (sym c.reported-2.ensures.tasks)
+    (subst (λ (ps : List Planned). WereCurrent F.failures F.may_leave F.asked start c.args.options ps c.args.records.now c.take_turns-all_heard.new.reports.items)
+    c.as_slice-tasks.ensures c.take_turns-all_heard.ensures.current)

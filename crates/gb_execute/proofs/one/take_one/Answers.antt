@@ -1,6 +1,6 @@
 use Rattle.std.proofs.Common.{◌≡◌, ◌<◌, ◌∷◌, [], ◌&&◌, Bool, true, false, length, map, None, slice_index_or, refl, sym, ap, subst, ◌∙◌, option_copied, List, ℕ, arith}
 use Rattle.std.proofs.lemmas.List.{get_or_default}
-use Rattle.std.proofs.lemmas.Option.{slice_get-get_or}
+use Rattle.std.proofs.lemmas.Option.{slice_get-get_or, get_or_from_slice_get}
 use Rattle.gb_case.specs.Case.{IsKnown}
 use Rattle.gb_listen.specs.Telling.{AllTold}
 use Rattle.gb_meaning.proofs.Common.{some_same}
@@ -24,6 +24,7 @@ use Rattle.gb_execute.proofs.Asking.{turn_asks}
 use Rattle.gb_folder.specs.Calls.{Asks}
 use Rattle.gb_history.specs.Remembered.{Remembered}
 use Rattle.gb_task.specs.Asking.{IsTextOf, in_turn_with}
+use Rattle.gb_task.specs.Current.{IsToldCurrent}
 use Rattle.std.specs.Prelude.{Option}
 use Rattle.gb_execute.proofs.one.take_one.Goals as goal
 use Rattle.gb_execute.proofs.one.take_one.Goals.{then-begun, else-begun}
@@ -157,7 +158,7 @@ returns-clause-turn g c = λ tells kinds registry_of moment planned is agrees se
     not_not b e = e
 
 pub returns-clause-asks : goal.returns-clause-asks
-returns-clause-asks g c =
+returns-clause-asks g c = λ begun way.
     let F = g.F.Folder in
     let build = c.args.build.now in
     let tasks = build.tasks.now in
@@ -166,6 +167,22 @@ returns-clause-asks g c =
     let within : index < length build.records.now = omega (arith, c.requires.each, c.requires.index) in
     let last : option_copied c.as_ref-last.result ≡ slice_index_or build.records.now index None =
     c.as_ref-last.ensures.value ∙ get_or_default build.records.now index c.index-build-index-2.result None within in
-    turn_asks g.A.Actions.meanings build.table.now build.options tasks build.records.now index task (slice_get-get_or tasks index c.index-build-index.result c.requires.index)
-    (subst (λ (read : Option Remembered). Asks F.failures F.may_leave F.asked (in_turn_with task.task (IsTextOf g.A.Actions.meanings build.table.now build.options task.task read))
+    turn_asks F.failures F.may_leave F.asked begun g.A.Actions.meanings build.table.now build.options tasks build.records.now index task
+    (slice_get-get_or tasks index c.index-build-index.result c.requires.index) c.args.folder.now c.take_turn-report.new.folder way
+    (subst (λ (read : Option Remembered). Asks F.failures F.may_leave F.asked
+    (in_turn_with task.task (IsTextOf F.failures F.may_leave F.asked c.args.folder.now g.A.Actions.meanings build.table.now build.options task.task read))
     c.args.folder.now c.take_turn-report.new.folder) last c.take_turn-report.ensures.asks)
+
+pub returns-clause-current : goal.returns-clause-current
+returns-clause-current g c = λ planned at.
+    let F = g.F.Folder in
+    let build = c.args.build.now in
+    let tasks = build.tasks.now in
+    let index = c.args.index in
+    let same : slice_index_or tasks index c.index-build-index.result ≡ planned = get_or_from_slice_get tasks index planned c.index-build-index.result at in
+    let within : index < length build.records.now = omega (arith, c.requires.each, c.requires.index) in
+    let last : option_copied c.as_ref-last.result ≡ slice_index_or build.records.now index None =
+    c.as_ref-last.ensures.value ∙ get_or_default build.records.now index c.index-build-index-2.result None within in
+    subst (λ (read : Option Remembered). IsToldCurrent F.failures F.may_leave F.asked build.options planned.task read c.args.folder.now c.take_turn-report.new.folder c.take_turn-report.result.outcome) last
+    (subst (λ (p : Planned). IsToldCurrent F.failures F.may_leave F.asked build.options p.task (option_copied c.as_ref-last.result) c.args.folder.now c.take_turn-report.new.folder c.take_turn-report.result.outcome) same
+    c.take_turn-report.ensures.current)

@@ -1,4 +1,4 @@
-use Rattle.std.proofs.Common.{rules, ◌≡◌, ◌<◌, ◌≤◌, ◌+◌, ◌-◌, ◌++◌, ◌∷◌, ◌&&◌, [], ℕ, Bool, true, false, List, IsTrue, drop, length, map, take, replicate, ◌⊎◌, inl, inr, not, refl, sym, ap, subst, ◌∙◌, arith, slice_set}
+use Rattle.std.proofs.Common.{rules, ◌≡◌, ◌<◌, ◌≤◌, ◌+◌, ◌-◌, ◌++◌, ◌∷◌, ◌&&◌, [], ℕ, Bool, true, false, List, IsTrue, drop, length, map, take, replicate, ◌⊎◌, inl, inr, not, refl, sym, ap, subst, ◌∙◌, arith, slice_set, slice_get, slice_index_or, None, Some}
 use Rattle.std.specs.List.{AllByRecursion, AllZip, flat_map}
 use Rattle.std.specs.Vec.Iter.{into_iter_items}
 use Rattle.std.proofs.lemmas.List.{drop_all, get_or-replicate, length-append, length-drop, length-map, length-replicate, length-set, map-append, take_all}
@@ -31,7 +31,10 @@ use Rattle.gb_store.specs.Changes.{ChangesOnly}
 use Rattle.gb_store.proofs.Machine.{changes_none}
 use Rattle.gb_task.proofs.Parts.{differs_outside}
 use Rattle.gb_task.proofs.Recorded.{seen_later}
+use Rattle.gb_task.specs.Current.{IsToldCurrent}
+use Rattle.gb_execute.specs.Asking.{WereCurrent}
 use Rattle.gb_execute.specs.Building.{IsBuildable, is_of_turns}
+use Rattle.gb_execute.proofs.Asking.{current_more, none_current, turn_current, turns_places}
 use Rattle.gb_meaning.specs.Headline.{HasFailed}
 use Rattle.gb_execute.specs.Failing.{times_blamed}
 use Rattle.gb_execute.specs.Reports.{IsOf}
@@ -82,6 +85,7 @@ loop-path-init g c =
       printed = subst (λ (rs : List TaskReport). Prints P.contents P.whole (flat_map task_text rs) c.args.printer.now c.args.printer.now) (sym none)
           (prints_nothing P.contents P.whole c.args.printer.now);
       asks = asks_nothing start;
+      current = none_current F.failures F.may_leave F.asked start c.args.build.now.options tasks c.args.build.now.records.now c.args.reports.now.items none;
       device = subst (λ (rs : List TaskReport). HasFailed (times_blamed rs) (F.failures start) (F.failures start)) (sym none) (inl (omega arith));
       changes = λ tells. changes_none (is_of_turns []) (F.contents start) (F.contents start) refl;
       build = λ tells kinds registry_of remembered clear seen agrees tears worth.
@@ -118,6 +122,8 @@ loop-path-preserved g c =
     let is = (at_index tasks i less).1 in
     let along = next_path tasks i planned c.in-Some.path rest is left in
     let of_task = c.take_one-taken.ensures.of_task planned is in
+    let way = turns_places F.failures F.may_leave F.asked start g.A.Actions.meanings build.table.now build.options tasks build.records.now start now inv.asks in
+    let taken = c.take_one-taken.ensures.asks start way in
     let can = each_at (λ (p : Planned). IsBuildable g.A.Actions.meanings build.table.now p.task) tasks i planned is c.requires.can.tasks in
     let is_path : IsTrue (is_task_path planned.task.path) = subst (λ (p : Path). IsTrue (is_task_path p)) along.0 c.as_str-path.ensures.path in
     let places : HasOwnPlaces planned = record { is_path = is_path; not_own = can.not_own } in
@@ -161,9 +167,14 @@ loop-path-preserved g c =
       printed = subst (λ (rs : List TaskReport). Prints P.contents P.whole (flat_map task_text rs) c.args.printer.now c.print_task.new.self) (sym items)
           (subst (λ (text : List ℕ). Prints P.contents P.whole text c.args.printer.now c.print_task.new.self) (sym (parts_more reports report))
           (prints_more P.contents P.whole (flat_map task_text reports) (task_text report) c.args.printer.now c.loop-path.printer c.print_task.new.self inv.printed c.print_task.ensures));
-      asks = asks_then inv.asks c.take_one-taken.ensures.asks;
+      asks = asks_then inv.asks taken;
+      current = subst (λ (rs : List TaskReport). WereCurrent F.failures F.may_leave F.asked start build.options tasks build.records.now rs) (sym items)
+          (current_more F.failures F.may_leave F.asked start build.options tasks build.records.now reports report inv.current
+          (λ other at. turn_current F.failures F.may_leave F.asked start build.options tasks build.records.now other _ report now next way
+          (subst (λ (n : ℕ). IsToldCurrent F.failures F.may_leave F.asked build.options other.task (slice_index_or build.records.now n None) now next report.outcome) (sym inv.long)
+          (c.take_one-taken.ensures.current other (subst (λ (n : ℕ). slice_get tasks n ≡ Some other) inv.long at)))));
       device = subst (λ (rs : List TaskReport). HasFailed (times_blamed rs) (F.failures start) (F.failures next)) (sym items)
-          (failed_more reports report (F.failures start) (F.failures now) (F.failures next) inv.device c.take_one-taken.ensures.asks.count c.take_one-taken.ensures.blame);
+          (failed_more reports report (F.failures start) (F.failures now) (F.failures next) inv.device taken.count c.take_one-taken.ensures.blame);
       changes = λ tells.
           subst (λ (ps : List Planned). ChangesOnly (is_of_turns ps) (F.contents start) (F.contents next)) (sym take_is)
           (changes_more (take i tasks) planned (F.contents start) (F.contents now) (F.contents next) (inv.changes tells) (c.take_one-taken.ensures.changes tells planned is));
@@ -177,7 +188,7 @@ loop-path-preserved g c =
           (subst (λ (rs : List TaskReport). IsUnderway kinds registry_of (F.may_leave start) clear seen build.options tasks old (take i tasks ++ planned ∷ []) (drop (i + 1) tasks) rs
           (record { contents = F.contents next; failures = F.failures next })) (sym items)
           (goes_on kinds registry_of (F.may_leave start) clear seen build.options tasks old (take i tasks) (drop (i + 1) tasks) planned (whole_at tasks i planned is) reports
-          (record { contents = F.contents now; failures = F.failures now }) u report (record { contents = F.contents next; failures = F.failures next }) c.take_one-taken.ensures.asks.count
+          (record { contents = F.contents now; failures = F.failures now }) u report (record { contents = F.contents next; failures = F.failures next }) taken.count
           (g.met.F.Folder.sound next) (differs_outside planned.task (F.contents now).files (F.contents next).files changes.elsewhere) changes.odd c.requires.can.sound.outputs_apart
           (F.may_leave now) inv.asks.tearing (once_behind (take i tasks) (drop (i + 1) tasks) planned (subst (λ (ps : List Planned). no_repeats (order ps) ≡ true) (whole_at tasks i planned is) c.requires.can.once))
           (λ given still.

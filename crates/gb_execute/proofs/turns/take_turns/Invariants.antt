@@ -18,7 +18,7 @@ use Rattle.gb_report.specs.Report.{task_text}
 use Rattle.gb_start.specs.Plans.{AreEndings, AreOfPlan}
 use Rattle.gb_store.specs.Changes.{ChangesOnly}
 use Rattle.gb_task.specs.Turned.{Registering}
-use Rattle.gb_execute.specs.Asking.{in_turns}
+use Rattle.gb_execute.specs.Asking.{WereCurrent, in_turns}
 use Rattle.gb_execute.specs.Building.{is_of_turns}
 use Rattle.gb_execute.specs.Built.{AreWorth}
 use Rattle.gb_execute.specs.Failing.{times_blamed}
@@ -48,7 +48,8 @@ invariant-loop-path g l =
       places : AllByRecursion HasOwnPlaces done;
       heard : AllTold (heard_of false l.reports.items) l.all_heard (map ear l.fn.listeners.items) (map ear l.listeners.items);
       printed : Prints P.contents P.whole (flat_map task_text l.reports.items) l.fn.printer l.printer;
-      asks : Asks F.failures F.may_leave F.asked (in_turns g.A.Actions.meanings l.build.table.now l.build.options tasks l.build.records.now) start l.folder;
+      asks : Asks F.failures F.may_leave F.asked (in_turns F.failures F.may_leave F.asked start g.A.Actions.meanings l.build.table.now l.build.options tasks l.build.records.now) start l.folder;
+      current : WereCurrent F.failures F.may_leave F.asked start l.build.options tasks l.build.records.now l.reports.items;
       device : HasFailed (times_blamed l.reports.items) (F.failures start) (F.failures l.folder);
       changes : IsTrue F.tells → ChangesOnly (is_of_turns done) (F.contents start) (F.contents l.folder);
       build : IsTrue F.tells → (kinds : Kinds) (registry_of : Registering) (remembered : Memory) (clear : Bool) (seen : List Bytes) → Agrees g.A.Actions.meanings l.build.table.now kinds

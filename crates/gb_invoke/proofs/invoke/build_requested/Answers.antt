@@ -200,5 +200,6 @@ returns-clause-asks g c =
         answered = λ wet. subst (λ (records : List (Option Remembered)). AllZip (WasAnswered F.failures F.may_leave F.asked start mid) (order plan) records) (sym c.as_slice-2.ensures.value)
             (subst (λ (tasks : List Planned). AllZip (WasAnswered F.failures F.may_leave F.asked start mid) (order tasks) c.in_ok-records.records.items) c.as_slice.ensures (c.in_ok-records.ensures.answered wet));
         turns = c.execute.ensures.asks;
+        current = c.in_ok-report.ensures.current;
       },
     )

@@ -9,6 +9,7 @@ use Rattle.gb_report.specs.declared.fault.Fault.{Fault}
 use Rattle.gb_store.proofs.Machine.{at_err}
 use Rattle.gb_turn.specs.Reading.{CannotRead, Read, digests_in, prints_read, records_with}
 use Rattle.gb_label.specs.Deciding.{IsDecided, IsPresentOf, MayDecide, by_record, grown}
+use Rattle.gb_label.proofs.Answering.{full_decided, record_decided}
 use Rattle.gb_label.proofs.Current.{may_decide}
 use Rattle.gb_label.proofs.Growth.{cannot_read, has_grown, ok_as}
 use Rattle.gb_label.proofs.Recorded.{names_read, names_with, none_for, none_seen_for, read_for, seen_for, with_standing}
@@ -71,3 +72,17 @@ returns-in_ok-check_grown-in-Err-clause-read g c =
 pub returns-in_ok-check_grown-in-Err-clause-seen : goal.returns-in_ok-check_grown-in-Err-clause-seen
 returns-in_ok-check_grown-in-Err-clause-seen g c = λ tells.
     ok_as c.in_full.result c.in_full.ensures.full (λ found full. none_seen_for c.args.task.now (g.F.Folder.contents c.args.folder.now).files found.0 found.1.items full)
+
+pub returns-in_ok-decision-in-Ok-clause-answered : goal.returns-in_ok-decision-in-Ok-clause-answered
+returns-in_ok-decision-in-Ok-clause-answered g c =
+    let task = c.args.task.now in
+    let inputs = c.args.inputs.now in
+    let found = c.in_ok-decision-in-Ok.ensures in
+    record_decided g.F.Folder.failures g.F.Folder.may_leave g.F.Folder.asked c.args.folder.now c.read_listed.new.folder c.args.options task c.args.run.now inputs c.in_ok-decision-in-Ok.decision c.in-Ok.outputs.items c.in-Ok.ensures.read c.in-Ok.ensures.answered found.0
+    (subst (λ (outputs : List Read). IsPresentOf c.args.options task (prints_read inputs) (records_with task.outputs (prints_read outputs)) found.0)
+    c.as_slice.ensures.value found.1) found.2
+
+pub returns-in_ok-check_grown-in-Err-clause-answered : goal.returns-in_ok-check_grown-in-Err-clause-answered
+returns-in_ok-check_grown-in-Err-clause-answered g c =
+    ok_as c.in_full.result c.in_full.ensures.full (λ found full.
+    full_decided g.F.Folder.failures g.F.Folder.may_leave g.F.Folder.asked c.args.folder.now c.in_full.new.folder c.args.options c.args.task.now (Some c.args.run.now) c.args.inputs.now found.0 found.1.items full)

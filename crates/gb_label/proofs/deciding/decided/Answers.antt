@@ -3,6 +3,7 @@ use Rattle.gb_history.specs.declared.decide.Decision.{Decision}
 use Rattle.gb_history.specs.declared.decide.Decision.TheVariants.{Full}
 use Rattle.gb_history.specs.declared.record.Record.{Record}
 use Rattle.gb_label.specs.Deciding.{IsDecided, MayDecide, anew, forgotten}
+use Rattle.gb_label.proofs.Answering.{full_decided}
 use Rattle.gb_label.proofs.Growth.{ok_as}
 use Rattle.gb_label.proofs.Recorded.{none_for, none_seen_for}
 use Rattle.gb_label.proofs.deciding.decided.Goals as goal
@@ -48,3 +49,13 @@ returns-then-options-clause-read g c = ok_as c.in_full-then-options.result c.in_
 pub returns-then-options-clause-seen : goal.returns-then-options-clause-seen
 returns-then-options-clause-seen g c = λ tells.
     ok_as c.in_full-then-options.result c.in_full-then-options.ensures.full (λ found full. none_seen_for c.args.task.now (g.F.Folder.contents c.args.folder.now).files found.0 found.1.items full)
+
+pub returns-in_default-clause-answered : goal.returns-in_default-clause-answered
+returns-in_default-clause-answered g c =
+    ok_as c.in_full.result c.in_full.ensures.full (λ found full.
+    full_decided g.F.Folder.failures g.F.Folder.may_leave g.F.Folder.asked c.args.folder.now c.in_full.new.folder c.args.options c.args.task.now (option_copied c.args.old) c.args.inputs.now found.0 found.1.items full)
+
+pub returns-then-options-clause-answered : goal.returns-then-options-clause-answered
+returns-then-options-clause-answered g c =
+    ok_as c.in_full-then-options.result c.in_full-then-options.ensures.full (λ found full.
+    full_decided g.F.Folder.failures g.F.Folder.may_leave g.F.Folder.asked c.args.folder.now c.in_full-then-options.new.folder c.args.options c.args.task.now (option_copied c.args.old) c.args.inputs.now found.0 found.1.items full)

@@ -5,8 +5,10 @@ use Rattle.gb_folder.specs.Files.{Contents, is_empty}
 use Rattle.gb_meaning.specs.Tree.{listing_faults}
 use Rattle.gb_store.proofs.Machine.{at_err}
 use Rattle.gb_turn.specs.Reading.{print_faults}
+use Rattle.gb_folder.proofs.Asked.{asks_nothing}
+use Rattle.gb_turn.proofs.Answering.{outputs_longer}
 use Rattle.gb_label.proofs.Cases.{cannot_before}
-use Rattle.gb_label.proofs.Growth.{CannotPrint, cannot_print_listed, err_as}
+use Rattle.gb_label.proofs.Growth.{CannotPrint, cannot_print_listed, err_as, ok_as}
 use Rattle.gb_label.proofs.deciding.read_checked.Goals as goal
 
 pub returns-in_err-check_outputs-clause-err : goal.returns-in_err-check_outputs-clause-err
@@ -30,3 +32,8 @@ returns-clause-err g c = λ tells.
       | inl grown ↦ inl (grown.0, subst (λ (folder : Contents). is_empty (flat_map (print_faults folder) task.outputs) ≡ false) same grown.1)
       | inr read ↦ inr (cannot_before task old now _ _ _ fault same c.check_outputs.ensures.asks.count c.read_outputs.ensures.asks.count read)
     ])
+
+pub returns-clause-answered : goal.returns-clause-answered
+returns-clause-answered g c =
+    ok_as c.read_outputs.result c.read_outputs.ensures.answered (λ found answered.
+    outputs_longer c.check_outputs.ensures.asks (asks_nothing c.read_outputs.new.folder) c.args.task.now found.items answered)

@@ -4,6 +4,10 @@ use Rattle.gb_turn.specs.Reading.{AreOutputsSeen, seen_of}
 use Rattle.gb_task.specs.Anew.{IsAnew, IsAsBefore}
 use Rattle.gb_task.proofs.Given.{named_digests, named_outputs}
 use Rattle.gb_task.proofs.Settling.{as_before, is_anew}
+use Rattle.gb_folder.proofs.Asked.{asks_nothing, asks_then}
+use Rattle.gb_turn.proofs.Answering.{outputs_longer, trees_longer}
+use Rattle.gb_task.specs.Current.{WasReadAnew}
+use Rattle.gb_task.proofs.Answered.{read_anew}
 use Rattle.gb_task.proofs.anew.settle_anew.Goals as goal
 
 pub decide_on-requires-clause-inputs : goal.decide_on-requires-clause-inputs
@@ -34,3 +38,15 @@ returns-clause-as_before g c = λ tells kinds world at inputs_seen outputs_seen 
     (c.in_ok-trees.ensures.trees tells inputs_seen)
     (c.in_ok-seen.ensures.files tells (subst (λ (folder : Contents). AreOutputsSeen task folder.files c.args.seen.outputs.items) (sym same) outputs_seen)
     ∙ ap (λ (folder : Contents). map (seen_of folder.files) task.outputs) same))
+
+pub returns-clause-answered : goal.returns-clause-answered
+returns-clause-answered g c = λ first before inputs outputs.
+    let F = g.F.Folder in
+    let task = c.args.task.now in
+    let start = c.args.folder.now in
+    let mid = c.complete_inputs.new.folder in
+    subst (WasReadAnew F.failures F.may_leave F.asked first c.complete_outputs.new.folder task) (sym c.anew_by.ensures)
+    (read_anew F.failures F.may_leave F.asked first c.complete_outputs.new.folder task c.in_ok-decision.field-0.decision _ _
+    (trees_longer (asks_nothing first) c.complete_outputs.ensures.asks task c.in_ok-trees.field-0.trees (c.in_ok-trees.ensures.answered first before inputs))
+    (c.in_ok-seen.ensures.answered first (asks_then before c.complete_inputs.ensures.asks)
+    (outputs_longer (asks_nothing first) c.complete_inputs.ensures.asks task c.args.seen.outputs.items outputs)))

@@ -7,6 +7,7 @@ use Rattle.gb_report.specs.declared.fault.Fault.{Fault}
 use Rattle.gb_store.proofs.Machine.{at_err}
 use Rattle.gb_turn.specs.Reading.{seen_of}
 use Rattle.gb_task.specs.Anew.{IsAsBefore, IsAnew}
+use Rattle.gb_task.specs.Current.{WasReadAnew}
 use Rattle.gb_task.specs.Turned.{HasTurned, report_of, setting_with}
 use Rattle.gb_task.proofs.ByChanges.{reading_failed}
 use Rattle.gb_task.proofs.Later.{comes_later, due_since, turned_before}
@@ -56,17 +57,29 @@ returns-in-InFull-clause-turn g c = λ tells kinds registry_of plan moment agree
     (c.in_ok-inputs.ensures.as_before tells kinds moment.world at.folder read stood goes))
 
 pub returns-in_err-inputs-clause-asks : goal.returns-in_err-inputs-clause-asks
-returns-in_err-inputs-clause-asks g c = asks_reading c.settle_anew.ensures.asks
+returns-in_err-inputs-clause-asks g c = λ first before inputs outputs. asks_reading c.settle_anew.ensures.asks
 
 pub returns-in-ByChanges-clause-asks : goal.returns-in-ByChanges-clause-asks
-returns-in-ByChanges-clause-asks g c =
-    let is_anew = subst (IsAnew c.args.options c.args.task.now c.args.last.now) c.in-ByChanges.is c.in_ok-inputs.ensures.anew in
+returns-in-ByChanges-clause-asks g c = λ first before inputs outputs.
+    let F = g.F.Folder in
+    let task = c.args.task.now in
+    let then = c.settle_anew.new.folder in
+    let is_anew = subst (IsAnew c.args.options task c.args.last.now) c.in-ByChanges.is c.in_ok-inputs.ensures.anew in
+    let was = subst (WasReadAnew F.failures F.may_leave F.asked first then task) c.in-ByChanges.is (c.in_ok-inputs.ensures.answered first before inputs outputs) in
     asks_then (asks_reading c.settle_anew.ensures.asks)
-    (text_in_turn c.args.task.now _ _
-    (λ bytes. going_anew g.A.Actions.meanings c.args.table.now c.args.options c.args.task.now c.args.last.now c.in-ByChanges.inputs c.in-ByChanges.outputs c.in-ByChanges.changes bytes is_anew)
+    (text_in_turn task _ _
+    (λ bytes. going_anew F.failures F.may_leave F.asked first g.A.Actions.meanings c.args.table.now c.args.options task c.args.last.now
+    c.in-ByChanges.inputs c.in-ByChanges.outputs c.in-ByChanges.changes then was bytes is_anew)
     c.go_by.ensures.asks)
 
 pub returns-in-InFull-clause-asks : goal.returns-in-InFull-clause-asks
-returns-in-InFull-clause-asks g c =
+returns-in-InFull-clause-asks g c = λ first before inputs outputs.
+    let F = g.F.Folder in
+    let task = c.args.task.now in
+    let then = c.settle_anew.new.folder in
+    let was = subst (WasReadAnew F.failures F.may_leave F.asked first then task) c.in-InFull.is (c.in_ok-inputs.ensures.answered first before inputs outputs) in
+    let is_anew = subst (IsAnew c.args.options task c.args.last.now) c.in-InFull.is c.in_ok-inputs.ensures.anew in
     asks_then (asks_reading c.settle_anew.ensures.asks)
-    (text_in_turn c.args.task.now _ _ (full_anew g.A.Actions.meanings c.args.table.now c.args.options c.args.task.now c.args.last.now c.in-InFull.inputs.trees) c.run_on.ensures.asks)
+    (text_in_turn task _ _
+    (full_anew F.failures F.may_leave F.asked first g.A.Actions.meanings c.args.table.now c.args.options task c.args.last.now c.in-InFull.inputs then was is_anew)
+    c.run_on.ensures.asks)

@@ -44,9 +44,12 @@ returns-clause-turn g c = λ tells kinds registry_of options plan moment agrees 
     (c.in_ok-inputs.ensures.trees tells read ∙ ap (λ (folder : Contents). trees_of task folder.files) (sym same)) due))
 
 pub returns-in_err-inputs-clause-asks : goal.returns-in_err-inputs-clause-asks
-returns-in_err-inputs-clause-asks g c = asks_reading c.complete_inputs.ensures.asks
+returns-in_err-inputs-clause-asks g c = λ first before inputs. asks_reading c.complete_inputs.ensures.asks
 
 pub returns-clause-asks : goal.returns-clause-asks
-returns-clause-asks g c =
+returns-clause-asks g c = λ first before inputs.
+    let F = g.F.Folder in
     asks_then (asks_reading c.complete_inputs.ensures.asks)
-    (text_in_turn c.args.task.now _ _ (full_is_one g.A.Actions.meanings c.args.table.now c.args.task.now c.in_ok-inputs.inputs.trees) c.run_on.ensures.asks)
+    (text_in_turn c.args.task.now _ _
+    (full_is_one F.failures F.may_leave F.asked first g.A.Actions.meanings c.args.table.now c.args.task.now c.in_ok-inputs.inputs.trees c.complete_inputs.new.folder
+    (c.in_ok-inputs.ensures.answered first before inputs) c.in_ok-inputs.ensures.named) c.run_on.ensures.asks)

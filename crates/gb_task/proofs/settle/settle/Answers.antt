@@ -5,6 +5,8 @@ use Rattle.gb_task.specs.Turned.{setting_with}
 use Rattle.gb_task.specs.declared.settle.Settled.{Settled}
 use Rattle.gb_task.proofs.Answering.{tells as tells_answer}
 use Rattle.gb_task.proofs.Idle.{alone, of_task, settles}
+use Rattle.gb_task.specs.Current.{WasSettled}
+use Rattle.gb_task.proofs.Answered.{was_settled}
 use Rattle.gb_task.proofs.settle.settle.Goals as goal
 
 pub returns-clause-of_task : goal.returns-clause-of_task
@@ -38,3 +40,10 @@ returns-clause-settled g c = λ tells kinds registry_of plan moment folder count
     (settles (setting_with kinds registry_of (F.may_leave start)) c.args.options plan c.args.task.now c.args.path moment (F.contents start) (F.failures start) (F.failures now) c.args.has_executed_need
     (option_copied c.args.last) c.requires.not_own folder count needed known c.outside_is_enough.ensures c.prepared_is_case.ensures c.idle_turns_are_turns.ensures c.runs_are_of_case.ensures
     found.result (found.ensures.prepared tells) (found.ensures.seen tells) (found.ensures.err tells) found.ensures.reads found.ensures.blamed)
+
+pub returns-clause-answered : goal.returns-clause-answered
+returns-clause-answered g c =
+    let F = g.F.Folder in
+    let found = c.prepare-prepared in
+    subst (λ (s : Settled). WasSettled F.failures F.may_leave F.asked c.args.folder.now found.new.folder c.args.options c.args.task.now (option_copied c.args.last) s) (sym c.settled_by.ensures)
+    (was_settled F.failures F.may_leave F.asked c.args.folder.now found.new.folder c.args.options c.args.task.now (option_copied c.args.last) c.args.path c.args.has_executed_need found.result found.ensures.may_be found.ensures.answered)

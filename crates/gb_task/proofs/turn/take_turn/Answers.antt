@@ -3,6 +3,7 @@ use Rattle.gb_folder.specs.Files.{Contents}
 use Rattle.gb_label.specs.Preparing.{IsSeenFor}
 use Rattle.gb_meaning.specs.Label.{Moment}
 use Rattle.gb_task.specs.Turned.{ComesAt, HasTurned, setting_with}
+use Rattle.gb_task.proofs.Answered.{cleared_not_current, run_not_current}
 use Rattle.gb_task.proofs.Answering.{cleared_answers, run_answers, told_answers}
 use Rattle.gb_task.proofs.Later.{cleared_started, comes_later, copied_some, run_started, told_turned, turned_before}
 use Rattle.gb_task.proofs.Recorded.{seen_later}
@@ -67,7 +68,7 @@ returns-in-Due-clause-turn g c = λ tells kinds registry_of plan moment agrees s
     let later : Moment = record { world = moment.world; outcomes = moment.outcomes; failures = F.failures then } in
     let due = c.in-Due.ensures.settled tells kinds registry_of plan moment at.folder at.failures needed known in
     turned_before kinds registry_of (F.may_leave start) (F.may_leave then) c.settle.ensures.asks.tearing c.args.options plan task moment (F.failures then)
-    (subst (λ (n : ℕ). n ≤ F.failures then) (sym at.failures) c.settle.ensures.asks.count) c.run.result (F.contents start) (F.failures now) (F.contents now) c.run.ensures.asks.count
+    (subst (λ (n : ℕ). n ≤ F.failures then) (sym at.failures) c.settle.ensures.asks.count) c.run.result (F.contents start) (F.failures now) (F.contents now) (c.run.ensures.asks start c.settle.ensures.asks c.in-Due.ensures.answered.0 c.in-Due.ensures.answered.1).count
     (subst (λ (folder : Contents). HasTurned (setting_with kinds registry_of (F.may_leave then)) c.args.options plan task later c.run.result folder (F.failures now) (F.contents now)) same
     (c.run.ensures.turn tells kinds registry_of plan later agrees (seen_later _ _ c.settle.ensures.asks.tearing seen) came due.0 due.1 due.2
     (subst (λ (folder : Contents). IsSeenFor task folder.files c.in-Due.seen c.in-Due.decision) (sym same) due.3) known))
@@ -88,4 +89,13 @@ pub returns-in-Sourceless-clause-asks : goal.returns-in-Sourceless-clause-asks
 returns-in-Sourceless-clause-asks g c = asks_then (asks_reading c.settle.ensures.asks) (taken_in_turn c.args.task.now _ c.take_turn_without_source.ensures.asks)
 
 pub returns-in-Due-clause-asks : goal.returns-in-Due-clause-asks
-returns-in-Due-clause-asks g c = asks_then (asks_reading c.settle.ensures.asks) c.run.ensures.asks
+returns-in-Due-clause-asks g c =
+    asks_then (asks_reading c.settle.ensures.asks) (c.run.ensures.asks c.args.folder.now c.settle.ensures.asks c.in-Due.ensures.answered.0 c.in-Due.ensures.answered.1)
+
+pub returns-in-Sourceless-clause-current : goal.returns-in-Sourceless-clause-current
+returns-in-Sourceless-clause-current g c = λ told acts.
+    let was = c.take_turn_without_source.ensures.outcome in absurd (cleared_not_current was.0 (sym was.1 ∙ told))
+
+pub returns-in-Due-clause-current : goal.returns-in-Due-clause-current
+returns-in-Due-clause-current g c = λ told acts.
+    let was = c.run.ensures.outcome in absurd (run_not_current was.0 (sym was.1 ∙ told))

@@ -1,16 +1,19 @@
-use Rattle.std.proofs.Common.{arith, ◌≡◌, ◌++◌, ◌∷◌, [], IsTrue, IfErr, ℕ, List, length, map, take, sym, ◌∙◌, ap, subst}
+use Rattle.std.proofs.Common.{◌≡◌, ◌++◌, ◌∷◌, [], IsTrue, IfErr, ℕ, List, length, map, take, sym, ◌∙◌, ap, subst}
 use Rattle.std.proofs.lemmas.Iterator.Adapters.{YieldsList-from_vec}
 use Rattle.std.proofs.lemmas.Iterator.Consumers.{YieldsList-turn}
 use Rattle.std.proofs.lemmas.List.{length_push}
 use Rattle.std.proofs.lemmas.Result.{err_from_is_err_and}
 use Rattle.std.specs.FinMap.Entries.{is_sorted, put}
 use Rattle.gb_core.specs.Lists.{byte_order}
-use Rattle.gb_folder.proofs.Asked.{asks_then}
+use Rattle.gb_folder.proofs.Asked.{asks_nothing, asks_then}
 use Rattle.gb_folder.specs.Files.{Contents, Place}
+use Rattle.gb_tree.specs.Answered.{IsTreeRead, WasSeen}
 use Rattle.gb_tree.specs.Reading.{IsSeenIn, digests_seen, entries_seen}
 use Rattle.gb_tree.specs.Tree.{IsTreeFaultOfMachine, bytes_at, contents_at, is_among}
+use Rattle.gb_tree.proofs.Answering.{seen_longer}
 use Rattle.gb_tree.proofs.Blame.{blamed_before}
 use Rattle.gb_tree.proofs.Digests.{sorted_digests}
+use Rattle.gb_tree.proofs.Gathering.{one_file_more}
 use Rattle.gb_tree.proofs.InOrder.{sorted_alike}
 use Rattle.gb_tree.proofs.Refused.{at_err, machine_before}
 use Rattle.gb_tree.proofs.Seen.{all_at, contents_more, digest_more, path_more, paths_seen, put_seen, seen_among, sorted_front}
@@ -60,6 +63,11 @@ loop-one-preserved g c =
       same = λ tells. c.complete.ensures.same tells ∙ so_far.same tells;
       digests = digest_more tree _ c.loop-one.digests.items _ x.path bytes c.in_ok-path.digest c.in_ok-copy.field-0 so_far.digests c.in_ok-push.ensures.items (c.in_ok-copy.ensures ∙ c.in_ok-path.ensures.path) c.in_ok-path.ensures.digest more;
       paths = ap (map (λ (file : List ℕ × List ℕ). file.0)) more ∙ path_more xs n x tree bytes turn.0 turn.1 so_far.paths ∙ ap (λ k. map (λ (file : SeenFile). file.path) (take k xs)) next;
+      answered = λ first before seen.
+          let was = all_at (WasSeen g.F.Folder.failures g.F.Folder.may_leave g.F.Folder.asked first c.args.folder.now) xs n x turn.0 turn.1 seen in
+          subst (λ (k : ℕ). IsTreeRead g.F.Folder.failures g.F.Folder.may_leave g.F.Folder.asked first c.complete.new.folder (entries_seen (take k xs)) c.insert.new.self) next
+          (one_file_more xs n x tree _ bytes turn.0 turn.1 c.complete.ensures.asks (so_far.answered first before seen)
+          (c.in_ok-path.ensures.answered first (asks_then before so_far.asks) (seen_longer (asks_nothing first) so_far.asks x was)) more);
       read = λ tells all.
           let is_seen = all_at (IsSeenIn old) xs n x turn.0 turn.1 all in
           more

@@ -1,6 +1,7 @@
-use Rattle.std.proofs.Common.{◌≡◌, ◌≤◌, IsTrue, length, map, take}
+use Rattle.std.proofs.Common.{◌≡◌, IsTrue, length, map, take}
 use Rattle.std.specs.List.{AllByRecursion}
 use Rattle.gb_folder.specs.Calls.{Asks, no_change}
+use Rattle.gb_tree.specs.Answered.{IsTreeRead, WereSeen}
 use Rattle.gb_tree.specs.Prints.{digests_of}
 use Rattle.gb_tree.specs.Reading.{IsSeenIn, entries_seen}
 use Rattle.gb_tree.specs.Tree.{contents_at}
@@ -18,5 +19,8 @@ invariant-loop-one g l =
       same : IsTrue g.F.Folder.tells → contents l.folder ≡ contents l.fn.folder;
       digests : l.digests.items ≡ digests_of l.files;
       paths : map (λ file. file.0) l.files ≡ map (λ file. file.path) done;
+      answered : (first : _) → Asks g.F.Folder.failures g.F.Folder.may_leave g.F.Folder.asked no_change first l.fn.folder
+          → WereSeen g.F.Folder.failures g.F.Folder.may_leave g.F.Folder.asked first l.fn.folder l.fn.seen.items
+          → IsTreeRead g.F.Folder.failures g.F.Folder.may_leave g.F.Folder.asked first l.folder (entries_seen done) l.files;
       read : IsTrue g.F.Folder.tells → AllByRecursion (IsSeenIn old) l.fn.seen.items → l.files ≡ contents_at old (entries_seen done);
     }

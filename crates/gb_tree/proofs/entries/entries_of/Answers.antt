@@ -1,9 +1,11 @@
 use Rattle.std.proofs.Common.{arith, ◌≡◌, ℕ, List, IsTrue, IfErr, inl, inr, map, sym, ap, subst, ◌∙◌}
 use Rattle.std.proofs.lemmas.Result.{err_from_is_err_and}
-use Rattle.std.specs.List.{AllByRecursion}
+use Rattle.std.specs.List.{AllByRecursion, AllZip, zip}
+use Rattle.gb_folder.specs.Answers.{WereListed}
 use Rattle.gb_folder.specs.Files.{Place}
 use Rattle.gb_tree.specs.declared.fault.TreeFault.TheVariants as faults
-use Rattle.gb_tree.specs.Property.{distinct, entry_faults, is_under_any}
+use Rattle.gb_tree.specs.Answered.{listed_in}
+use Rattle.gb_tree.specs.Property.{distinct, entry_faults, in_order, is_under_any}
 use Rattle.gb_tree.specs.Tree.{Entries, IsRefused}
 use Rattle.gb_tree.proofs.Blame.{blamed_before}
 use Rattle.gb_tree.proofs.Found.{distinct_under}
@@ -65,6 +67,19 @@ returns-clause-under g c =
     subst (λ (es : Entries). AllByRecursion (λ entry. IsTrue (is_under_any roots entry.1)) es) (sym c.sort.ensures.sorted)
     (all_in_order _ entries (all_wider (λ (entry : List ℕ × Place). IsTrue (is_under_any kept entry.1)) (λ (entry : List ℕ × Place). IsTrue (is_under_any roots entry.1)) entries
     (λ entry. of_roots kept roots (c.as_slice.ensures.value ∙ c.in_ok-roots.ensures) entry.1) c.in_ok-entries.ensures.under))
+
+pub returns-clause-listed : goal.returns-clause-listed
+returns-clause-listed g c =
+    let told = c.in_ok-entries.ensures.answered in
+    let naming = c.args.naming in
+    let include = c.args.include.now in
+    let exclude = c.args.exclude.now in
+    let same = c.as_slice.ensures.value ∙ c.in_ok-roots.ensures in
+    record {
+      listings = told.0;
+      listed = subst (λ (roots : List Place). AllZip (WereListed g.F.Folder.failures g.F.Folder.may_leave g.F.Folder.asked c.args.folder.now c.found_few.new.folder) roots told.0) same told.1;
+      are = c.sort.ensures.sorted ∙ ap in_order (told.2 ∙ ap (λ (roots : List Place). listed_in naming include exclude (zip roots told.0)) same);
+    }
 
 pub returns-clause-fit : goal.returns-clause-fit
 returns-clause-fit g c = λ tells.

@@ -1,16 +1,20 @@
 use Rattle.std.proofs.Common.{arith, ◌≡◌, ◌+◌, ◌++◌, ◌∷◌, List, Some, IfErr, IsTrue, inl, inr, cond, drop, map, refl, sym, ◌∙◌, ap, subst, append_assoc}
 use Rattle.std.proofs.lemmas.Result.{err_from_is_err_and}
-use Rattle.std.specs.List.{filter}
+use Rattle.std.proofs.lemmas.List.{take_all}
+use Rattle.std.specs.List.{AllZip, filter, zip}
 use Rattle.gb_core.specs.Lists.{first_of}
 use Rattle.gb_core.specs.Place.{is_under}
+use Rattle.gb_folder.specs.Answers.{WereListed}
 use Rattle.gb_folder.specs.Files.{Contents, Place, is_odd_under, places_under}
 use Rattle.gb_folder.specs.Limits.{max_files}
 use Rattle.gb_folder.proofs.Asked.{asks_then}
 use Rattle.gb_tree.specs.declared.fault.TreeFault.TheVariants as faults
+use Rattle.gb_tree.specs.Answered.{listed_in}
 use Rattle.gb_tree.specs.Property.{entries_in, found, held, is_under_any}
 use Rattle.gb_tree.specs.Tree.{Entries, IsRefused, odd_roots}
 use Rattle.gb_tree.proofs.Blame.{blamed_before}
 use Rattle.gb_tree.proofs.Found.{taken_beneath, under_root}
+use Rattle.gb_tree.proofs.Gathering.{one_root_more}
 use Rattle.gb_tree.proofs.Holding.{held_done, take_again}
 use Rattle.gb_tree.proofs.Loops.{step_here}
 use Rattle.gb_tree.proofs.Refused.{at_err, machine_before}
@@ -66,6 +70,10 @@ loop-root-preserved g c =
       asks = asks_then was.asks c.in_ok-places.ensures.asks;
       few = c.in_ok-add_entries.ensures.few;
       under = taken_beneath naming include exclude roots i root c.in_ok-places.places.items places kept c.add_entries.new.entries.items within is c.as_slice.ensures.value c.in_ok-places.ensures.under c.in_ok-add_entries.ensures.entries was.under;
+      answered = one_root_more naming include exclude roots i root places kept c.add_entries.new.entries.items within is was.asks c.in_ok-places.ensures.asks
+          (subst (λ (ps : List Place). WereListed g.F.Folder.failures g.F.Folder.may_leave g.F.Folder.asked c.loop-root.folder c.listed.new.folder root ps)
+          (sym c.as_slice.ensures.value) c.in_ok-places.ensures.answered)
+          c.in_ok-add_entries.ensures.entries was.answered;
       same = λ tells. c.in_ok-places.ensures.same tells ∙ was.same tells;
       found = λ tells.
           let listed : places ≡ places_under old.files root = c.as_slice.ensures.value ∙ c.in_ok-places.ensures.listed tells ∙ ap (λ (now : Contents). places_under now.files root) (was.same tells) in
@@ -80,6 +88,14 @@ loop-root-preserved g c =
           sym (step_here (λ rs. first_of (odd_roots old rs)) roots i root within is ∙ ap (λ b. first_of (map faults.BadFileName (cond b (root ∷ odd_rest) odd_rest))) none)
           ∙ was.odd tells;
     }
+
+pub returns-clause-answered : goal.returns-clause-answered
+returns-clause-answered g c =
+    let listed = WereListed g.F.Folder.failures g.F.Folder.may_leave g.F.Folder.asked c.args.folder.now c.loop-root.folder in
+    let entries : Entries = c.loop-root.entries.items in
+    subst (λ (roots : List Place). (listings : List (List Place)) × AllZip listed roots listings
+    × (entries ≡ held (listed_in c.args.naming c.args.include.now c.args.exclude.now (zip roots listings))))
+    (take_all c.loop-root.root-index c.args.roots.now (omega (arith, c.loop-root-test.false))) c.loop-root.invariant.answered
 
 pub returns-clause-found : goal.returns-clause-found
 returns-clause-found g c = λ tells.

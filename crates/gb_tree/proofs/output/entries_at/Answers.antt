@@ -1,7 +1,10 @@
-use Rattle.std.proofs.Common.{cond, [], sym, ap, ◌∙◌}
+use Rattle.std.proofs.Common.{cond, [], inl, sym, ap, ◌∙◌}
 use Rattle.gb_folder.specs.Files.{places_under}
 use Rattle.gb_tree.specs.Tree.{entries_from, listing_faults}
 use Rattle.gb_tree.proofs.output.entries_at.Goals as goal
+
+pub returns-then-is_own-clause-listed : goal.returns-then-is_own-clause-listed
+returns-then-is_own-clause-listed g c = inl (sym c.is_own.ensures ∙ c.if-is_own.true, c.new.ensures.items)
 
 pub returns-then-is_own-clause-entries : goal.returns-then-is_own-clause-entries
 returns-then-is_own-clause-entries g c = λ tells.

@@ -2,10 +2,13 @@ use Rattle.std.proofs.Common.{arith, IsTrue, ◌++◌, IfErr, ℕ, List, sym, su
 use Rattle.std.proofs.lemmas.Result.{err_from_is_err_and}
 use Rattle.std.specs.List.{AllByRecursion}
 use Rattle.gb_core.specs.Place.{is_under}
+use Rattle.gb_folder.proofs.Asked.{asks_nothing}
 use Rattle.gb_folder.specs.Files.{Contents, Place}
-use Rattle.gb_tree.specs.Reading.{IsSeenIn, digests_seen}
-use Rattle.gb_tree.specs.Tree.{IsRefused, is_among, output_entries, output_faults, output_listing_faults, too_large}
+use Rattle.gb_tree.specs.Answered.{AreOutputEntriesListed, WereSeen}
+use Rattle.gb_tree.specs.Reading.{IsSeenIn, digests_seen, entries_seen}
+use Rattle.gb_tree.specs.Tree.{Entries, IsRefused, is_among, output_entries, output_faults, output_listing_faults, too_large}
 use Rattle.gb_tree.specs.declared.kept.SeenFile.{SeenFile}
+use Rattle.gb_tree.proofs.Answering.{all_seen_longer, output_entries_longer}
 use Rattle.gb_tree.proofs.Blame.{among_read, blamed_before}
 use Rattle.gb_tree.proofs.Refused.{at_err}
 use Rattle.gb_tree.proofs.Seen.{at_entries, seen_digests}
@@ -46,6 +49,20 @@ returns-in_err-seen-clause-blame g c =
     let IsSuch : Place → Type 0 = λ at. IsTrue (is_under at c.args.place.now) in
     blamed_before (λ at. IsTrue (is_among read at)) IsSuch _ _ _ _ c.in_err-seen.field-0.0 p.0 c.in_ok-entries.ensures.asks.count c.in_err-seen.ensures.asks.count p.1 p.2
     (among_read IsSuch c.in_ok-entries.entries.items read c.as_slice.ensures.value c.in_ok-entries.ensures.under) c.in_err-seen.ensures.blame
+
+pub returns-clause-listed : goal.returns-clause-listed
+returns-clause-listed g c =
+    let F = g.F.Folder in
+    let place = c.args.place.now in
+    subst (λ (told : Entries). AreOutputEntriesListed F.failures F.may_leave F.asked c.args.folder.now c.see_all.new.folder place told)
+    (sym (ap (λ (reading : List ℕ × List SeenFile). entries_seen reading.1) c.new.ensures ∙ c.in_ok-seen.ensures.placed ∙ c.as_slice.ensures.value))
+    (output_entries_longer (asks_nothing c.args.folder.now) c.in_ok-seen.ensures.asks place c.in_ok-entries.entries.items c.in_ok-entries.ensures.listed)
+
+pub returns-clause-answered : goal.returns-clause-answered
+returns-clause-answered g c =
+    let F = g.F.Folder in
+    subst (λ (reading : List ℕ × List SeenFile). WereSeen F.failures F.may_leave F.asked c.args.folder.now c.see_all.new.folder reading.1) (sym c.new.ensures)
+    (all_seen_longer c.in_ok-entries.ensures.asks (asks_nothing c.see_all.new.folder) c.in_ok-seen.seen.items c.in_ok-seen.ensures.answered)
 
 pub returns-clause-under : goal.returns-clause-under
 returns-clause-under g c =

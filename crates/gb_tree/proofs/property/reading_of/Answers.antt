@@ -1,12 +1,15 @@
 use Rattle.std.proofs.Common.{arith, IsTrue, ◌++◌, IfErr, ℕ, List, sym, subst, ap, ◌∙◌}
 use Rattle.std.proofs.lemmas.Result.{err_from_is_err_and}
 use Rattle.std.specs.List.{AllByRecursion}
+use Rattle.gb_folder.proofs.Asked.{asks_nothing}
 use Rattle.gb_folder.specs.Files.{Contents, Place}
+use Rattle.gb_tree.specs.Answered.{AreEntriesListed, WereSeen}
 use Rattle.gb_tree.specs.Property.{entries_of, entry_faults, is_under_any, tree_faults}
-use Rattle.gb_tree.specs.Reading.{IsSeenIn, digests_seen}
-use Rattle.gb_tree.specs.Tree.{IsRefused, is_among, too_large}
+use Rattle.gb_tree.specs.Reading.{IsSeenIn, digests_seen, entries_seen}
+use Rattle.gb_tree.specs.Tree.{Entries, IsRefused, is_among, too_large}
 use Rattle.gb_tree.specs.declared.kept.SeenFile.{SeenFile}
 use Rattle.gb_tree.proofs.Found.{found_stand}
+use Rattle.gb_tree.proofs.Answering.{all_seen_longer, entries_longer}
 use Rattle.gb_tree.proofs.Blame.{among_read, blamed_before}
 use Rattle.gb_tree.proofs.Refused.{at_err}
 use Rattle.gb_tree.proofs.Seen.{at_entries, seen_digests}
@@ -54,6 +57,24 @@ returns-clause-under g c =
     let IsSuch : Place → Type 0 = λ at. IsTrue (is_under_any c.args.roots.now at) in
     subst (λ (reading : List ℕ × List SeenFile). AllByRecursion (λ seen. IsSuch seen.place) reading.1) (sym c.new.ensures)
     (at_entries IsSuch c.in_ok-entries.entries.items c.in_ok-seen.seen.items (c.in_ok-seen.ensures.placed ∙ c.as_slice.ensures.value) c.in_ok-entries.ensures.under)
+
+pub returns-clause-listed : goal.returns-clause-listed
+returns-clause-listed g c =
+    let F = g.F.Folder in
+    let naming = c.args.naming in
+    let roots = c.args.roots.now in
+    let include = c.args.include.now in
+    let exclude = c.args.exclude.now in
+    let entries = c.in_ok-entries.entries.items in
+    subst (λ (told : Entries). AreEntriesListed F.failures F.may_leave F.asked naming roots include exclude c.args.folder.now c.see_all.new.folder told)
+    (sym (ap (λ (reading : List ℕ × List SeenFile). entries_seen reading.1) c.new.ensures ∙ c.in_ok-seen.ensures.placed ∙ c.as_slice.ensures.value))
+    (entries_longer (asks_nothing c.args.folder.now) c.in_ok-seen.ensures.asks naming roots include exclude entries c.in_ok-entries.ensures.listed)
+
+pub returns-clause-answered : goal.returns-clause-answered
+returns-clause-answered g c =
+    let F = g.F.Folder in
+    subst (λ (reading : List ℕ × List SeenFile). WereSeen F.failures F.may_leave F.asked c.args.folder.now c.see_all.new.folder reading.1) (sym c.new.ensures)
+    (all_seen_longer c.in_ok-entries.ensures.asks (asks_nothing c.see_all.new.folder) c.in_ok-seen.seen.items c.in_ok-seen.ensures.answered)
 
 pub returns-clause-digests : goal.returns-clause-digests
 returns-clause-digests g c = λ tells.

@@ -1,4 +1,4 @@
-use Rattle.std.proofs.Common.{◌≡◌, ◌≤◌, IsTrue, drop, take, map}
+use Rattle.std.proofs.Common.{◌≡◌, IsTrue, drop, take, map}
 use Rattle.gb_core.specs.Lists.{first_of}
 use Rattle.gb_tree.specs.Prints.{digests_of}
 use Rattle.gb_tree.specs.Property.{paths_of}

@@ -1,4 +1,4 @@
-use Rattle.std.proofs.Common.{◌≡◌, ◌≤◌, IsTrue, drop, take}
+use Rattle.std.proofs.Common.{◌≡◌, IsTrue, drop, take}
 use Rattle.gb_core.specs.Lists.{first_of}
 use Rattle.gb_tree.specs.Tree.{contents_at, too_large}
 use Rattle.gb_folder.specs.Calls.{Asks, no_change}

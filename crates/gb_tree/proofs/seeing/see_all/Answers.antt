@@ -3,12 +3,14 @@ use Rattle.std.proofs.lemmas.List.{take_all}
 use Rattle.std.proofs.lemmas.Result.{err_from_is_err_and}
 use Rattle.std.specs.List.{filter}
 use Rattle.gb_core.specs.Lists.{first_of}
-use Rattle.gb_folder.proofs.Asked.{asks_then}
+use Rattle.gb_folder.proofs.Asked.{asks_nothing, asks_then}
 use Rattle.gb_folder.specs.Files.{Contents}
+use Rattle.gb_tree.specs.Answered.{WasSeen}
 use Rattle.gb_tree.specs.Reading.{IsSeenIn, is_digest_of}
 use Rattle.gb_tree.specs.Tree.{is_among, is_large, too_large}
 use Rattle.gb_tree.specs.declared.fault.TreeFault.TheVariants as faults
 use Rattle.gb_tree.specs.declared.kept.SeenFile.{SeenFile}
+use Rattle.gb_tree.proofs.Answering.{all_seen_longer, seen_longer}
 use Rattle.gb_tree.proofs.Blame.{at_entry, blamed_before}
 use Rattle.gb_tree.proofs.Loops.{step_here}
 use Rattle.gb_tree.proofs.Seen.{each_more, placed_more, seen_sorted, test_more}
@@ -38,6 +40,9 @@ loop-path-preserved g c =
     record {
       asks = asks_then old.invariant.asks c.see_file.ensures.asks;
       same = λ tells. c.see_file.ensures.same tells ∙ old.invariant.same tells;
+      answered = each_more (WasSeen g.F.Folder.failures g.F.Folder.may_leave g.F.Folder.asked c.args.folder.now c.see_file.new.folder) old.seen.items _ x added
+          (all_seen_longer (asks_nothing c.args.folder.now) c.see_file.ensures.asks old.seen.items old.invariant.answered)
+          (seen_longer old.invariant.asks (asks_nothing c.see_file.new.folder) x c.in_ok-see_file.ensures.answered);
       placed = placed_more entries i e old.seen.items _ x within is added c.in_ok-see_file.ensures.path c.in_ok-see_file.ensures.place old.invariant.placed;
       digested = test_more (λ (file : SeenFile). is_digest_of file.kept file.digest) old.seen.items _ x added old.invariant.digested c.in_ok-see_file.ensures.digested;
       each = λ tells. each_more (IsSeenIn files) old.seen.items _ x added (old.invariant.each tells) (is_seen tells);

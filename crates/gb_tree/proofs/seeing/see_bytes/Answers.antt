@@ -1,4 +1,4 @@
-use Rattle.std.proofs.Common.{arith, ◌≡◌, ◌⊎◌, ◌+◌, ◌*◌, ◌++◌, ℕ, List, inl, inr, true, IfErr, IsTrue, Some, take, sym, ◌∙◌, ap, subst}
+use Rattle.std.proofs.Common.{arith, ◌≡◌, ◌⊎◌, ◌+◌, ◌*◌, ◌++◌, ℕ, List, [], length, inl, inr, true, IfErr, IsTrue, Some, take, sym, ◌∙◌, ap, subst}
 use Rattle.std.proofs.lemmas.List.{take_all}
 use Rattle.std.proofs.lemmas.Result.{err_from_is_err_and}
 use Rattle.std.specs.Prelude.{IsSome}
@@ -8,8 +8,9 @@ use Rattle.gb_folder.proofs.Asked.{asks_then}
 use Rattle.gb_folder.specs.Files.{Contents, file_at}
 use Rattle.gb_tree.specs.declared.fault.TreeFault.TheVariants as faults
 use Rattle.gb_tree.specs.Tree.{IsTreeFaultOfMachine, bytes_at, is_large}
-use Rattle.gb_tree.proofs.Pieces.{same_piece, one_more, last_piece, whole, whole_digest, within_file, nothing_after, something_after, not_large, is_too_large, is_none, is_some}
+use Rattle.gb_tree.proofs.Pieces.{same_piece, one_more, last_piece, whole, whole_digest, within_file, nothing_after, something_after, not_large, is_too_large, is_none, is_nothing, is_some}
 use Rattle.gb_tree.proofs.Refused.{at_err, machine_before}
+use Rattle.gb_tree.proofs.Gathering.{IsSoFar, last_part, nothing_more, one_part_more}
 use Rattle.gb_tree.proofs.seeing.see_bytes.Goals as goal
 
 pub returns-in_err-piece-clause-err : goal.returns-in_err-piece-clause-err
@@ -22,6 +23,19 @@ returns-in_err-piece-clause-err g c = λ tells stands.
     c.from_residual.result p.0 c.in_err-piece.field-0.0 p.1 p.2
     (inl (machine_before _ _ _ _ c.loop-index.invariant.asks.count c.in_err-piece.ensures.asks.count
     (c.in_err-piece.ensures.err tells (subst (λ (now : Contents). IsSome (file_at now.files place)) (sym (c.loop-index.invariant.same tells)) stands))))
+
+pub returns-then-len-lt-PIECE-clause-answered : goal.returns-then-len-lt-PIECE-clause-answered
+returns-then-len-lt-PIECE-clause-answered g c =
+    let old = c.loop-index in
+    let piece = c.in_ok-piece.piece.items in
+    last_part c.args.place.now (old.index * 65536) 65536 old.hasher old.is_whole old.gathered.items piece _ _
+    old.invariant.so_far old.invariant.asks c.in_ok-piece.ensures.asks c.in_ok-piece.ensures.answered
+    (omega (arith, c.len-len.ensures, c.if-len-lt-PIECE.true))
+    (λ bytes holds. c.finalize.ensures _ (c.update.ensures bytes holds) ∙ ap (λ (part : List ℕ). sha256 (bytes ++ part)) c.as_slice.ensures.value)
+    (elim c.keep.ensures [
+      | inl none ↦ inl none
+      | inr kept ↦ inr (c.in_ok-is_whole.ensures.whole kept.0, kept.1 ∙ ap Some (c.in_ok-is_whole.ensures.gathered kept.0))
+    ])
 
 pub returns-then-len-lt-PIECE-clause-digest : goal.returns-then-len-lt-PIECE-clause-digest
 returns-then-len-lt-PIECE-clause-digest g c = λ tells.
@@ -64,6 +78,11 @@ loop-index-preserved g c =
     record {
       asks = asks_then old.invariant.asks c.in_ok-piece.ensures.asks;
       same = λ tells. c.in_ok-piece.ensures.same tells ∙ old.invariant.same tells;
+      so_far = one_part_more c.args.place.now at ((old.index + 1) * 65536) old.hasher c.update.new.self old.is_whole _ old.gathered.items _ piece
+          old.invariant.so_far old.invariant.asks c.in_ok-piece.ensures.asks c.in_ok-piece.ensures.answered
+          (omega (arith, c.in_ok-piece.ensures.within, c.len-len.ensures, c.if-len-lt-PIECE.false))
+          (λ bytes holds. subst (λ (part : List ℕ). Holds256 c.update.new.self (bytes ++ part)) c.as_slice.ensures.value (c.update.ensures bytes holds))
+          c.in_ok-is_whole.ensures.whole c.in_ok-is_whole.ensures.gathered;
       most = omega (arith, c.loop-index-test.true);
       more = λ tells.
           let far = within_file at bytes piece (old.invariant.more tells) (is tells) (omega (arith, c.len-len.ensures, c.if-len-lt-PIECE.false)) in
@@ -93,6 +112,22 @@ returns-in_err-more-clause-err g c = λ tells stands.
 
 pub returns-then-is_empty-clause-same : goal.returns-then-is_empty-clause-same
 returns-then-is_empty-clause-same g c = λ tells. c.in_ok-more.ensures.same tells ∙ c.loop-index.invariant.same tells
+
+pub returns-then-is_empty-clause-answered : goal.returns-then-is_empty-clause-answered
+returns-then-is_empty-clause-answered g c =
+    let old = c.loop-index in
+    let at : old.index * 65536 ≡ 8388608 = omega (arith, old.invariant.most, c.loop-index-test.false) in
+    let more = c.in_ok-more.more.items in
+    let none : more ≡ [] = is_nothing more (sym (ap length c.as_slice-2.ensures.value) ∙ is_none _ c.if-is_empty.ensures) in
+    last_part c.args.place.now 8388608 1 old.hasher old.is_whole old.gathered.items more _ _
+    (subst (λ (n : ℕ). IsSoFar g.F.Folder.failures g.F.Folder.may_leave g.F.Folder.asked c.args.folder.now old.folder c.args.place.now n old.hasher old.is_whole old.gathered.items) at old.invariant.so_far)
+    old.invariant.asks c.in_ok-more.ensures.asks c.in_ok-more.ensures.answered
+    (omega (arith, ap length none))
+    (λ bytes holds. c.finalize-then-is_empty.ensures bytes holds ∙ ap sha256 (nothing_more bytes more none))
+    (elim c.keep-then-is_empty.ensures [
+      | inl none ↦ inl none
+      | inr kept ↦ inr (kept.0, kept.1 ∙ ap Some (nothing_more old.gathered.items more none))
+    ])
 
 pub returns-then-is_empty-clause-digest : goal.returns-then-is_empty-clause-digest
 returns-then-is_empty-clause-digest g c = λ tells.

@@ -1,22 +1,25 @@
-use Rattle.std.proofs.Common.{◌≡◌, ◌≤◌, ◌<◌, length, get_or, ◌++◌, List, map, IsTrue, IfErr, sym, ap, subst, ◌∙◌, inl, inr, arith}
+use Rattle.std.proofs.Common.{◌≡◌, ◌≤◌, ◌<◌, length, get_or, ◌++◌, List, map, IsTrue, IfErr, sym, ap, subst, take, ◌∙◌, inl, inr, arith}
 use Rattle.std.proofs.lemmas.Result.{err_from_is_err_and}
 use Rattle.std.proofs.lemmas.List.{take_all}
 use Rattle.std.specs.List.{AllByRecursion, AllZip}
 use Rattle.gb_core.specs.Lists.{first_of}
 use Rattle.gb_core.specs.Place.{is_under}
-use Rattle.gb_folder.proofs.Asked.{asks_then}
+use Rattle.gb_folder.proofs.Asked.{asks_nothing, asks_then}
 use Rattle.gb_folder.specs.Files.{Contents}
 use Rattle.gb_history.specs.Remembered.{Prints}
 use Rattle.gb_report.specs.declared.fault.Fault.{Fault}
 use Rattle.gb_plan.specs.declared.task.FileProperty.{FileProperty}
 use Rattle.gb_store.proofs.Machine.{at_err, handed_on, machine_before}
+use Rattle.gb_tree.proofs.Answering.{all_zip_more}
 use Rattle.gb_tree.proofs.Holding.{all_wider}
 use Rattle.gb_tree.proofs.Seen.{each_more}
 use Rattle.gb_tree.specs.Prints.{digests_of}
 use Rattle.gb_tree.specs.Property.{is_under_any}
 use Rattle.gb_tree.specs.declared.kept.SeenFile.{SeenFile}
 use Rattle.gb_meaning.specs.Tree.{tree_faults, tree_of, input_faults}
+use Rattle.gb_turn.specs.Answered.{IsInputAnswered}
 use Rattle.gb_turn.specs.Reading.{CannotRead, IsPropertySeen, Read, is_input_of}
+use Rattle.gb_turn.proofs.Answering.{input_longer}
 use Rattle.gb_turn.proofs.Loops.{any_of_one, one_more, name_more, first_of_all, twice}
 use Rattle.gb_turn.proofs.Readings.{prints_more, seen_more}
 use Rattle.gb_turn.proofs.inputs.read_inputs.Goals as goal
@@ -72,6 +75,15 @@ loop-property-preserved g c =
           each_more (λ (reading : Read). AllByRecursion (λ seen. IsTrue (is_input_of task seen.place)) reading.1) readings next x added so_far.within
           (all_wider (λ (seen : SeenFile). IsTrue (is_under_any item.roots seen.place)) (λ (seen : SeenFile). IsTrue (is_input_of task seen.place)) x.1
           (λ seen under. any_of_one (is_under seen.place) (λ property. property.roots) files index item less is under) one.within);
+      answered =
+          let F = g.F.Folder in
+          let before = c.args.folder.now in
+          let now = c.read_one.new.folder in
+          let Answered : FileProperty → Read → Type 0 = IsInputAnswered F.failures F.may_leave F.asked before now in
+          seen_more Answered files readings next index item x less is added
+          (all_zip_more (IsInputAnswered F.failures F.may_leave F.asked before c.loop-property.folder) Answered (input_longer (asks_nothing before) c.read_one.ensures.asks)
+          (take index files) readings so_far.answered)
+          (input_longer so_far.asks (asks_nothing now) item x one.answered);
       prints = λ tells.
           prints_more told readings next x files index item less is added one.named (one.digests tells ∙ ap (λ folder. digests_of (tree_of item folder.files)) (so_far.same tells)) (so_far.prints tells);
       seen = λ tells.
@@ -109,3 +121,12 @@ returns-clause-seen g c = λ tells.
     let index = c.loop-property.property-index in
     let long : length files ≤ index = omega (arith, c.loop-property-test.false, ap length c.as_slice-property-items.ensures) in
     subst (λ (fs : List FileProperty). AllZip (IsPropertySeen old.files) fs c.loop-property.readings.items) (take_all index files long) (c.loop-property.invariant.seen tells)
+
+pub returns-clause-answered : goal.returns-clause-answered
+returns-clause-answered g c =
+    let F = g.F.Folder in
+    let files = c.args.task.now.files in
+    let index = c.loop-property.property-index in
+    let long : length files ≤ index = omega (arith, c.loop-property-test.false, ap length c.as_slice-property-items.ensures) in
+    subst (λ (fs : List FileProperty). AllZip (IsInputAnswered F.failures F.may_leave F.asked c.args.folder.now c.loop-property.folder) fs c.loop-property.readings.items)
+    (take_all index files long) c.loop-property.invariant.answered

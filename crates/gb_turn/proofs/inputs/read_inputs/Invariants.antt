@@ -3,6 +3,7 @@ use Rattle.std.specs.List.{AllZip, flat_map}
 use Rattle.gb_folder.specs.Calls.{Asks, no_change}
 use Rattle.gb_tree.specs.Prints.{digests_of}
 use Rattle.gb_meaning.specs.Tree.{tree_faults, tree_of}
+use Rattle.gb_turn.specs.Answered.{IsInputAnswered}
 use Rattle.gb_turn.specs.Reading.{AreWithin, IsPropertySeen, is_input_of, prints_read}
 use Rattle.gb_turn.proofs.inputs.read_inputs.Given as goal
 
@@ -16,6 +17,7 @@ invariant-loop-property g l =
       same : IsTrue g.F.Folder.tells → contents l.folder ≡ old;
       named : map (λ reading. reading.0) l.readings.items ≡ map (λ property. property.name) done;
       within : AreWithin (is_input_of l.task) l.readings.items;
+      answered : AllZip (IsInputAnswered g.F.Folder.failures g.F.Folder.may_leave g.F.Folder.asked l.fn.folder l.folder) done l.readings.items;
       prints : IsTrue g.F.Folder.tells → prints_read l.readings.items ≡ map (λ property. (property.name, digests_of (tree_of property old.files))) done;
       seen : IsTrue g.F.Folder.tells → AllZip (IsPropertySeen old.files) done l.readings.items;
       fit : IsTrue g.F.Folder.tells → flat_map (λ property. tree_faults property old) done ≡ [];

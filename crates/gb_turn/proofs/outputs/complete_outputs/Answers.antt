@@ -5,10 +5,10 @@ use Rattle.std.proofs.lemmas.Iterator.Consumers.{YieldsList-at, YieldsList-end, 
 use Rattle.std.proofs.lemmas.List.{length_push, map-append, take_all}
 use Rattle.std.proofs.lemmas.Result.{err_from_is_err_and}
 use Rattle.std.specs.Iterator.Adapters.{zip_second}
-use Rattle.std.specs.List.{AllByRecursion, zip}
+use Rattle.std.specs.List.{AllByRecursion, AllZip, zip}
 use Rattle.gb_action.specs.declared.output.Form.{Form}
 use Rattle.gb_action.specs.declared.output.OutputFiles.{OutputFiles}
-use Rattle.gb_folder.proofs.Asked.{asks_then}
+use Rattle.gb_folder.proofs.Asked.{asks_nothing, asks_then}
 use Rattle.gb_folder.specs.Files.{Contents}
 use Rattle.gb_history.specs.Remembered.{Prints}
 use Rattle.gb_plan.specs.Task.{is_output_of}
@@ -16,11 +16,14 @@ use Rattle.gb_plan.specs.declared.task.Output.{Output}
 use Rattle.gb_store.proofs.Loops.{all_at}
 use Rattle.gb_store.proofs.Machine.{at_err, handed_on, machine_before}
 use Rattle.gb_store.specs.Faults.{IsOfMachine}
+use Rattle.gb_tree.proofs.Answering.{all_zip_more}
 use Rattle.gb_tree.specs.Prints.{digests_of}
 use Rattle.gb_tree.specs.Reading.{entries_seen}
 use Rattle.gb_tree.specs.Tree.{contents_at}
+use Rattle.gb_turn.specs.Answered.{IsOutputAnswered, IsOutputRead}
 use Rattle.gb_turn.specs.Reading.{Read}
-use Rattle.gb_turn.proofs.Readings.{Stands, among_within, form_of, gathered_more, mapped_more, output_is, output_made, outputs_made, pair_is, pairs_formed, pairs_named, pairs_stand, pairs_within}
+use Rattle.gb_turn.proofs.Answering.{files_read_longer, firsts_made, output_completed, pairs_all}
+use Rattle.gb_turn.proofs.Readings.{Stands, among_within, form_of, gathered_more, mapped_more, output_is, output_made, outputs_made, pair_is, pairs_formed, pairs_named, pairs_stand, pairs_within, seen_more}
 use Rattle.gb_turn.proofs.outputs.complete_outputs.Goals as goal
 
 pub returns-in_err-files-clause-blamed : goal.returns-in_err-files-clause-blamed
@@ -88,6 +91,17 @@ loop-output-preserved g c =
       digests =
           mapped_more (λ (output : OutputFiles). let p : Prints = (output.name, digests_of output.files) in p) seen c.push-in-loop-output.new.self made c.loop-output.prints.items c.push.new.self.items found so_far.digests c.in_ok-push.ensures.items more
           (one.digests ∙ ap (λ (name : List ℕ). let p : Prints = (name, digests_of made.files) in p) (named ∙ sym one.named));
+      answered = λ first asks were.
+          let F = g.F.Folder in
+          let now = c.complete_one.new.folder in
+          let Done : Output × Read → OutputFiles → Type 0 = λ pair files. IsOutputRead F.failures F.may_leave F.asked first now pair.0 files in
+          let SoFar : Output × Read → OutputFiles → Type 0 = λ pair files. IsOutputRead F.failures F.may_leave F.asked first c.loop-output.folder pair.0 files in
+          let Answered : Output → Read → Type 0 = IsOutputAnswered F.failures F.may_leave F.asked first c.args.folder.now in
+          let was = all_at (λ (pair : Output × Read). Answered pair.0 pair.1) pairs n x turn.0 turn.1 (pairs_all Answered outputs readings were) in
+          subst (λ (k : ℕ). AllZip Done (take k pairs) c.push-in-loop-output.new.self) next
+          (seen_more Done pairs seen c.push-in-loop-output.new.self n x made turn.0 turn.1 more
+          (all_zip_more SoFar Done (λ pair. files_read_longer (asks_nothing first) c.complete_one.ensures.asks pair.0) (take n pairs) seen (so_far.answered first asks were))
+          (output_completed so_far.asks c.complete_one.ensures.asks x.0 x.1 made (one.answered first (asks_then asks so_far.asks)) was));
       files = λ tells all.
           let stands = all_at (λ (pair : Output × Read). Stands old pair.1) pairs n x turn.0 turn.1 all in
           gathered_more (output_made old) seen c.push-in-loop-output.new.self made pairs n x turn.0 turn.1 more
@@ -119,3 +133,17 @@ returns-clause-files g c = λ tells seen.
     c.loop-output.invariant.files tells (pairs_stand old outputs readings seen)
     ∙ ap (map (output_made old)) (take_all (length c.loop-output.yielded) pairs (omega (arith, end.1)))
     ∙ outputs_made old outputs readings seen
+
+pub returns-clause-answered : goal.returns-clause-answered
+returns-clause-answered g c = λ first asks were.
+    let F = g.F.Folder in
+    let outputs = c.args.task.now.outputs in
+    let readings = c.args.readings.items in
+    let pairs = zip outputs readings in
+    let gives = c.zip-output-items.ensures.second in
+    let road = YieldsList-at c.into_iter-output-iterator.ensures.into_iter_gives (YieldsList-from_zip (YieldsList-at c.zip-output-items.ensures.first (YieldsList-from_slice outputs (c.iter.ensures.rest ∙ c.as_slice.ensures))) (YieldsList-from_vec {s = zip_second c.zip-output-items.result} readings gives.0 (gives.1 ∙ c.args.readings.ok.0))) in
+    let end = YieldsList-end road c.loop-output.yielded c.loop-output.output-iterator c.loop-output.yielded_by c.next.result c.next.new.self c.in-None.is c.next.ensures.steps in
+    let Done : Output → OutputFiles → Type 0 = IsOutputRead F.failures F.may_leave F.asked first c.loop-output.folder in
+    firsts_made (IsOutputAnswered F.failures F.may_leave F.asked first c.args.folder.now) Done outputs readings c.loop-output.seen were
+    (subst (λ (ps : List (Output × Read)). AllZip (λ pair files. Done pair.0 files) ps c.loop-output.seen)
+    (take_all (length c.loop-output.yielded) pairs (omega (arith, end.1))) (c.loop-output.invariant.answered first asks were))

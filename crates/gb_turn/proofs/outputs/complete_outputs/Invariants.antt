@@ -1,6 +1,7 @@
 use Rattle.std.proofs.Common.{◌≡◌, ◌≤◌, IsTrue, length, map, take}
-use Rattle.std.specs.List.{AllByRecursion, zip}
+use Rattle.std.specs.List.{AllByRecursion, AllZip, zip}
 use Rattle.gb_folder.specs.Calls.{Asks, no_change}
+use Rattle.gb_turn.specs.Answered.{IsOutputAnswered, IsOutputRead}
 use Rattle.gb_turn.specs.Reading.{prints_seen}
 use Rattle.gb_turn.proofs.Readings.{Stands, form_of, output_made}
 use Rattle.gb_turn.proofs.outputs.complete_outputs.Given as goal
@@ -18,5 +19,8 @@ invariant-loop-output g l =
       same : IsTrue g.F.Folder.tells → contents l.folder ≡ contents l.fn.folder;
       formed : map (λ output. (output.name, output.form)) l.seen ≡ map form_of done;
       digests : l.prints.items ≡ prints_seen l.seen;
+      answered : (first : _) → Asks g.F.Folder.failures g.F.Folder.may_leave g.F.Folder.asked no_change first l.fn.folder
+          → AllZip (IsOutputAnswered g.F.Folder.failures g.F.Folder.may_leave g.F.Folder.asked first l.fn.folder) l.task.outputs l.fn.readings.items
+          → AllZip (λ pair seen. IsOutputRead g.F.Folder.failures g.F.Folder.may_leave g.F.Folder.asked first l.folder pair.0 seen) done l.seen;
       files : IsTrue g.F.Folder.tells → AllByRecursion (λ pair. Stands old pair.1) pairs → l.seen ≡ map (output_made old) done;
     }

@@ -1,10 +1,10 @@
-use Rattle.std.proofs.Common.{◌≡◌, ◌≤◌, ◌<◌, length, get_or, ◌++◌, List, map, IsTrue, IfErr, sym, ap, subst, ◌∙◌, inl, inr, arith}
+use Rattle.std.proofs.Common.{◌≡◌, ◌≤◌, ◌<◌, length, get_or, ◌++◌, List, map, IsTrue, IfErr, sym, ap, subst, take, ◌∙◌, inl, inr, arith}
 use Rattle.std.proofs.lemmas.Result.{err_from_is_err_and}
 use Rattle.std.proofs.lemmas.List.{take_all}
 use Rattle.std.specs.List.{AllByRecursion, AllZip, flat_map}
 use Rattle.gb_core.specs.Lists.{first_of}
 use Rattle.gb_core.specs.Place.{is_under}
-use Rattle.gb_folder.proofs.Asked.{asks_then}
+use Rattle.gb_folder.proofs.Asked.{asks_nothing, asks_then}
 use Rattle.gb_folder.specs.Files.{Contents}
 use Rattle.gb_history.specs.Remembered.{Prints}
 use Rattle.gb_report.specs.declared.fault.Fault.{Fault}
@@ -12,12 +12,15 @@ use Rattle.gb_plan.specs.Task.{is_output_of}
 use Rattle.gb_plan.specs.declared.task.Output.{Output}
 use Rattle.gb_store.proofs.Machine.{at_err, handed_on, machine_before}
 use Rattle.gb_store.proofs.Loops.{any_here}
+use Rattle.gb_tree.proofs.Answering.{all_zip_more}
 use Rattle.gb_tree.proofs.Holding.{all_wider}
 use Rattle.gb_tree.proofs.Seen.{each_more}
 use Rattle.gb_tree.specs.Prints.{digests_of}
 use Rattle.gb_tree.specs.Tree.{files_from}
 use Rattle.gb_tree.specs.declared.kept.SeenFile.{SeenFile}
+use Rattle.gb_turn.specs.Answered.{IsOutputAnswered}
 use Rattle.gb_turn.specs.Reading.{CannotRead, IsOutputSeen, Read, print_faults, recorded_of}
+use Rattle.gb_turn.proofs.Answering.{output_longer}
 use Rattle.gb_turn.proofs.Loops.{one_more, name_more, first_of_all, twice}
 use Rattle.gb_turn.proofs.Readings.{prints_more, seen_more}
 use Rattle.gb_turn.proofs.outputs.read_outputs.Goals as goal
@@ -73,6 +76,15 @@ loop-output-preserved g c =
           each_more (λ (reading : Read). AllByRecursion (λ seen. IsTrue (is_output_of task seen.place)) reading.1) readings next x added so_far.within
           (all_wider (λ (seen : SeenFile). IsTrue (is_under seen.place item.place)) (λ (seen : SeenFile). IsTrue (is_output_of task seen.place)) x.1
           (λ seen under. any_here (λ (output : Output). is_under seen.place output.place) outputs index item less is under) one.within);
+      answered =
+          let F = g.F.Folder in
+          let before = c.args.folder.now in
+          let now = c.read_one.new.folder in
+          let Answered : Output → Read → Type 0 = IsOutputAnswered F.failures F.may_leave F.asked before now in
+          seen_more Answered outputs readings next index item x less is added
+          (all_zip_more (IsOutputAnswered F.failures F.may_leave F.asked before c.loop-output.folder) Answered (output_longer (asks_nothing before) c.read_one.ensures.asks)
+          (take index outputs) readings so_far.answered)
+          (output_longer so_far.asks (asks_nothing now) item x one.answered);
       prints = λ tells.
           prints_more told readings next x outputs index item less is added one.named (one.digests tells ∙ ap (λ folder. digests_of (files_from folder.files item.place)) (so_far.same tells)) (so_far.prints tells);
       seen = λ tells.
@@ -110,3 +122,12 @@ returns-clause-seen g c = λ tells.
     let index = c.loop-output.output-index in
     let long : length outputs ≤ index = omega (arith, c.loop-output-test.false, ap length c.as_slice-output-items.ensures) in
     subst (λ (os : List Output). AllZip (IsOutputSeen old.files) os c.loop-output.readings.items) (take_all index outputs long) (c.loop-output.invariant.seen tells)
+
+pub returns-clause-answered : goal.returns-clause-answered
+returns-clause-answered g c =
+    let F = g.F.Folder in
+    let outputs = c.args.task.now.outputs in
+    let index = c.loop-output.output-index in
+    let long : length outputs ≤ index = omega (arith, c.loop-output-test.false, ap length c.as_slice-output-items.ensures) in
+    subst (λ (os : List Output). AllZip (IsOutputAnswered F.failures F.may_leave F.asked c.args.folder.now c.loop-output.folder) os c.loop-output.readings.items)
+    (take_all index outputs long) c.loop-output.invariant.answered

@@ -1,0 +1,59 @@
+-- What a task's label goes by, as calls answered it, over any folder.
+use Rattle.std.specs.Prelude.{ℕ, ◌≡◌, List, Option, Some, ⊤}
+use Rattle.gb_folder.specs.Calls.{Call}
+use Rattle.gb_folder.specs.Files.{Tearing}
+use Rattle.gb_history.specs.Decision.{DecidesFrom}
+use Rattle.gb_history.specs.Remembered.{Prints, Remembered}
+use Rattle.gb_history.specs.declared.decide.Decision.{Decision}
+use Rattle.gb_history.specs.declared.decide.Decision.TheVariants as decisions
+use Rattle.gb_history.specs.declared.decide.Present.{Present}
+use Rattle.gb_plan.specs.declared.task.TaskDeclaration.{TaskDeclaration as Task}
+use Rattle.gb_report.specs.declared.report.Options.{Options}
+use Rattle.gb_turn.specs.Answered.{AreInputsAnswered, AreOutputsAnswered}
+use Rattle.gb_turn.specs.Reading.{AreInputs, AreOutputs, Read, prints_read, records_with}
+use Rattle.gb_label.specs.Deciding.{IsPresentOf}
+use Rattle.gb_label.specs.declared.look.Look.{Look}
+use Rattle.gb_label.specs.declared.look.Look.TheVariants as looks
+use Rattle.gb_label.specs.declared.prepare.Prepared.{Prepared}
+use Rattle.gb_label.specs.declared.prepare.Prepared.TheVariants as prepared
+
+-- where its record is to decide, its inputs were answered
+abbrev pub WasLookedAt : {F : Type 0} → (F → ℕ) → (F → Tearing) → (F → Call → F → Type 0) → F → F → Task
+    → Look → Type 0
+WasLookedAt failures may_leave asked old new task looks.Skips = ⊤
+WasLookedAt failures may_leave asked old new task looks.HasNoActions = ⊤
+WasLookedAt failures may_leave asked old new task looks.HasNoSource = ⊤
+WasLookedAt failures may_leave asked old new task (looks.Goes inputs) =
+    AreInputsAnswered failures may_leave asked old new task inputs.items
+
+-- The record that was read finds the task up to date on inputs and outputs with these digests.
+pub record IsFoundCurrent (options : Options) (task : Task) (last : Option Remembered)
+    (inputs outputs : List Prints) : Type 0 where
+  pub run : Remembered
+  pub read : last ≡ Some run
+  pub present : Present
+  pub has : IsPresentOf options task inputs (records_with task.outputs outputs) present
+  pub decides : DecidesFrom run present decisions.UpToDate
+
+-- What was decided on: outputs that were answered, where the decision goes by them; and what is up to date
+-- was found so on just these and these inputs.
+abbrev pub WasDecided : {F : Type 0} → (F → ℕ) → (F → Tearing) → (F → Call → F → Type 0) → F → F → Options
+    → Task → Option Remembered → List Read → Decision → List Read → Type 0
+WasDecided failures may_leave asked old new options task last inputs decisions.UpToDate outputs =
+    AreOutputs task outputs × AreOutputsAnswered failures may_leave asked old new task outputs
+    × IsFoundCurrent options task last (prints_read inputs) (prints_read outputs)
+WasDecided failures may_leave asked old new options task last inputs (decisions.Incremental changes) outputs =
+    AreOutputsAnswered failures may_leave asked old new task outputs
+WasDecided failures may_leave asked old new options task last inputs decisions.Full outputs = ⊤
+
+-- what a turn is prepared for goes by what was answered
+abbrev pub WasPrepared : {F : Type 0} → (F → ℕ) → (F → Tearing) → (F → Call → F → Type 0) → F → F → Options
+    → Task → Option Remembered → Prepared → Type 0
+WasPrepared failures may_leave asked old new options task last prepared.Skips = ⊤
+WasPrepared failures may_leave asked old new options task last prepared.HasNoActions = ⊤
+WasPrepared failures may_leave asked old new options task last prepared.HasNoSource = ⊤
+WasPrepared failures may_leave asked old new options task last (prepared.Decided decision seen) =
+    AreInputs task seen.inputs.items
+    × AreInputsAnswered failures may_leave asked old new task seen.inputs.items
+    × WasDecided failures may_leave asked old new options task last seen.inputs.items decision
+    seen.outputs.items

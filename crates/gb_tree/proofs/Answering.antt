@@ -1,0 +1,53 @@
+-- Files that were listed and read on a part of the way were so on all of it.
+use Rattle.std.proofs.Common.{ℕ, List, [], ◌∷◌, inl, inr}
+use Rattle.std.specs.List.{AllZip}
+use Rattle.gb_folder.specs.Answers.{WereListed}
+use Rattle.gb_folder.specs.Calls.{Asks, Call, no_change}
+use Rattle.gb_folder.specs.Files.{Files, Place, Tearing}
+use Rattle.gb_folder.proofs.Answering.{on_longer_way, read_longer}
+use Rattle.gb_tree.specs.Answered.{AreEntriesListed, AreOutputEntriesListed, IsFileRead, IsTreeRead, WasSeen, WereSeen}
+use Rattle.gb_tree.specs.Tree.{Entries}
+use Rattle.gb_tree.specs.declared.kept.SeenFile.{SeenFile}
+use Rattle.gb_tree.specs.declared.property.Naming.{Naming}
+
+-- what follows pair by pair follows for two rows
+pub all_zip_more : {A B : Type 0} (some more : A → B → Type 0) → ((a : A) (b : B) → some a b → more a b) → (xs : List A) (ys : List B)
+    → AllZip some xs ys → AllZip more xs ys
+all_zip_more some more step [] [] all = all
+all_zip_more some more step [] (y ∷ ys) all = all
+all_zip_more some more step (x ∷ xs) [] all = all
+all_zip_more some more step (x ∷ xs) (y ∷ ys) all = (step x y all.0, all_zip_more some more step xs ys all.1)
+
+module _ {F : Type 0} {failures : F → ℕ} {may_leave : F → Tearing} {asked : F → Call → F → Type 0} where
+  pub seen_longer : {first old new end : F} → Asks failures may_leave asked no_change first old → Asks failures may_leave asked no_change new end
+      → (seen : SeenFile) → WasSeen failures may_leave asked old new seen → WasSeen failures may_leave asked first end seen
+  seen_longer before behind seen was = (was.0, read_longer before behind seen.place was.0 was.1, was.2, was.3)
+
+  pub all_seen_longer : {first old new end : F} → Asks failures may_leave asked no_change first old → Asks failures may_leave asked no_change new end
+      → (files : List SeenFile) → WereSeen failures may_leave asked old new files → WereSeen failures may_leave asked first end files
+  all_seen_longer before behind [] all = all
+  all_seen_longer before behind (seen ∷ files) all = (seen_longer before behind seen all.0, all_seen_longer before behind files all.1)
+
+  pub entries_longer : {first old new end : F} → Asks failures may_leave asked no_change first old → Asks failures may_leave asked no_change new end
+      → (naming : Naming) (roots : List Place) (include exclude : List (List ℕ)) (entries : Entries)
+      → AreEntriesListed failures may_leave asked naming roots include exclude old new entries
+      → AreEntriesListed failures may_leave asked naming roots include exclude first end entries
+  entries_longer {first = first} {old = old} {new = new} {end = end} before behind naming roots include exclude entries were = record {
+    listings = were.listings;
+    listed = all_zip_more (WereListed failures may_leave asked old new) (WereListed failures may_leave asked first end)
+        (λ root places was. on_longer_way before behind was) _ were.listings were.listed;
+    are = were.are;
+  }
+
+  pub output_entries_longer : {first old new end : F} → Asks failures may_leave asked no_change first old → Asks failures may_leave asked no_change new end
+      → (root : Place) (entries : Entries) → AreOutputEntriesListed failures may_leave asked old new root entries
+      → AreOutputEntriesListed failures may_leave asked first end root entries
+  output_entries_longer before behind root entries (inl own) = inl own
+  output_entries_longer before behind root entries (inr were) = inr (were.0, on_longer_way before behind were.1, were.2)
+
+  pub tree_longer : {first old new end : F} → Asks failures may_leave asked no_change first old → Asks failures may_leave asked no_change new end
+      → (entries : Entries) (files : Files) → IsTreeRead failures may_leave asked old new entries files
+      → IsTreeRead failures may_leave asked first end entries files
+  tree_longer {first = first} {old = old} {new = new} {end = end} before behind entries files was =
+      all_zip_more (IsFileRead failures may_leave asked old new) (IsFileRead failures may_leave asked first end)
+      (λ entry file is. (is.0, read_longer before behind entry.1 file.1 is.1)) entries files was

@@ -1,0 +1,60 @@
+-- Files as calls answered them, over any folder: listed, and read.
+use Rattle.std.specs.Prelude.{ℕ, ◌≡◌, ◌⊎◌, true, List, []}
+use Rattle.std.specs.List.{AllByRecursion, AllZip, flat_map, zip}
+use Rattle.gb_folder.specs.Answers.{WereListed, WereRead}
+use Rattle.gb_folder.specs.Calls.{Call}
+use Rattle.gb_folder.specs.Files.{Bytes, Files, Place, Tearing, is_own}
+use Rattle.gb_tree.specs.Property.{distinct, entries_in, in_order}
+use Rattle.gb_tree.specs.Reading.{KeepsOnly}
+use Rattle.gb_tree.specs.Tree.{Entries, entries_from}
+use Rattle.gb_tree.specs.declared.kept.SeenFile.{SeenFile}
+use Rattle.gb_tree.specs.declared.property.Naming.{Naming}
+use Rattle.sha2.specs.Sha256.{sha256}
+
+-- what belongs to a property, of the places that were answered as all at or beneath each root
+abbrev pub listed_in : Naming → List (List ℕ) → List (List ℕ) → List (Place × List Place) → Entries
+listed_in naming include exclude listings =
+    flat_map (λ listing. entries_in naming include exclude listing.0 listing.1) listings
+
+-- The entries of a property: of what was answered as all at or beneath each of its roots, what belongs to it.
+pub record AreEntriesListed {F : Type 0} (failures : F → ℕ) (may_leave : F → Tearing)
+    (asked : F → Call → F → Type 0) (naming : Naming) (roots : List Place) (include exclude : List (List ℕ))
+    (old new : F) (entries : Entries) : Type 0 where
+  pub listings : List (List Place)
+  pub listed : AllZip (WereListed failures may_leave asked old new) (distinct roots) listings
+  pub are : entries
+      ≡ in_order (listed_in naming include exclude (zip (distinct roots) listings))
+
+-- those of an output: what was answered as all at or beneath its place; in the tool's own folder there are
+-- none
+abbrev pub AreOutputEntriesListed : {F : Type 0} → (F → ℕ) → (F → Tearing) → (F → Call → F → Type 0) → F → F
+    → Place → Entries → Type 0
+AreOutputEntriesListed failures may_leave asked old new root entries =
+    ((is_own root ≡ true) × (entries ≡ []))
+    ⊎ ((places : List Place) × WereListed failures may_leave asked old new root places
+    × (entries ≡ entries_from root places))
+
+-- the bytes of the file were answered: the digest is theirs, and no others are kept
+abbrev pub WasSeen : {F : Type 0} → (F → ℕ) → (F → Tearing) → (F → Call → F → Type 0) → F → F → SeenFile
+    → Type 0
+WasSeen failures may_leave asked old new seen =
+    (bytes : Bytes) × WereRead failures may_leave asked old new seen.place bytes
+    × (seen.digest ≡ sha256 bytes) × KeepsOnly bytes seen.kept
+
+-- those of each file were
+abbrev pub WereSeen : {F : Type 0} → (F → ℕ) → (F → Tearing) → (F → Call → F → Type 0) → F → F → List SeenFile
+    → Type 0
+WereSeen failures may_leave asked old new files =
+    AllByRecursion (WasSeen failures may_leave asked old new) files
+
+-- the file of an entry, with bytes that were answered
+abbrev pub IsFileRead : {F : Type 0} → (F → ℕ) → (F → Tearing) → (F → Call → F → Type 0) → F → F
+    → List ℕ × Place → List ℕ × Bytes → Type 0
+IsFileRead failures may_leave asked old new entry file =
+    (file.0 ≡ entry.0) × WereRead failures may_leave asked old new entry.1 file.1
+
+-- the tree of these entries, each with bytes that were answered
+abbrev pub IsTreeRead : {F : Type 0} → (F → ℕ) → (F → Tearing) → (F → Call → F → Type 0) → F → F → Entries
+    → Files → Type 0
+IsTreeRead failures may_leave asked old new entries files =
+    AllZip (IsFileRead failures may_leave asked old new) entries files
