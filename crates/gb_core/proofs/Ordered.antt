@@ -1,5 +1,5 @@
 -- Lists of tasks in order.
-use Rattle.std.proofs.Common.{◌≡◌, ℕ, List, [], ◌∷◌, ◌++◌, append-nil, refl, sym, ap, subst, ◌∙◌}
+use Rattle.std.proofs.Common.{◌≡◌, ℕ, List, [], ◌∷◌, ◌++◌, length, take, append-nil, refl, sym, ap, subst, ◌∙◌, Result, Ok, Err, OnErr}
 use Rattle.std.specs.BTreeSet.{insert_key}
 use Rattle.std.specs.List.{AllByRecursion}
 use Rattle.std.specs.List.Sorted.{IsStrictlySortedBy}
@@ -7,6 +7,7 @@ use Rattle.std.specs.Ordering.{match_ordering, ordering_reverse}
 use Rattle.std.specs.Cmp.Lexicographic.{nat_list_cmp_total}
 use Rattle.std.specs.declared.cmp.Ordering.TheVariants.{Less, Greater}
 use Rattle.std.proofs.lemmas.List.{append_assoc}
+use Rattle.std.proofs.Math.Seq.{take-append_seam}
 use Rattle.gb_core.specs.Tasks.{with_tasks}
 use Rattle.gb_core.specs.Lists.{byte_order}
 
@@ -38,3 +39,23 @@ with_above (task ∷ tasks) front sorted =
 -- tasks that stand in order are put in as they stand
 pub with_ordered : (tasks : List (List ℕ)) → IsStrictlySortedBy byte_order tasks → with_tasks [] tasks ≡ tasks
 with_ordered tasks sorted = with_above tasks [] sorted
+
+with_more : (there a b : List (List ℕ)) → with_tasks there (a ++ b) ≡ with_tasks (with_tasks there a) b
+with_more there [] b = refl
+with_more there (task ∷ a) b = with_more (insert_key byte_order there task) a b
+
+-- a front of the tasks that has been put in, one task longer
+pub front_grows : (there front whole rest : List (List ℕ)) (task : List ℕ) → front ++ task ∷ rest ≡ whole
+    → (longer : List (List ℕ)) × (longer ++ rest ≡ whole) × (insert_key byte_order (with_tasks there front) task ≡ with_tasks there longer)
+front_grows there front whole rest task is =
+    (front ++ task ∷ [], append_assoc front (task ∷ []) rest ∙ is, sym (with_more there front (task ∷ [])))
+
+-- a front of the tasks that has been put in, told by how many they are
+pub front_counted : (there now front whole rest : List (List ℕ)) → front ++ rest ≡ whole → now ≡ with_tasks there front
+    → (added : ℕ) × (now ≡ with_tasks there (take added whole))
+front_counted there now front whole rest is put =
+    (length front, put ∙ ap (with_tasks there) (sym (ap (take (length front)) (sym is) ∙ take-append_seam front rest)))
+
+pub if_refused : {T E P : Type 0} (result : Result T E) → P → OnErr result P
+if_refused (Ok value) p = tt
+if_refused (Err error) p = p

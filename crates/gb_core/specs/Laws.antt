@@ -11,16 +11,19 @@ abbrev pub OverlapIsBySegments : Type 0
 OverlapIsBySegments = (a b : List ℕ) → IsTrue (overlaps a b) ↔ Overlap a b
 
 abbrev pub JoinIsBySegments : Type 0
-JoinIsBySegments = (folder text : List ℕ) → segments (joined (Some folder) text) ≡ segments folder ++ segments text
+JoinIsBySegments =
+    (folder text : List ℕ) → segments (joined (Some folder) text) ≡ segments folder ++ segments text
 
 -- The parts of a task's path are the path of a project and a name, and make it again.
 abbrev pub TaskPathsHaveParts : Type 0
 TaskPathsHaveParts =
     (path : List ℕ) → IsTrue (is_task_path path)
-    → IsTrue (is_project_path (project_of path)) × IsTrue (is_name (task_name path)) × (task_in (project_of path) (task_name path) ≡ path)
+    → IsTrue (is_project_path (project_of path)) × IsTrue (is_name (task_name path))
+    × (task_in (project_of path) (task_name path) ≡ path)
 
 -- The path of a project and a name make the path of a task, whose parts they are.
 abbrev pub PartsMakeTaskPaths : Type 0
 PartsMakeTaskPaths =
     (project name : List ℕ) → IsTrue (is_project_path project) → IsTrue (is_name name)
-    → IsTrue (is_task_path (task_in project name)) × (project_of (task_in project name) ≡ project) × (task_name (task_in project name) ≡ name)
+    → IsTrue (is_task_path (task_in project name)) × (project_of (task_in project name) ≡ project)
+    × (task_name (task_in project name) ≡ name)

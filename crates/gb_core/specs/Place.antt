@@ -1,5 +1,6 @@
 -- Places: texts of segments parted by single slashes.
-use Rattle.std.specs.Prelude.{◌≡◌, not, nat_le, ◌&&◌, ◌==◌, ◌++◌, ◌||◌, ◌⊎◌, nat_eq, ℕ, Bool, true, List, [], ◌∷◌, length, codes, bytes_eq, Option, None, Some}
+use Rattle.std.specs.Prelude.{◌≡◌, not, nat_le, ◌&&◌, ◌==◌, ◌++◌, ◌||◌, ◌⊎◌, nat_eq, ℕ, Bool, true, List, []}
+use Rattle.std.specs.Prelude.{◌∷◌, length, codes, bytes_eq, Option, None, Some}
 use Rattle.std.specs.List.{slice_split, starts_with, list_all}
 
 -- the parts between the slashes
@@ -8,7 +9,8 @@ segments text = slice_split (λ b. b == 47) text
 
 -- a name that a folder can hold
 abbrev pub is_segment : List ℕ → Bool
-is_segment segment = not (bytes_eq segment []) && not (bytes_eq segment (codes ".")) && not (bytes_eq segment (codes ".."))
+is_segment segment =
+    not (bytes_eq segment []) && not (bytes_eq segment (codes ".")) && not (bytes_eq segment (codes ".."))
 
 -- neither a control byte nor the delete byte
 abbrev pub is_printable : ℕ → Bool
@@ -25,7 +27,8 @@ is_rel_path (c ∷ text) = is_place (c ∷ text)
 
 -- The place lies strictly beneath the folder: its segments are the folder's, and more.
 abbrev pub IsBeneath : List ℕ → List ℕ → Type 0
-IsBeneath place folder = (first : List ℕ) × (rest : List (List ℕ)) × (segments place ≡ segments folder ++ first ∷ rest)
+IsBeneath place folder =
+    (first : List ℕ) × (rest : List (List ℕ)) × (segments place ≡ segments folder ++ first ∷ rest)
 
 -- the same, equal, or the other way round
 abbrev pub Overlap : List ℕ → List ℕ → Type 0

@@ -1,5 +1,6 @@
 //! Laws of places, told by bytes and by segments, and of the parts of paths.
-ghost use Rattle.gb_core.specs.Laws.{BeneathIsBySegments, OverlapIsBySegments, JoinIsBySegments, TaskPathsHaveParts, PartsMakeTaskPaths};
+ghost use Rattle.gb_core.specs.Laws.{BeneathIsBySegments, OverlapIsBySegments, JoinIsBySegments};
+ghost use Rattle.gb_core.specs.Laws.{TaskPathsHaveParts, PartsMakeTaskPaths};
 
 /// A place lies beneath a folder, told by bytes, exactly where its segments are the folder's and more.
 pub fn beneath_is_by_segments()

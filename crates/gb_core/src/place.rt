@@ -85,7 +85,8 @@ impl Place {
     pub fn join(alloc: Global, folder: Option<&Place>, text: &str) -> Result<Place, PlaceFault>
         ensures text { IfOk result (λ place. place ≡ joined (option_copied folder.entry) text.now) }
         ensures good { IfOk result (λ _. IsTrue (is_place (joined (option_copied folder.entry) text.now))) }
-        ensures bad { IsErrOf result PlaceFault.BadPlace → is_place (joined (option_copied folder.entry) text.now) ≡ false }
+        ensures bad { IsErrOf result PlaceFault.BadPlace
+            → is_place (joined (option_copied folder.entry) text.now) ≡ false }
     {
         match folder {
             None => Place::read(alloc, text),

@@ -1,5 +1,5 @@
 //! Task paths in sets and in rows.
-ghost use Rattle.std.specs.Prelude.{◌≡◌, ◌↔◌, [], ◌∷◌, ◌++◌, IfOk, IsTrue, OnOk, OnErr};
+ghost use Rattle.std.specs.Prelude.{◌≡◌, ◌↔◌, ℕ, [], ◌∷◌, ◌++◌, take, IfOk, IsTrue, OnOk, OnErr};
 ghost use Rattle.std.specs.BTreeSet.{insert_key};
 ghost use Rattle.gb_core.specs.Lists.{byte_order};
 ghost use Rattle.gb_core.specs.Tasks.{with_tasks};
@@ -43,9 +43,10 @@ impl TaskPaths {
         Ok(())
     }
 
-    /// Adds these tasks.
+    /// Adds these tasks, those in front first: after an error some of them are in.
     pub fn extend(&mut self, more: &TaskPaths) -> Result<(), AllocError>
-        ensures { OnOk result (self.new ≡ with_tasks self.old more.now) }
+        ensures ok { OnOk result (self.new ≡ with_tasks self.old more.now) }
+        ensures err { OnErr result ((added : ℕ) × (self.new ≡ with_tasks self.old (take added more.now))) }
     {
         for task in &more.paths {
             self.insert(task.copy()?)?;

@@ -14,7 +14,8 @@ abbrev pub path_at : List Planned → ℕ → Path
 path_at tasks number = slice_index_or (order tasks) number []
 
 -- it is one of these that are marked, and of those none comes before it by path
-pub record IsLeastNumber (tasks : List Planned) (numbers : List ℕ) (marks : List Bool) (number : ℕ) : Type 0 where
+pub record IsLeastNumber (tasks : List Planned) (numbers : List ℕ) (marks : List Bool)
+    (number : ℕ) : Type 0 where
   pub is_in : Contains numbers number
   pub marked : stands_in marks number ≡ true
   pub least : (other : ℕ) → Contains numbers other → stands_in marks other ≡ true
@@ -31,14 +32,16 @@ pub data LeadsTo (steps : ℕ → ℕ → Type 0) : ℕ → List ℕ → ℕ →
       → LeadsTo steps next passed to → LeadsTo steps from (from ∷ passed) to
 
 -- a way from the start that comes back to a number of its own
-pub record IsTrail (tasks : List Planned) (after : List (List ℕ)) (marks : List Bool) (start : ℕ) (trail : List ℕ) (back : ℕ) : Type 0 where
+pub record IsTrail (tasks : List Planned) (after : List (List ℕ)) (marks : List Bool) (start : ℕ)
+    (trail : List ℕ) (back : ℕ) : Type 0 where
   pub leads : LeadsTo (IsNextNumber tasks after marks) start trail back
   pub apart : AreApart trail
   pub comes_back : Contains trail back
   pub marked : (number : ℕ) → Contains trail number → stands_in marks number ≡ true
 
 -- The circle into which the way from the least of these leads, from its own least number on.
-pub record IsRound (tasks : List Planned) (after : List (List ℕ)) (marks : List Bool) (numbers circle : List ℕ) : Type 0 where
+pub record IsRound (tasks : List Planned) (after : List (List ℕ)) (marks : List Bool)
+    (numbers circle : List ℕ) : Type 0 where
   pub start : ℕ
   pub first : ℕ
   pub way : List ℕ

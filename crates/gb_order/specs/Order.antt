@@ -19,12 +19,14 @@ pub record IsNext (after : List (List ℕ)) (standing : List ℕ) (task : ℕ) :
   pub known : task < length after
   pub waits : ¬ Contains standing task
   pub ready : IsReady after standing task
-  pub least : (other : ℕ) → other < length after → ¬ Contains standing other → IsReady after standing other → task ≤ other
+  pub least : (other : ℕ) → other < length after → ¬ Contains standing other → IsReady after standing other
+      → task ≤ other
 
 -- each is the next one when those before it stand
 pub data InOrder (after : List (List ℕ)) : List ℕ → Type 0 where
   begins : InOrder after []
-  goes_on : {standing : List ℕ} {task : ℕ} → InOrder after standing → IsNext after standing task → InOrder after (standing ++ task ∷ [])
+  goes_on : {standing : List ℕ} {task : ℕ} → InOrder after standing → IsNext after standing task
+      → InOrder after (standing ++ task ∷ [])
 
 -- in order, as far as any task is ready
 pub record IsOrder (after : List (List ℕ)) (order : List ℕ) : Type 0 where

@@ -14,7 +14,8 @@ added shut queue (path ∷ paths) =
     added shut (if shut path || has_path queue path then queue else queue ++ path ∷ []) paths
 
 -- what is asked of this registry, where the queue begins with these, and these paths are shut
-pub record IsAsked (request : Request) (registry : Registry) (begin : List Path) (shut : Path → Bool) : Type 0 where
+pub record IsAsked (request : Request) (registry : Registry) (begin : List Path)
+    (shut : Path → Bool) : Type 0 where
   pub of : request.registry ≡ registry
   pub begins : begin ≡ distinct (open_of request (selected request))
   pub shuts : (path : Path) → shut path ≡ leaves_out request path
@@ -23,7 +24,8 @@ abbrev pub paths_in : List TaskDeclaration → List Path
 paths_in tasks = map (λ task. task.path) tasks
 
 -- The queue has come so far: these are declared, and the others wait.
-pub record HasCome (registry : Registry) (begin : List Path) (shut : Path → Bool) (queue : List Path) (found : List TaskDeclaration) : Type 0 where
+pub record HasCome (registry : Registry) (begin : List Path) (shut : Path → Bool) (queue : List Path)
+    (found : List TaskDeclaration) : Type 0 where
   pub waiting : List Path
   pub whole : queue ≡ paths_in found ++ waiting
   pub declared : AllByRecursion (IsRegistered registry) found

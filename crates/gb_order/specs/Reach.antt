@@ -24,7 +24,8 @@ IsClosed table stands =
     → stands_in stands task ≡ true
 
 -- These tasks are marked too; those that were not yet get the word, and stand among the fresh ones.
-pub record IsMarked (stands stands' : List Bool) (words words' fresh fresh' tasks : List ℕ) (word : ℕ) : Type 0 where
+pub record IsMarked (stands stands' : List Bool) (words words' fresh fresh' tasks : List ℕ)
+    (word : ℕ) : Type 0 where
   pub stays : (k : ℕ) → stands_in stands k ≡ true → stands_in stands' k ≡ true
   pub marks : (k : ℕ) → Contains tasks k → stands_in stands' k ≡ true
   pub only : (k : ℕ) → stands_in stands' k ≡ true → (stands_in stands k ≡ true) ⊎ Contains tasks k
@@ -36,7 +37,8 @@ pub record IsMarked (stands stands' : List Bool) (words words' fresh fresh' task
   pub count : missing stands' + length fresh' ≡ missing stands + length fresh
 
 -- all that is reached from the starts is marked too, where it was not with the word
-pub record IsSpread (table : List (List ℕ)) (starts : List ℕ) (word : ℕ) (stands stands' : List Bool) (words words' : List ℕ) : Type 0 where
+pub record IsSpread (table : List (List ℕ)) (starts : List ℕ) (word : ℕ) (stands stands' : List Bool)
+    (words words' : List ℕ) : Type 0 where
   pub stays : (k : ℕ) → stands_in stands k ≡ true → stands_in stands' k ≡ true
   pub whole : (k : ℕ) → Reaches table starts k → stands_in stands' k ≡ true
   pub only : (k : ℕ) → stands_in stands' k ≡ true
@@ -47,7 +49,8 @@ pub record IsSpread (table : List (List ℕ)) (starts : List ℕ) (word : ℕ) (
   pub closed : IsClosed table stands'
 
 -- how far it has come: what leads to tasks that are not marked stands among the fresh ones
-pub record Spreads (table : List (List ℕ)) (starts : List ℕ) (word : ℕ) (stands stands' : List Bool) (words words' fresh : List ℕ) : Type 0 where
+pub record Spreads (table : List (List ℕ)) (starts : List ℕ) (word : ℕ) (stands stands' : List Bool)
+    (words words' fresh : List ℕ) : Type 0 where
   pub stays : (k : ℕ) → stands_in stands k ≡ true → stands_in stands' k ≡ true
   pub begun : (k : ℕ) → Contains starts k → stands_in stands' k ≡ true
   pub only : (k : ℕ) → stands_in stands' k ≡ true

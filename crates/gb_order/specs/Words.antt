@@ -1,11 +1,13 @@
 -- What words ask for, and what the tasks of a queue are called by number.
-use Rattle.std.specs.Prelude.{ℕ, ◌≡◌, ◌<◌, Bool, true, List, [], ◌∷◌, ◌++◌, if◌then◌else◌, map, length, slice_index, slice_index_or}
+use Rattle.std.specs.Prelude.{ℕ, ◌≡◌, ◌<◌, Bool, true, List, [], ◌∷◌, ◌++◌, if◌then◌else◌, map}
+use Rattle.std.specs.Prelude.{length, slice_index, slice_index_or}
 use Rattle.std.specs.List.{flat_map, AllByRecursion}
 use Rattle.std.specs.BTreeMap.{BTreeMap}
 use Rattle.gb_plan.specs.declared.plan.Planned.{Planned}
 use Rattle.gb_plan.specs.declared.task.TaskDeclaration.{TaskDeclaration}
 use Rattle.gb_plan.specs.Task.{Text, Path, has_path}
-use Rattle.gb_plan.specs.Graph.{Registry, Request, order, selected, selected_by, words_of, no_repeats, is_scheduled_in, IsFirstWord, IsRegistered, IsScheduled}
+use Rattle.gb_plan.specs.Graph.{Registry, Request, order, selected, selected_by, words_of, no_repeats}
+use Rattle.gb_plan.specs.Graph.{is_scheduled_in, IsFirstWord, IsRegistered, IsScheduled}
 use Rattle.gb_order.specs.Queue.{added, paths_in}
 use Rattle.gb_order.specs.Ranked.{numbers_in}
 
@@ -37,7 +39,8 @@ brought_rows numbers tasks =
     map (λ task. numbers_in numbers task.needs ++ numbers_in numbers task.finalizers) tasks
 
 -- the tasks with their words, and whether they are among the selected ones
-pub record AreWorded (tasks : List TaskDeclaration) (words : List ℕ) (these : Path → Bool) (planned : List Planned) : Type 0 where
+pub record AreWorded (tasks : List TaskDeclaration) (words : List ℕ) (these : Path → Bool)
+    (planned : List Planned) : Type 0 where
   pub same : map (λ (p : Planned). p.task) planned ≡ tasks
   pub worded : (k : ℕ) (d : Planned) → k < length planned
       → (slice_index_or planned k d).word ≡ slice_index words k
@@ -46,13 +49,17 @@ pub record AreWorded (tasks : List TaskDeclaration) (words : List ℕ) (these : 
 
 -- The request asks this registry for what these lists have, without what those have. What stands in them more
 -- than once goes into no queue again.
-pub record AsksFor (request : Request) (registry : Registry) (requested excluded : List (List Path)) : Type 0 where
+pub record AsksFor (request : Request) (registry : Registry)
+    (requested excluded : List (List Path)) : Type 0 where
   pub of : request.registry ≡ registry
-  pub selects : (shut : Path → Bool) → added shut [] (joined_paths requested) ≡ added shut [] (selected request)
+  pub selects : (shut : Path → Bool)
+      → added shut [] (joined_paths requested) ≡ added shut [] (selected request)
   pub leaves : (path : Path) → has_path (joined_paths excluded) path ≡ has_path request.excluded path
 
--- These are the declarations of the scheduled tasks, and the lists what the words of the request newly select.
-pub record AreDone (request : Request) (tasks : List TaskDeclaration) (lists : List (List Path)) : Type 0 where
+-- These are the declarations of the scheduled tasks, and the lists what the words of
+-- the request newly select.
+pub record AreDone (request : Request) (tasks : List TaskDeclaration)
+    (lists : List (List Path)) : Type 0 where
   pub declared : AllByRecursion (IsRegistered request.registry) tasks
   pub scheduled : (path : Path) → has_path (paths_in tasks) path ≡ true → IsScheduled request path
   pub back : (path : Path) → IsScheduled request path → has_path (paths_in tasks) path ≡ true

@@ -1,5 +1,6 @@
 //! Chains of tasks, as rows of bits.
-ghost use Rattle.std.specs.Prelude.{◌≡◌, ◌≢◌, ◌<◌, ◌+◌, ◌/◌, ◌↔◌, ℕ, length, Contains, OnOk, IfOk, vec_len, max};
+ghost use Rattle.std.specs.Prelude.{◌≡◌, ◌≢◌, ◌<◌, ◌+◌, ◌/◌, ◌↔◌, ℕ, length, Contains, OnOk};
+ghost use Rattle.std.specs.Prelude.{IfOk, vec_len, max};
 ghost use Rattle.gb_order.specs.Order.{rows, row, AreTasks, InOrder};
 ghost use Rattle.gb_order.specs.Chains.{IsAfter, bit_in};
 

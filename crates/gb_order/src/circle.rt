@@ -1,5 +1,6 @@
 //! The circle of tasks that never get ready.
-ghost use Rattle.std.specs.Prelude.{◌≡◌, ◌<◌, ◌⊎◌, ◌++◌, ◌∷◌, ℕ, List, length, map, true, false, Contains, MatchOption, IfOk, IsTrue};
+ghost use Rattle.std.specs.Prelude.{◌≡◌, ◌<◌, ◌⊎◌, ◌++◌, ◌∷◌, ℕ, List, length, map, true, false, Contains};
+ghost use Rattle.std.specs.Prelude.{MatchOption, IfOk, IsTrue};
 ghost use Rattle.std.specs.Ordering.{is_lt};
 ghost use Rattle.gb_core.specs.Lists.{byte_order};
 ghost use Rattle.gb_order.specs.Order.{rows, row};

@@ -1,5 +1,6 @@
 //! The order of tasks that are numbered by rank: each is the least whose predecessors stand.
-ghost use Rattle.std.specs.Prelude.{◌≡◌, ◌<◌, ℕ, length, Contains, MatchOption, slice_index_or, false, true, OnOk, IfOk, vec_len};
+ghost use Rattle.std.specs.Prelude.{◌≡◌, ◌<◌, ℕ, length, Contains, MatchOption, slice_index_or, false, true};
+ghost use Rattle.std.specs.Prelude.{OnOk, IfOk, vec_len};
 ghost use Rattle.std.specs.BTreeSet.{contains};
 ghost use Rattle.std.specs.Ordering.{nat_cmp};
 ghost use Rattle.gb_order.specs.Order.{rows, row, AreTasks, IsOrder};
@@ -53,7 +54,8 @@ fn settle(
     requires marks { length stands.now ≡ length after.now }
     requires places { vec_len waiting.old ≡ length after.now }
     requires known { task < length after.now }
-    ensures settled { OnOk result (IsSettled (rows after.now) stands.now (rows waiting.old.items) (rows waiting.new.items)
+    ensures settled { OnOk result
+        (IsSettled (rows after.now) stands.now (rows waiting.old.items) (rows waiting.new.items)
         (contains nat_cmp ready.old) (contains nat_cmp ready.new) task) }
     ensures places { vec_len waiting.new ≡ length after.now }
 {

@@ -1,5 +1,6 @@
 //! The tasks of what is asked for, in the order in which they run.
-ghost use Rattle.std.specs.Prelude.{◌≡◌, ◌⊎◌, ◌<◌, ◌↔◌, [], ◌++◌, ℕ, List, map, length, true, Ok, Err, Contains, IfOk, IfErr, slice_index_or};
+ghost use Rattle.std.specs.Prelude.{◌≡◌, ◌⊎◌, ◌<◌, ◌↔◌, [], ◌++◌, ℕ, List, map, length, true, Ok, Err};
+ghost use Rattle.std.specs.Prelude.{Contains, IfOk, IfErr, slice_index_or};
 ghost use Rattle.gb_report.specs.declared.fault.Fault.TheVariants.{OutOfMemory};
 ghost use Rattle.gb_plan.specs.declared.plan.Planned.{Planned};
 ghost use Rattle.gb_plan.specs.Graph.{Request, IsSchedule, order, stuck};

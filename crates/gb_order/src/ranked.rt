@@ -1,9 +1,11 @@
 //! Tasks that are numbered by rank: what each comes after, and the tasks of given numbers.
-ghost use Rattle.std.specs.Prelude.{◌≡◌, ◌<◌, ◌++◌, ℕ, map, length, true, Some, Contains, IfOk, OnOk, slice_index_or};
+ghost use Rattle.std.specs.Prelude.{◌≡◌, ◌<◌, ◌++◌, ℕ, map, length, true, Some, Contains};
+ghost use Rattle.std.specs.Prelude.{IfOk, OnOk, slice_index_or};
 ghost use Rattle.gb_plan.specs.declared.plan.Planned.{Planned};
 ghost use Rattle.gb_plan.specs.Graph.{order, no_repeats};
 ghost use Rattle.gb_order.specs.Order.{rows};
-ghost use Rattle.gb_order.specs.Ranked.{AreApart, AreOthers, HoldEdges, TellAfter, TellEdges, TellNumbers, edges_at, edges_from, numbers_in};
+ghost use Rattle.gb_order.specs.Ranked.{AreApart, AreOthers, HoldEdges, TellAfter, TellEdges, TellNumbers};
+ghost use Rattle.gb_order.specs.Ranked.{edges_at, edges_from, numbers_in};
 
 use gb_core::path::TaskPath;
 use gb_core::tasks::TaskPaths;
@@ -117,7 +119,11 @@ pub fn after_of(alloc: Global, tasks: &[Planned]) -> Result<Vec<Vec<usize>>, All
 }
 
 /// The numbers below the count that are not among these.
-pub fn others_of(alloc: Global, count: usize, numbers: &[usize]) -> Result<Vec<usize>, AllocError>
+pub(crate) fn others_of(
+    alloc: Global,
+    count: usize,
+    numbers: &[usize],
+) -> Result<Vec<usize>, AllocError>
     requires { (number : ℕ) → Contains numbers.now number → number < count }
     ensures { IfOk result (λ others. AreOthers count numbers.now others.items) }
 {
@@ -145,7 +151,7 @@ fn slots_of(alloc: Global, tasks: Vec<Planned>) -> Result<Vec<Option<Planned>>, 
 }
 
 /// The tasks of these numbers, in this order.
-pub fn tasks_at(
+pub(crate) fn tasks_at(
     alloc: Global,
     tasks: Vec<Planned>,
     numbers: &[usize],

@@ -1,5 +1,6 @@
 //! Scheduled tasks, each with the first word that reaches it.
-ghost use Rattle.std.specs.Prelude.{◌≡◌, ◌<◌, ◌≤◌, ◌++◌, ℕ, [], map, length, true, IfOk, OnOk, slice_index, slice_index_or};
+ghost use Rattle.std.specs.Prelude.{◌≡◌, ◌<◌, ◌≤◌, ◌++◌, ℕ, [], map, length, true, IfOk};
+ghost use Rattle.std.specs.Prelude.{OnOk, slice_index, slice_index_or};
 ghost use Rattle.std.specs.BTreeSet.{contains};
 ghost use Rattle.gb_core.specs.Lists.{byte_order};
 ghost use Rattle.gb_plan.specs.Graph.{Request, IsFirstWord, no_repeats};

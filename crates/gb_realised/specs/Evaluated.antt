@@ -15,7 +15,8 @@ use Rattle.gb_script.specs.declared.script.Call.{Call}
 use Rattle.gb_script.specs.declared.script.Condition.{Condition}
 use Rattle.gb_script.specs.declared.script.InputFiles.{InputFiles}
 use Rattle.gb_project.specs.Joined.{Joined, Made, Named}
-use Rattle.gb_project.specs.Realised.{Trouble, action_of, and_then, each_of, files_under, is_enabled, output_under, passes, value_under}
+use Rattle.gb_project.specs.Realised.{Trouble, action_of, and_then, each_of, files_under, is_enabled}
+use Rattle.gb_project.specs.Realised.{output_under, passes, value_under}
 use Rattle.gb_project.specs.Whole.{build_folder, spots, whole}
 use Rattle.gb_realised.specs.declared.parts.Contents.{Contents}
 use Rattle.gb_realised.specs.declared.parts.Flags.{Flags}

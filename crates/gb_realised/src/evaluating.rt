@@ -6,7 +6,8 @@ ghost use Rattle.gb_project.specs.Views.{joined_of};
 ghost use Rattle.gb_project.specs.Whole.{spots, trees_of, whole};
 ghost use Rattle.gb_asked.specs.Over.{known_names};
 ghost use Rattle.gb_realised.specs.Evaluated.{IsBuiltIn, contents_of, declaration_of, flags_of};
-ghost use Rattle.gb_realised.specs.Parts.{AreAllWithin, AreCounted, HaveAllValues, HavePatterns, TellsOfParts};
+ghost use Rattle.gb_realised.specs.Parts.{AreAllWithin, AreCounted, HaveAllValues, HavePatterns};
+ghost use Rattle.gb_realised.specs.Parts.{TellsOfParts};
 ghost use Rattle.gb_realised.specs.Rows.{AreWithin, IsAt, TellsOf};
 
 use crate::actions::actions;

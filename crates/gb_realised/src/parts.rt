@@ -16,7 +16,7 @@ use gb_script::script::InputFiles;
 use std::collections::BTreeMap;
 
 /// Whether a task runs, and whether it is stale.
-#[derive(Clone, Copy, Debug, PartialEq, Eq)]
+#[derive(Clone, Copy, PartialEq, Eq)]
 pub struct Flags {
     pub runs: bool,
     pub is_stale: bool,

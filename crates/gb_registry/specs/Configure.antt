@@ -1,5 +1,6 @@
 -- Why scripts are refused before any task is declared.
-use Rattle.std.specs.Prelude.{ℕ, Bool, false, List, [], ◌∷◌, ◌++◌, filter_map, length, if◌then◌else◌, bytes_eq, nat_le}
+use Rattle.std.specs.Prelude.{ℕ, Bool, false, List, [], ◌∷◌, ◌++◌, filter_map, length, if◌then◌else◌}
+use Rattle.std.specs.Prelude.{bytes_eq, nat_le}
 use Rattle.std.specs.List.{flat_map, list_any}
 use Rattle.gb_script.specs.Tree.{Tree, Root, TaskOf, Link}
 use Rattle.gb_script.specs.declared.script.Statement.{Statement}

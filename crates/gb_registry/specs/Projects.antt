@@ -1,5 +1,6 @@
 -- Which projects settings name.
-use Rattle.std.specs.Prelude.{ℕ, Bool, ◌||◌, ◌==◌, List, [], ◌∷◌, ◌++◌, map, drop, length, if◌then◌else◌, Option, Some, None, codes, bytes_eq, nat_eq, nat_le, nat_lt}
+use Rattle.std.specs.Prelude.{ℕ, Bool, ◌||◌, ◌==◌, List, [], ◌∷◌, ◌++◌, map, drop, length, if◌then◌else◌}
+use Rattle.std.specs.Prelude.{Option, Some, None, codes, bytes_eq, nat_eq, nat_le, nat_lt}
 use Rattle.std.specs.List.{flat_map, list_any, slice_split, starts_with}
 use Rattle.gb_core.specs.Path.{is_project_path, task_in, task_name}
 use Rattle.gb_report.specs.declared.fault.Fault.{Fault}

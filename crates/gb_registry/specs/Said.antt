@@ -1,5 +1,6 @@
 -- What scripts say, and what they register.
-use Rattle.std.specs.Prelude.{ℕ, List, [], ◌++◌, map, filter, filter_map, zip, find, if◌then◌else◌, Option, Some, None, bytes_eq}
+use Rattle.std.specs.Prelude.{ℕ, List, [], ◌++◌, map, filter, filter_map, zip, find, if◌then◌else◌, Option}
+use Rattle.std.specs.Prelude.{Some, None, bytes_eq}
 use Rattle.std.specs.List.{flat_map}
 use Rattle.gb_script.specs.Tree.{Tree}
 use Rattle.gb_script.specs.declared.script.Call.{Call}

@@ -1,5 +1,6 @@
 -- What words select.
-use Rattle.std.specs.Prelude.{ℕ, ◌==◌, Option, None, Some, Bool, List, [], ◌∷◌, filter, fold, if◌then◌else◌, bytes_eq}
+use Rattle.std.specs.Prelude.{ℕ, ◌==◌, Option, None, Some, Bool, List, [], ◌∷◌, filter, fold, if◌then◌else◌}
+use Rattle.std.specs.Prelude.{bytes_eq}
 use Rattle.std.specs.List.{list_any}
 use Rattle.gb_core.specs.Name.{is_name}
 use Rattle.gb_core.specs.Path.{task_name}

@@ -3,7 +3,9 @@ ghost use Rattle.std.specs.Prelude.{◌≡◌, OnOk};
 ghost use Rattle.std.specs.List.{flat_map};
 ghost use Rattle.gb_registry.specs.Configure.{script_missing, statement_missing};
 ghost use Rattle.gb_registry.specs.Faults.{TellsFirst};
-ghost use Rattle.gb_registry.specs.Seen.{script_after, scripts_in, script_faults, scripts_after, scripts_faults, seen_after, seen_assignment_faults, seen_faults, seen_value_faults};
+ghost use Rattle.gb_registry.specs.Seen.{script_after, scripts_in, script_faults, scripts_after};
+ghost use Rattle.gb_registry.specs.Seen.{scripts_faults, seen_after, seen_assignment_faults, seen_faults};
+ghost use Rattle.gb_registry.specs.Seen.{seen_value_faults};
 ghost use Rattle.gb_registry.specs.Tables.{tables_of};
 
 use crate::missing::Missing;
@@ -70,7 +72,8 @@ fn check_assignment<A: Actions, T: Transforms>(
     assignment: &Assignment,
 ) -> Result<(), Fault>
     ensures { TellsFirst
-        (seen_assignment_faults (tables_of T.meanings A.meanings tables.now) project.now seen.now assignment.now) result }
+        (seen_assignment_faults (tables_of T.meanings A.meanings tables.now) project.now seen.now
+        assignment.now) result }
 {
     seen.check_change(&assignment.name)?;
     check_value::<A, T>(alloc, tables, project, seen, &assignment.value)
@@ -84,7 +87,8 @@ fn check_value<'s, A: Actions, T: Transforms>(
     value: &Expression,
 ) -> Result<(), Fault>
     ensures { TellsFirst
-        (seen_value_faults (tables_of T.meanings A.meanings tables.now) project.now seen.now value.now) result }
+        (seen_value_faults (tables_of T.meanings A.meanings tables.now) project.now seen.now value.now)
+        result }
 {
     let scope: Scope<'s, A, T> = Scope {
         tables,
@@ -115,7 +119,7 @@ fn check_script<A: Actions, T: Transforms>(
 }
 
 /// The first fault of scripts, one after another.
-pub fn check_scripts<A: Actions, T: Transforms>(
+pub(crate) fn check_scripts<A: Actions, T: Transforms>(
     alloc: Global,
     tables: &Handed<A, T>,
     seen: &mut Seen,
@@ -123,7 +127,8 @@ pub fn check_scripts<A: Actions, T: Transforms>(
 ) -> Result<(), Fault>
     ensures ok { OnOk result (seen.new ≡ scripts_after seen.old (scripts_in scripts.now)) }
     ensures faults { TellsFirst
-        (scripts_faults (tables_of T.meanings A.meanings tables.now) seen.old (scripts_in scripts.now)) result }
+        (scripts_faults (tables_of T.meanings A.meanings tables.now) seen.old (scripts_in scripts.now))
+        result }
 {
     for scripted in scripts {
         seen.begin(alloc);

@@ -1,5 +1,6 @@
 //! Texts as paths, and the folders of projects.
-ghost use Rattle.std.specs.Prelude.{◌≡◌, All, ◌<◌, ◌≤◌, ◌∷◌, [], length, map, IfOk, IfErr, IsTrue, string_bytes, encode_utf8};
+ghost use Rattle.std.specs.Prelude.{◌≡◌, All, ◌<◌, ◌≤◌, ◌∷◌, [], length, map, IfOk, IfErr, IsTrue};
+ghost use Rattle.std.specs.Prelude.{string_bytes, encode_utf8};
 ghost use Rattle.std.specs.Option.{option_copied};
 ghost use Rattle.std.specs.List.{AllByRecursion};
 ghost use Rattle.gb_core.specs.Path.{is_project_path, task_in};

@@ -1,9 +1,14 @@
 //! The projects of a build.
-ghost use Rattle.std.specs.Prelude.{◌≡◌, ◌≤◌, false, ◌||◌, [], ◌∷◌, ◌++◌, length, nat_lt, bytes_eq, codes, IfOk, OnOk, IsTrue};
+ghost use Rattle.std.specs.Prelude.{◌≡◌, ◌≤◌, false, ◌||◌, [], ◌∷◌, ◌++◌, length, nat_lt, bytes_eq, codes};
+ghost use Rattle.std.specs.Prelude.{IfOk, OnOk, IsTrue};
 ghost use Rattle.std.specs.List.{flat_map, list_all};
 ghost use Rattle.gb_core.specs.Path.{is_project_path, task_name};
 ghost use Rattle.gb_registry.specs.Faults.{TellsFirst};
-ghost use Rattle.gb_registry.specs.Projects.{crowd_faults, folder_of, folder_text, is_among, lineage, lineage_of, lineage_of_names, path_faults, paths_faults, place_faults, project_paths, projects_of, root_path, settings_faults, text_faults, texts_faults, with_folders, with_path, with_paths};
+ghost use Rattle.gb_registry.specs.Projects.{crowd_faults, folder_of, folder_text, is_among, lineage};
+ghost use Rattle.gb_registry.specs.Projects.{lineage_of, lineage_of_names, path_faults, paths_faults};
+ghost use Rattle.gb_registry.specs.Projects.{place_faults, project_paths, projects_of, root_path};
+ghost use Rattle.gb_registry.specs.Projects.{settings_faults, text_faults, texts_faults, with_folders};
+ghost use Rattle.gb_registry.specs.Projects.{with_path, with_paths};
 
 use crate::paths::{absolute, folder_of, is_project_path, project_path};
 use crate::texts::TextSet;
@@ -81,7 +86,7 @@ impl ProjectSet {
     }
 
     /// Adds the project of a text, behind its parents.
-    pub fn include(&mut self, text: &Text) -> Result<(), Fault>
+    fn include(&mut self, text: &Text) -> Result<(), Fault>
         ensures ok { OnOk result (self.new ≡ with_paths self.old (lineage_of text.now)) }
         ensures faults { TellsFirst (text_faults self.old text.now) result }
     {

@@ -1,5 +1,6 @@
 //! What settings, scripts and a command line say, where nothing is wrong with it.
-ghost use Rattle.std.specs.Prelude.{◌≡◌, [], ◌∷◌, ◌==◌, ◌||◌, filter, bytes_eq, fold, option_copied, IfOk, IfErr, IsTrue, length};
+ghost use Rattle.std.specs.Prelude.{◌≡◌, [], ◌∷◌, ◌==◌, ◌||◌, filter, bytes_eq, fold, option_copied, IfOk};
+ghost use Rattle.std.specs.Prelude.{IfErr, IsTrue, length};
 ghost use Rattle.std.specs.List.{list_any};
 ghost use Rattle.gb_core.specs.Path.{task_name};
 ghost use Rattle.gb_core.specs.Tasks.{with_tasks};
@@ -13,7 +14,8 @@ ghost use Rattle.gb_registry.specs.Read.{IsRead};
 ghost use Rattle.gb_registry.specs.Seen.{said_in, scripts_in};
 ghost use Rattle.gb_registry.specs.Source.{source_of};
 ghost use Rattle.gb_registry.specs.Tables.{tables_of};
-ghost use Rattle.gb_registry.specs.Select.{default_tasks, defaults_after, is_path, name_word_faults, selected, tasks_named, texts_or_none, word_faults};
+ghost use Rattle.gb_registry.specs.Select.{default_tasks, defaults_after, is_path, name_word_faults};
+ghost use Rattle.gb_registry.specs.Select.{selected, tasks_named, texts_or_none, word_faults};
 
 use crate::checking::Scripted;
 use crate::configure::{checked, with_projects};

@@ -1,10 +1,11 @@
 //! What a statement is judged by.
-ghost use Rattle.std.specs.Prelude.{◌≡◌, ◌+◌, [], ◌∷◌, ◌++◌, IfOk, IfErr, OnOk, IsTrue, string_bytes};
+ghost use Rattle.std.specs.Prelude.{◌≡◌, ◌+◌, [], ◌∷◌, ◌++◌, IfOk, IfErr, OnOk, OnErr, IsTrue, string_bytes};
 ghost use Rattle.gb_core.specs.Path.{is_task_path, task_in};
 ghost use Rattle.gb_report.specs.declared.fault.Fault.TheVariants.{OutOfMemory};
 ghost use Rattle.gb_registry.specs.Faults.{TellsFirst};
 ghost use Rattle.gb_registry.specs.Projects.{with_path};
-ghost use Rattle.gb_registry.specs.Seen.{begun, seen_change_faults, seen_named_faults, seen_property_faults, seen_task_faults};
+ghost use Rattle.gb_registry.specs.Seen.{begun, seen_change_faults, seen_named_faults, seen_property_faults};
+ghost use Rattle.gb_registry.specs.Seen.{seen_task_faults};
 ghost use Rattle.gb_registry.specs.Wrong.{property_faults};
 
 use crate::paths::path_in;
@@ -70,7 +71,11 @@ impl Seen {
     /// Declares a property: the script's first of the name (53), and one of 1,024 in all (58).
     pub fn declare(&mut self, name: &Name) -> Result<(), Fault>
         ensures ok { OnOk result
-            (self.new ≡ record self.old { properties = with_path self.old.properties name.now; count = self.old.count + 1 }) }
+            (self.new ≡ record self.old {
+              properties = with_path self.old.properties name.now;
+              count = self.old.count + 1;
+            }) }
+        ensures err { OnErr result (self.new ≡ self.old) }
         ensures faults { TellsFirst (seen_property_faults self.old name.now) result }
     {
         if self.properties.contains(name.as_str()) {
@@ -88,6 +93,7 @@ impl Seen {
     pub fn finish(&mut self, name: &Name) -> Result<(), Fault>
         ensures ok { OnOk result
             (self.new ≡ record self.old { finals = with_path self.old.finals name.now }) }
+        ensures err { OnErr result (self.new ≡ self.old) }
         ensures faults { TellsFirst (property_faults self.old.properties name.now) result }
     {
         check_property(&self.properties, name)?;
@@ -99,6 +105,7 @@ impl Seen {
     pub fn register(&mut self, alloc: Global, project: &Project, name: &Name) -> Result<(), Fault>
         ensures ok { OnOk result
             (self.new ≡ record self.old { tasks = self.old.tasks ++ task_in project.now name.now ∷ [] }) }
+        ensures err { OnErr result (self.new ≡ self.old) }
         ensures faults { TellsFirst (seen_task_faults self.old (task_in project.now name.now)) result }
     {
         let path = task_path(alloc, project.path(), name)?;

@@ -16,3 +16,4 @@ pub mod ByPlace
 pub mod Keeping
 pub mod Standing
 pub mod Asked
+pub mod Counted

@@ -2,7 +2,8 @@
 //!
 //! They stand in a map by the texts of their places, in byte order: what lies at or beneath an output's
 //! place is one look-up and one range of the map.
-ghost use Rattle.std.specs.Prelude.{◌≡◌, ◌++◌, ◌∷◌, ℕ, List, [], IsTrue, IfOk, OnOk, OnErr, map, string_bytes};
+ghost use Rattle.std.specs.Prelude.{◌≡◌, ◌++◌, ◌∷◌, ℕ, List, [], IsTrue, IfOk, OnOk, OnErr, map};
+ghost use Rattle.std.specs.Prelude.{string_bytes};
 ghost use Rattle.std.specs.FinMap.Entries.{is_sorted};
 ghost use Rattle.sha2.specs.Sha256.{sha256};
 ghost use Rattle.gb_core.specs.Lists.{byte_order};

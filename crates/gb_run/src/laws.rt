@@ -1,5 +1,7 @@
 //! What follows for a task's turn from how the run of its actions ends.
-ghost use Rattle.gb_run.specs.Laws.{CutEmptyingsInventNothing, EndedRunsAreMade, FailedRunsInventNothing, FailedRunsPrintFronts, MadeStands, TornPlacesAreOfTheEmptying, TornPlacesAreOfTheRun};
+ghost use Rattle.gb_run.specs.Laws.{CutEmptyingsInventNothing, EndedRunsAreMade, FailedRunsInventNothing};
+ghost use Rattle.gb_run.specs.Laws.{FailedRunsPrintFronts, MadeStands, TornPlacesAreOfTheEmptying};
+ghost use Rattle.gb_run.specs.Laws.{TornPlacesAreOfTheRun};
 
 use gb_meaning::laws::Grounds;
 

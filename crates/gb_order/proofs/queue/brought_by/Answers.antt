@@ -6,4 +6,4 @@ use Rattle.gb_order.proofs.queue.brought_by.Goals as goal
 pub returns : goal.returns
 returns c =
     let task = c.args.task.now in
-    c.in_ok-extend-2.ensures ∙ (ap (λ ts. with_tasks ts task.finalizers) (c.in_ok-extend.ensures ∙ ap (λ ts. with_tasks ts task.needs) c.new-paths.ensures) ∙ sym (with_append [] task.needs task.finalizers))
+    c.in_ok-extend-2.ensures.ok ∙ (ap (λ ts. with_tasks ts task.finalizers) (c.in_ok-extend.ensures.ok ∙ ap (λ ts. with_tasks ts task.needs) c.new-paths.ensures) ∙ sym (with_append [] task.needs task.finalizers))

@@ -19,6 +19,6 @@ loop-node-preserved g c = record {
       let tables = tables_of g.T.Transforms.meanings g.A.Actions.meanings context.tables.now in
       let there = subst (λ p. IsOver tables source (known_names context.projects.now context.tasks.now) context.faults.now p.nodes number) (sym c.loop-node.invariant.kept) over in
       more_needs (producers_at tables source) (λ (node : Node). number node.number) c.args.row.now c.loop-node.node-index (record { number = 0 }) (omega (arith, c.loop-node-test.true))
-      c.loop-node.tasks c.extend.new.self c.in_ok-found.found c.in_ok-extend.ensures (c.in_ok-found.ensures.told source number there)
+      c.loop-node.tasks c.extend.new.self c.in_ok-found.found c.in_ok-extend.ensures.ok (c.in_ok-found.ensures.told source number there)
       ∙ c.loop-node.invariant.told source number over;
 }
