@@ -1,5 +1,6 @@
 -- How two trees differ, path by path.
-use Rattle.std.specs.Prelude.{◌≡◌, ◌≢◌, ℕ, List, [], ◌∷◌, ◌++◌, if◌then◌else◌, bytes_eq, Option, Some, None, IsSome}
+use Rattle.std.specs.Prelude.{◌≡◌, ◌≢◌, ℕ, List, [], ◌∷◌, ◌++◌, if◌then◌else◌, bytes_eq, Option}
+use Rattle.std.specs.Prelude.{Some, None, IsSome}
 use Rattle.std.specs.List.{flat_map}
 use Rattle.std.specs.FinMap.Entries.{put}
 use Rattle.gb_core.specs.Lists.{byte_order}
@@ -25,7 +26,8 @@ in_order (file ∷ files) = put byte_order file.0 file.1 (in_order files)
 
 -- for each path of either tree, by bytes: added, removed, or modified where the contents differ
 abbrev pub changes_between : Tree → Tree → List Change
-changes_between old new = flat_map (λ file. change_at file.0 (file_at old file.0) (file_at new file.0)) (in_order (old ++ new))
+changes_between old new =
+    flat_map (λ file. change_at file.0 (file_at old file.0) (file_at new file.0)) (in_order (old ++ new))
 
 -- the list is what changed from the old tree to the new one
 abbrev pub AreChanges : Tree → Tree → List Change → Type 0
@@ -34,5 +36,6 @@ AreChanges old new changes = changes ≡ changes_between old new
 -- the tree changed in this way
 abbrev pub IsChange : Tree → Tree → Change → Type 0
 IsChange old new (Added path) = (file_at old path ≡ None) × IsSome (file_at new path)
-IsChange old new (Modified path) = IsSome (file_at old path) × IsSome (file_at new path) × (file_at old path ≢ file_at new path)
+IsChange old new (Modified path) =
+    IsSome (file_at old path) × IsSome (file_at new path) × (file_at old path ≢ file_at new path)
 IsChange old new (Removed path) = IsSome (file_at old path) × (file_at new path ≡ None)

@@ -16,9 +16,12 @@ use Rattle.gb_action.specs.declared.request.Request.{Request}
 abbrev pub FullRepliesPutOver : Type 0
 FullRepliesPutOver =
     (makes : Making) (prints : Printing) (request : Request) (reply : Reply) (made : List Written)
-    → Answers makes prints request (Ok reply) → request.changes.incremental ≡ false → made_for makes request ≡ Ok made
-    → (old : List OutputFiles) (output path : List ℕ) → left_at reply old output path ≡ option_or (written_at made output path) (stands_at old output path)
+    → Answers makes prints request (Ok reply) → request.changes.incremental ≡ false
+    → made_for makes request ≡ Ok made
+    → (old : List OutputFiles) (output path : List ℕ)
+    → left_at reply old output path ≡ option_or (written_at made output path) (stands_at old output path)
 
 -- the changes between two trees are each change of the tree, and no other
 abbrev pub ChangesAreExact : Type 0
-ChangesAreExact = (old new : Tree) (change : Change) → Contains (changes_between old new) change ↔ IsChange old new change
+ChangesAreExact =
+    (old new : Tree) (change : Change) → Contains (changes_between old new) change ↔ IsChange old new change

@@ -20,7 +20,8 @@ Making = List Value → Values → Trees → Result (List Written) (List ℕ)
 abbrev pub Printing : Type 0
 Printing = List Value → Values → Trees → List Changes → List (List ℕ)
 
--- the kind and the version of a stored action; and for each number of a kind its shape, what it makes and what it prints
+-- the kind and the version of a stored action; and for each number of a kind its shape, what it
+-- makes and what it prints
 pub record Meanings (S : Type 0) : Type 0 where
   pub kind : S → ℕ
   pub version : S → ℕ
@@ -31,7 +32,8 @@ pub record Meanings (S : Type 0) : Type 0 where
 -- the kind of a number writes files of its own output alone, and none where its shape has no output
 abbrev pub WritesItsOutput : {S : Type 0} → Meanings S → ℕ → Type 0
 WritesItsOutput meanings kind =
-    (arguments : List Value) (values : Values) (trees : Trees) (written : List Written) → meanings.makes kind arguments values trees ≡ Ok written
+    (arguments : List Value) (values : Values) (trees : Trees) (written : List Written)
+    → meanings.makes kind arguments values trees ≡ Ok written
     → list_all (λ file. bytes_eq file.output target && is_some (meanings.shape kind).out) written ≡ true
 
 module _ {S : Type 0} (meanings : Meanings S) (stored : S) where

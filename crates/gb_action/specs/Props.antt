@@ -26,5 +26,6 @@ removes_set = Coded-set (coded_list output_path.the_row.coded)
 made_set : IsSet (Result (List Written) (List ℕ))
 made_set = Coded-set (coded_result (coded_list written.the_row.coded) (coded_list coded_ℕ))
 
-pub Answers-prop : (makes : Making) (prints : Printing) (request : Request) (answer : Result Reply ActionFault) → IsProp (Answers makes prints request answer)
+pub Answers-prop : (makes : Making) (prints : Printing) (request : Request)
+    (answer : Result Reply ActionFault) → IsProp (Answers makes prints request answer)
 Answers-prop makes prints request answer = Prim.hlevel (bool_set, bytes_set, lines_set, removes_set, made_set)

@@ -1,5 +1,6 @@
 -- Which calls an action of a shape accepts.
-use Rattle.std.specs.Prelude.{◌≡◌, ℕ, ◌==◌, Bool, true, false, not, ◌&&◌, ◌||◌, List, [], ◌∷◌, length, map, if◌then◌else◌, codes, bytes_eq, Option, Some, None}
+use Rattle.std.specs.Prelude.{◌≡◌, ℕ, ◌==◌, Bool, true, false, not, ◌&&◌, ◌||◌, List, [], ◌∷◌, length, map}
+use Rattle.std.specs.Prelude.{if◌then◌else◌, codes, bytes_eq, Option, Some, None}
 use Rattle.std.specs.List.{list_any}
 use Rattle.gb_core.specs.Place.{is_place}
 use Rattle.gb_core.specs.declared.value.Value.{Value}
@@ -56,14 +57,18 @@ has_source shape files = not shape.src || list_any (λ name. bytes_eq name sourc
 -- a kind that writes files needs the output, in its form
 abbrev pub has_output : Option Form → List (List ℕ × Form) → Bool
 has_output None outputs = true
-has_output (Some form) outputs = list_any (λ output. bytes_eq output.0 target && is_form output.1 form) outputs
+has_output (Some form) outputs =
+    list_any (λ output. bytes_eq output.0 target && is_form output.1 form) outputs
 
--- whether a call fits, by the names of the file properties and the names and forms of the outputs, which count first
+-- whether a call fits, by the names of the file properties and the names and forms of the
+-- outputs, which count first
 abbrev pub fit : Shape → List Value → List (List ℕ) → List (List ℕ × Form) → Fit
 fit shape args files outputs =
-    if has_source shape files && has_output shape.out outputs then (if args_fit shape.args args then Yes else BadArgument) else BadShape
+    if has_source shape files && has_output shape.out outputs
+    then (if args_fit shape.args args then Yes else BadArgument) else BadShape
 
 -- the action may be asked: the call fits, and it is asked for changes only where it can answer them
 pub record IsAsked (shape : Shape) (request : Request) : Type 0 where
-  pub fits : fit shape request.args (map (λ tree. tree.0) request.files) (map (λ output. (output.name, output.form)) request.outputs) ≡ Yes
+  pub fits : fit shape request.args (map (λ tree. tree.0) request.files)
+      (map (λ output. (output.name, output.form)) request.outputs) ≡ Yes
   pub can_answer : request.changes.incremental ≡ true → shape.incremental ≡ true

@@ -11,7 +11,7 @@ use std::alloc::{AllocError, Global};
 use std::marker::Model;
 
 /// What became of a path of a tree.
-#[derive(Debug, Drop)]
+#[derive(Drop)]
 pub enum Change {
     Added(RelPath),
     Modified(RelPath),
@@ -19,7 +19,7 @@ pub enum Change {
 }
 
 /// The changes of one tree, in the byte order of the paths.
-#[derive(Debug, Drop)]
+#[derive(Drop)]
 pub struct ChangeList {
     changes: Vec<Change>,
 }
@@ -60,7 +60,7 @@ impl ChangeList {
 }
 
 /// The change lists of the incremental file properties, in the order of their names.
-#[derive(Debug, Drop)]
+#[derive(Drop)]
 pub struct ChangeLists {
     lists: Vec<(Name, ChangeList)>,
 }
@@ -109,7 +109,7 @@ impl ChangeLists {
 
 /// What changed in the incremental file properties: since the last run in an incremental request,
 /// and against no files at all in a full one.
-#[derive(Debug, Drop)]
+#[derive(Drop)]
 pub struct InputChanges {
     pub incremental: bool,
     pub lists: ChangeLists,

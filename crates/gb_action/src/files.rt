@@ -11,7 +11,7 @@ use std::alloc::{AllocError, Global};
 use std::marker::Model;
 
 /// Files by relative path, strictly in the byte order of the paths.
-#[derive(Debug, Drop)]
+#[derive(Drop)]
 pub struct Files {
     entries: Vec<(RelPath, Bytes)>,
 }

@@ -11,7 +11,7 @@ use std::alloc::{AllocError, Global};
 use std::marker::Model;
 
 /// Whether an output is one file or all files beneath a place.
-#[derive(Clone, Copy, Debug, PartialEq, Eq)]
+#[derive(Clone, Copy, PartialEq, Eq)]
 pub enum Form {
     File,
     Dir,
@@ -31,7 +31,7 @@ impl Form {
 
 /// An output with the files that stand there, by their paths from its place. The files are
 /// contents in an incremental request only; in a full one there are none.
-#[derive(Debug, Drop)]
+#[derive(Drop)]
 pub struct OutputFiles {
     pub name: Name,
     pub form: Form,
@@ -39,7 +39,7 @@ pub struct OutputFiles {
 }
 
 /// The outputs of a task, in the order of their names.
-#[derive(Debug, Drop)]
+#[derive(Drop)]
 pub struct OutputSnapshots {
     outputs: Vec<OutputFiles>,
 }

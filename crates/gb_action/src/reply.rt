@@ -10,7 +10,7 @@ use std::marker::Model;
 use thiserror::Error;
 
 /// A file to write: the output, the path from its place (none for the place itself), the bytes.
-#[derive(Debug, Drop)]
+#[derive(Drop)]
 pub struct Written {
     pub output: Name,
     pub path: RelPath,
@@ -18,7 +18,7 @@ pub struct Written {
 }
 
 /// Files to write, one after another: of two at one path the later counts.
-#[derive(Debug, Drop)]
+#[derive(Drop)]
 pub struct Writes {
     files: Vec<Written>,
 }
@@ -59,14 +59,14 @@ impl Writes {
 }
 
 /// A path of an output.
-#[derive(Debug, Drop)]
+#[derive(Drop)]
 pub struct OutputPath {
     pub output: Name,
     pub path: RelPath,
 }
 
 /// Files to remove.
-#[derive(Debug, Drop)]
+#[derive(Drop)]
 pub struct Removals {
     paths: Vec<OutputPath>,
 }
@@ -110,7 +110,7 @@ impl Removals {
 pub type Lines = Texts;
 
 /// What an action wants done: first the removals, then the writes; and the lines that it prints.
-#[derive(Debug, Drop)]
+#[derive(Drop)]
 pub struct Reply {
     pub removes: Removals,
     pub writes: Writes,

@@ -6,7 +6,7 @@ use crate::snapshot::Snapshots;
 use crate::values::{Arguments, NamedValues};
 
 /// What one action is asked to do. The outputs hold contents in an incremental request only.
-#[derive(Debug, Drop)]
+#[derive(Drop)]
 pub struct Request {
     pub args: Arguments,
     pub values: NamedValues,

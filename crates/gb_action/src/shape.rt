@@ -11,7 +11,7 @@ use std::alloc::{AllocError, Global};
 use std::marker::Model;
 
 /// What an argument has to be.
-#[derive(Clone, Copy, Debug, PartialEq, Eq)]
+#[derive(Clone, Copy, PartialEq, Eq)]
 pub enum Arg {
     /// Any text.
     Text,
@@ -24,7 +24,7 @@ pub enum Arg {
 }
 
 /// What the arguments have to be, in order.
-#[derive(Debug, Drop)]
+#[derive(Drop)]
 pub struct ArgList {
     args: Vec<Arg>,
 }
@@ -66,7 +66,7 @@ impl ArgList {
 
 /// What an action takes: its arguments, whether it reads the file property `src`, of which form
 /// its output `out` is, if it writes files, and whether it can answer changes alone.
-#[derive(Debug, Drop)]
+#[derive(Drop)]
 pub struct Shape {
     pub args: ArgList,
     pub src: bool,
@@ -75,7 +75,7 @@ pub struct Shape {
 }
 
 /// Whether an action can be asked.
-#[derive(Clone, Copy, Debug, PartialEq, Eq)]
+#[derive(Clone, Copy, PartialEq, Eq)]
 pub enum Fit {
     Yes,
     /// An argument is not what it has to be, or there are too few or too many.

@@ -10,7 +10,7 @@ use std::alloc::{AllocError, Global};
 use std::marker::Model;
 
 /// The files of a property by their relative paths, beside its name.
-#[derive(Debug, Drop)]
+#[derive(Drop)]
 pub struct Snapshot {
     name: Name,
     files: Files,
@@ -52,7 +52,7 @@ impl Snapshot {
 }
 
 /// The files of a task's file properties, in the order of their names.
-#[derive(Debug, Drop)]
+#[derive(Drop)]
 pub struct Snapshots {
     snapshots: Vec<Snapshot>,
 }

@@ -1,5 +1,6 @@
 //! The actions of a build by name.
-ghost use Rattle.std.specs.Prelude.{◌≡◌, [], ◌∷◌, ◌++◌, ◌↔◌, None, Some, MatchResult, OnOk, OnErr, IfOk, IsErrOf, IsSome, map, string_bytes};
+ghost use Rattle.std.specs.Prelude.{◌≡◌, [], ◌∷◌, ◌++◌, ◌↔◌, None, Some, MatchResult, OnOk, OnErr, IfOk};
+ghost use Rattle.std.specs.Prelude.{IsErrOf, IsSome, map, string_bytes};
 ghost use Rattle.std.specs.FinMap.Entries.{find};
 ghost use Rattle.gb_core.specs.Lists.{byte_order};
 
@@ -127,7 +128,8 @@ impl<S: Drop> ActionTable<S> {
 
     /// The action of the name. Takes no memory.
     pub fn find(&self, name: &str) -> Result<&S, UnknownAction>
-        ensures { MatchResult result (λ stored. find byte_order name.now self.now ≡ Some stored.now) (λ _. find byte_order name.now self.now ≡ None) }
+        ensures { MatchResult result (λ stored. find byte_order name.now self.now ≡ Some stored.now)
+            (λ _. find byte_order name.now self.now ≡ None) }
     {
         match self.entries.find(name) {
             Some(stored) => Ok(stored),

@@ -11,7 +11,7 @@ use std::alloc::{AllocError, Global};
 use std::marker::Model;
 
 /// The arguments of an action, in order.
-#[derive(Debug, Drop)]
+#[derive(Drop)]
 pub struct Arguments {
     values: Vec<Value>,
 }
@@ -63,7 +63,7 @@ impl Arguments {
 }
 
 /// The values of a task's inputs by their names, in the order of the names.
-#[derive(Debug, Drop)]
+#[derive(Drop)]
 pub struct NamedValues {
     values: Vec<(Name, Value)>,
 }

@@ -16,7 +16,8 @@ use Rattle.gb_registry.specs.Projects.{Path}
 use Rattle.gb_registry.specs.Said.{Registered}
 use Rattle.gb_registry.specs.Source.{Source}
 use Rattle.gb_registry.specs.Tables.{Tables}
-use Rattle.gb_project.specs.Realised.{Trouble, Plain, and_then, as_flag, as_place, given_by, present, tasks_from, truth_of}
+use Rattle.gb_project.specs.Realised.{Trouble, Plain, and_then, as_flag, as_place, given_by}
+use Rattle.gb_project.specs.Realised.{present, tasks_from, truth_of}
 use Rattle.gb_project.specs.Whole.{spots, whole}
 
 module _ {M F Z S A : Type 0} (tables : Tables M F Z S A) (source : Source) where

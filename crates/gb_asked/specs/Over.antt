@@ -54,8 +54,8 @@ module _ {M F Z S A : Type 0} (tables : Tables M F Z S A) (source : Source) wher
       (fault ≡ OutOfMemory)
       ⊎ ((trouble : Trouble) × (expected ≡ Err trouble) × IsTold tables source trouble fault)
 
--- What is told tells what is expected of any scripts, by any numbers, that these names, faults and expressions
--- are over.
+-- What is told tells what is expected of any scripts, by any numbers, that these names, faults
+-- and expressions are over.
 abbrev pub TellsOver : {M F Z S A X : Type 0} → Tables M F Z S A → Names → List (Option Fault)
     → List (Expression M F Z) → (Source → (ℕ → ℕ) → Result X Trouble) → Result X Fault → Type 0
 TellsOver tables names why nodes expected told =

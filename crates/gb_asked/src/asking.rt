@@ -9,7 +9,8 @@ ghost use Rattle.gb_registry.specs.Source.{Source};
 ghost use Rattle.gb_registry.specs.Tables.{tables_of};
 ghost use Rattle.gb_project.specs.Realised.{answered, as_flag, as_place, truth_of};
 ghost use Rattle.gb_project.specs.Whole.{spots, whole};
-ghost use Rattle.gb_asked.specs.Given.{HasValue, IsOfGet, IsSorted, flag_at, given_at, place_at, producers_at, required_at, truth_at};
+ghost use Rattle.gb_asked.specs.Given.{HasValue, IsOfGet, IsSorted, flag_at, given_at, place_at};
+ghost use Rattle.gb_asked.specs.Given.{producers_at, required_at, truth_at};
 ghost use Rattle.gb_asked.specs.Over.{IsOver, IsToldOf, TellsOver, known_names};
 
 use crate::context::Context;

@@ -164,15 +164,19 @@ fn hold_on_disk<A: Actions, T: Transforms>(
 const BUILDS: [Row<'static>; 3] = [
     (
         "put build x\nrun gen\nread build",
-        "> Task :gen FAILED\nFAILED :gen: 12 blocked build/a.txt\nBUILD FAILED\n1 actionable task: 1 executed\nx\n",
+        "> Task :gen FAILED\nFAILED :gen: 12 blocked build/a.txt\nBUILD FAILED\n\
+         1 actionable task: 1 executed\nx\n",
     ),
     (
         "run gen\nread build/a.txt\nput build/a.txt Z\nrun gen\nread build/a.txt",
-        "> Task :gen\nBUILD SUCCESSFUL\n1 actionable task: 1 executed\nabc\n> Task :gen\nBUILD SUCCESSFUL\n1 actionable task: 1 executed\nabc\n",
+        "> Task :gen\nBUILD SUCCESSFUL\n1 actionable task: 1 executed\nabc\n\
+         > Task :gen\nBUILD SUCCESSFUL\n1 actionable task: 1 executed\nabc\n",
     ),
     (
         "run -m gen\nread build/a.txt\nrun gen --continue\nrun gen\nrun gen -x gen",
-        ":gen SKIPPED\nBUILD SUCCESSFUL\nnone\n> Task :gen\nBUILD SUCCESSFUL\n1 actionable task: 1 executed\n> Task :gen UP-TO-DATE\nBUILD SUCCESSFUL\n1 actionable task: 1 up-to-date\nBUILD SUCCESSFUL\n",
+        ":gen SKIPPED\nBUILD SUCCESSFUL\nnone\n\
+         > Task :gen\nBUILD SUCCESSFUL\n1 actionable task: 1 executed\n\
+         > Task :gen UP-TO-DATE\nBUILD SUCCESSFUL\n1 actionable task: 1 up-to-date\nBUILD SUCCESSFUL\n",
     ),
 ];
 

@@ -20,8 +20,8 @@ const SCRIPTED: [Step<'static>; 1] = [("put build.gb", SCRIPT, "")];
 
 const EXECUTED: &str = "> Task :a\n> Task :b\nBUILD SUCCESSFUL\n2 actionable tasks: 2 executed\n";
 
-const REFUSED: &str =
-    "> Task :a\n> Task :b\nFAILED listener: 91 listener refused\nBUILD FAILED\n2 actionable tasks: 2 executed\n";
+const REFUSED: &str = "> Task :a\n> Task :b\nFAILED listener: 91 listener refused\nBUILD FAILED\n\
+     2 actionable tasks: 2 executed\n";
 
 const UP_TO_DATE: &str =
     "> Task :a UP-TO-DATE\n> Task :b UP-TO-DATE\nBUILD SUCCESSFUL\n2 actionable tasks: 2 up-to-date\n";

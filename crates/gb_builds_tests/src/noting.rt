@@ -17,7 +17,8 @@ use std::test::Fail;
 const STEPS: [Step<'static>; 6] = [
     (
         "put build.gb",
-        "register cp : copyFiles { inputFiles src incremental from dir(\"src\") outputDir out = dir(\"build/o\") }",
+        "register cp : copyFiles { inputFiles src incremental from dir(\"src\") \
+         outputDir out = dir(\"build/o\") }",
         "",
     ),
     ("put src/a", "A", ""),

@@ -11,7 +11,8 @@ use std::test::Fail;
 
 /// A task that copies files, where there are any.
 const SCRIPT: &str =
-    "register cp : copyFiles { inputFiles src incremental skipWhenEmpty from dir(\"src\") outputDir out = dir(\"build/o\") }";
+    "register cp : copyFiles { inputFiles src incremental skipWhenEmpty from dir(\"src\") \
+     outputDir out = dir(\"build/o\") }";
 
 /// The first build, of three files.
 const FIRST: [Step<'static>; 5] = [

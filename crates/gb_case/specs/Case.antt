@@ -11,7 +11,8 @@ use Rattle.gb_label.specs.Preparing.{IsPrepared}
 use Rattle.gb_label.specs.declared.prepare.Prepared.{Prepared}
 use Rattle.gb_label.specs.declared.prepare.Prepared.TheVariants as prepared
 use Rattle.gb_meaning.specs.Kinds.{Kinds}
-use Rattle.gb_meaning.specs.Label.{HasNoActions, HasNoSource, IsCurrent, IsIncremental, Skips, changes_from, early_case, has_one_writer}
+use Rattle.gb_meaning.specs.Label.{HasNoActions, HasNoSource, IsCurrent, IsIncremental, Skips}
+use Rattle.gb_meaning.specs.Label.{changes_from, early_case, has_one_writer}
 use Rattle.gb_meaning.specs.Memory.{Entry, World, output_files, recalled}
 use Rattle.gb_meaning.specs.Tree.{listing_faults, trees_of}
 use Rattle.gb_meaning.specs.TrueRecord.{IsMade, outside}

@@ -7,7 +7,8 @@ use Rattle.gb_history.specs.declared.decide.Decision.TheVariants as decisions
 use Rattle.gb_label.specs.declared.prepare.Prepared.{Prepared}
 use Rattle.gb_label.specs.declared.prepare.Prepared.TheVariants as prepared
 use Rattle.gb_meaning.specs.Kinds.{Kinds}
-use Rattle.gb_meaning.specs.Label.{AreChanges, IsCurrent, IsIncremental, IsLabel, Moment, changes_from, has_one_writer, some_outcome}
+use Rattle.gb_meaning.specs.Label.{AreChanges, IsCurrent, IsIncremental, IsLabel, Moment}
+use Rattle.gb_meaning.specs.Label.{changes_from, has_one_writer, some_outcome}
 use Rattle.gb_meaning.specs.Memory.{World}
 use Rattle.gb_meaning.specs.Turn.{Leaves, Prints}
 use Rattle.gb_plan.specs.Graph.{Plan, needs_in}

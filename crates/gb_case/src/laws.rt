@@ -1,5 +1,6 @@
 //! Laws of what a turn comes to, each the contract of a function that does nothing.
-ghost use Rattle.gb_case.specs.Case.{DecisionIsCase, MadeIsNotGrown, OutsideIsEnough, PreparedIsCase, PresentIsOfContents};
+ghost use Rattle.gb_case.specs.Case.{DecisionIsCase, MadeIsNotGrown, OutsideIsEnough, PreparedIsCase};
+ghost use Rattle.gb_case.specs.Case.{PresentIsOfContents};
 ghost use Rattle.gb_case.specs.Known.{WhatIsReadIsKnown};
 ghost use Rattle.gb_case.specs.Turns.{IdleTurnsAreTurns, RunsAreOfCase};
 

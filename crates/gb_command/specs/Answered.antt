@@ -45,9 +45,10 @@ abbrev pub IsRefused : Given → Shown → Result Report Fault → Shown → Typ
 IsRefused given old answer new =
     (fault : Fault) × AreRefused given fault × (answer ≡ Err fault) × (new.contents ≡ old.contents)
 
--- Over any folder: a report is that of an invocation that the words ask for, which asks of the folder as it does;
--- where there is none, no change is asked for.
-abbrev pub AsksFor : {F S : Type 0} → (F → ℕ) → (F → Tearing) → (F → Call → F → Type 0) → Meanings S → Rows S → Given
+-- Over any folder: a report is that of an invocation that the words ask for, which asks of the folder as it
+-- does; where there is none, no change is asked for.
+abbrev pub AsksFor : {F S : Type 0} → (F → ℕ) → (F → Tearing) → (F → Call → F → Type 0) → Meanings S → Rows S
+    → Given
     → Result Report Fault → F → F → Type 0
 AsksFor failures may_leave asked meanings rows given (Err fault) old new =
     Asks failures may_leave asked no_change old new

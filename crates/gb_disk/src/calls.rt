@@ -1,5 +1,6 @@
 //! The calls of a folder on a disk, without the count of its failures.
-ghost use Rattle.std.specs.Prelude.{◌≡◌, ◌≢◌, ◌≤◌, ◌<◌, ◌⊎◌, length, Err, IsErrOf, IfOk, IfErr, OnOk, string_bytes};
+ghost use Rattle.std.specs.Prelude.{◌≡◌, ◌≢◌, ◌≤◌, ◌<◌, ◌⊎◌, length, Err, IsErrOf, IfOk};
+ghost use Rattle.std.specs.Prelude.{IfErr, OnOk, string_bytes};
 ghost use Rattle.std.specs.List.Sorted.{IsStrictlySortedBy};
 ghost use Rattle.gb_core.specs.Lists.{byte_order};
 ghost use Rattle.gb_disk.specs.Disk.{AllUnder, IsOfListing, IsOfMachine, path_in};

@@ -13,12 +13,15 @@ use Rattle.gb_meaning.specs.declared.events.Event.TheVariants as events
 use Rattle.gb_plan.specs.Ready.{Rows}
 
 -- nothing, or one call and no other
-abbrev pub AsksOnce : {F : Type 0} → (F → Call → F → Type 0) → (Result (Unit {0}) FolderFault → Call) → F → F → Type 0
-AsksOnce asked call old new = (new ≡ old) ⊎ ((answer : Result (Unit {0}) FolderFault) × asked old (call answer) new)
+abbrev pub AsksOnce : {F : Type 0} → (F → Call → F → Type 0) → (Result (Unit {0}) FolderFault → Call) → F → F
+    → Type 0
+AsksOnce asked call old new =
+    (new ≡ old) ⊎ ((answer : Result (Unit {0}) FolderFault) × asked old (call answer) new)
 
--- An edit asks once, at its own place; a loss takes away in `.gb` alone; and an invocation asks as it does by its
--- answer.
-abbrev pub EventAsks : {F S : Type 0} → (F → ℕ) → (F → Tearing) → (F → Call → F → Type 0) → Meanings S → Rows S
+-- An edit asks once, at its own place; a loss takes away in `.gb` alone; and an invocation asks
+-- as it does by its answer.
+abbrev pub EventAsks : {F S : Type 0} → (F → ℕ) → (F → Tearing) → (F → Call → F → Type 0) → Meanings S
+    → Rows S
     → Event → Answer → F → F → Type 0
 EventAsks failures may_leave asked meanings rows (events.Put place bytes) answer old new =
     AsksOnce asked (Writes place bytes max_file) old new
@@ -32,7 +35,8 @@ EventAsks failures may_leave asked meanings rows (events.Invoke invocation) answ
     Asks failures may_leave asked no_change old new
 
 -- one event after another
-abbrev pub EventsAsk : {F S : Type 0} → (F → ℕ) → (F → Tearing) → (F → Call → F → Type 0) → Meanings S → Rows S
+abbrev pub EventsAsk : {F S : Type 0} → (F → ℕ) → (F → Tearing) → (F → Call → F → Type 0) → Meanings S
+    → Rows S
     → List Event → List Answer → F → F → Type 0
 EventsAsk failures may_leave asked meanings rows (event ∷ rest) (answer ∷ others) old new =
     (mid : _) × EventAsks failures may_leave asked meanings rows event answer old mid

@@ -28,8 +28,8 @@ use gb_report::fault::Fault;
 use gb_report::report::Report;
 use std::alloc::{AllocError, Global};
 
-/// Takes the events in their order, and answers each. Nothing is printed. It fails only where there is no memory for the
-/// answers, and then before the first event, with nothing changed and nothing told.
+/// Takes the events in their order, and answers each. Nothing is printed. It fails only where there is no
+/// memory for the answers, and then before the first event, with nothing changed and nothing told.
 pub fn run_events<A: Actions, T: Transforms, F: Folder, L: TaskListener>(
     alloc: Global,
     folder: &mut F,
@@ -101,7 +101,8 @@ fn take<A: Actions, T: Transforms, F: Folder, L: TaskListener>(
     ensures asks { EventAsks F.failures F.may_leave F.asked A.meanings tables.now.actions event.now result
         folder.old folder.new }
     ensures device { HasFailed (times_blamed result) (F.failures folder.old) (F.failures folder.new) }
-    ensures heard { HaveHeardAll (result ∷ []) (map L.ear listeners.old.items) (map L.ear listeners.new.items) }
+    ensures heard { HaveHeardAll (result ∷ []) (map L.ear listeners.old.items)
+        (map L.ear listeners.new.items) }
     ensures outlined { AnswerIsOutlined event.now result }
     ensures keeps { IsTrue F.tells
         → EventKeeps (registers_in (tables_of T.meanings A.meanings tables.now)) event.now result

@@ -2,7 +2,8 @@
 use Rattle.std.specs.Prelude.{◌≡◌, ◌⊎◌, List, Option, None, Some, Ok, Err}
 use Rattle.gb_plan.specs.Graph.{Plan, Registry, Request, IsPlan, IsSound}
 use Rattle.gb_plan.specs.Task.{Text}
-use Rattle.gb_plan.specs.Refusal.{Meeting, IsLeastMeeting, IsOverlap, IsOwnInput, IsUndeclared, IsRefused, request_of}
+use Rattle.gb_plan.specs.Refusal.{Meeting, IsLeastMeeting, IsOverlap, IsOwnInput}
+use Rattle.gb_plan.specs.Refusal.{IsUndeclared, IsRefused, request_of}
 use Rattle.gb_report.specs.declared.fault.Fault.{Fault}
 use Rattle.gb_report.specs.declared.fault.Fault.TheVariants.{OutOfMemory}
 use Rattle.gb_graph.specs.declared.met.Search.{Search}

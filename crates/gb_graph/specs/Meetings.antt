@@ -1,5 +1,6 @@
 -- Which tasks meet at which places, and the least of their meetings.
-use Rattle.std.specs.Prelude.{ℕ, ◌≡◌, ◌<◌, ◌↔◌, Bool, true, false, not, ◌&&◌, ◌==◌, List, [], Contains, Option, None, Some, if◌then◌else◌, slice_index_or, length}
+use Rattle.std.specs.Prelude.{ℕ, ◌≡◌, ◌<◌, ◌↔◌, Bool, true, false, not, ◌&&◌, ◌==◌, List, [], Contains}
+use Rattle.std.specs.Prelude.{Option, None, Some, if◌then◌else◌, slice_index_or, length}
 use Rattle.std.specs.Ordering.{is_lt}
 use Rattle.gb_core.specs.Lists.{byte_order}
 use Rattle.gb_core.specs.Place.{overlaps}

@@ -7,7 +7,8 @@ ghost use Rattle.gb_order.specs.Order.{rows};
 ghost use Rattle.gb_order.specs.Circle.{path_at};
 ghost use Rattle.gb_graph.specs.Places.{IsRising, place_at};
 ghost use Rattle.gb_graph.specs.declared.places.TaskPlace.{TaskPlace};
-ghost use Rattle.gb_graph.specs.Meetings.{IsLeast, IsLeastTask, IsMet, IsWithin, found_by, lesser, meeting_by};
+ghost use Rattle.gb_graph.specs.Meetings.{IsLeast, IsLeastTask, IsMet, IsWithin};
+ghost use Rattle.gb_graph.specs.Meetings.{found_by, lesser, meeting_by};
 
 use crate::met::{Search, met_at};
 use crate::places::TaskPlace;

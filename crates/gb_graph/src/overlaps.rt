@@ -1,5 +1,6 @@
 //! Which places of a sorted row overlap a place: those beneath it, those at it, and those at its own folders.
-ghost use Rattle.std.specs.Prelude.{◌≡◌, ◌<◌, ◌≤◌, ◌↔◌, ◌∷◌, ◌++◌, [], ℕ, true, false, bytes_eq, length, Contains, IfOk, IsTrue, OnOk};
+ghost use Rattle.std.specs.Prelude.{◌≡◌, ◌<◌, ◌≤◌, ◌↔◌, ◌∷◌, ◌++◌, [], ℕ, true, false, bytes_eq, length};
+ghost use Rattle.std.specs.Prelude.{Contains, IfOk, IsTrue, OnOk};
 ghost use Rattle.gb_core.specs.Place.{is_beneath, overlaps};
 ghost use Rattle.gb_graph.specs.Places.{IsRising, is_before, place_at};
 ghost use Rattle.gb_graph.specs.Overlaps.{FindsToo, is_between, with_sign};

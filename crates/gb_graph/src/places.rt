@@ -3,7 +3,8 @@ ghost use Rattle.std.specs.Prelude.{◌≡◌, ◌↔◌, ◌∷◌, [], map, If
 ghost use Rattle.std.specs.Bool.{OnTrue};
 ghost use Rattle.std.specs.List.{flat_map};
 ghost use Rattle.gb_plan.specs.Task.{roots_of, output_places};
-ghost use Rattle.gb_graph.specs.Places.{AreSamePlaces, IsRising, IsSame, IsThinned, StandsTwice, by_place, by_task, places_from, with_places};
+ghost use Rattle.gb_graph.specs.Places.{AreSamePlaces, IsRising, IsSame, IsThinned, StandsTwice, by_place};
+ghost use Rattle.gb_graph.specs.Places.{by_task, places_from, with_places};
 
 use gb_core::place::Place;
 use gb_plan::plan::Planned;

@@ -12,7 +12,11 @@ abbrev pub record_place : List ℕ → List ℕ
 record_place path = codes ".gb/tasks" ++ slashed path ++ codes ".record"
 
 abbrev pub PlacesAreApart : Type 0
-PlacesAreApart = (one other : List ℕ) → IsTrue (is_task_path one) → IsTrue (is_task_path other) → record_place one ≡ record_place other → one ≡ other
+PlacesAreApart =
+    (one other : List ℕ) → IsTrue (is_task_path one) → IsTrue (is_task_path other)
+    → record_place one ≡ record_place other → one ≡ other
 
 abbrev pub NoPlaceBeneath : Type 0
-NoPlaceBeneath = (one other : List ℕ) → IsTrue (is_task_path one) → IsTrue (is_task_path other) → ¬ IsTrue (is_beneath (record_place one) (record_place other))
+NoPlaceBeneath =
+    (one other : List ℕ) → IsTrue (is_task_path one) → IsTrue (is_task_path other)
+    → ¬ IsTrue (is_beneath (record_place one) (record_place other))

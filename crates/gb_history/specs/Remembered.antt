@@ -20,7 +20,8 @@ Prints = List ℕ × List (List ℕ × List ℕ)
 abbrev pub prints_in : List OutputRecord → List Prints
 prints_in outputs = map (λ output. output.prints) outputs
 
--- A run that ended well: its actions with versions and arguments, its input values and files, and its outputs.
+-- A run that ended well: its actions with versions and arguments, its input values
+-- and files, and its outputs.
 pub record Remembered : Type 0 where
   pub actions : List Action
   pub values : List (List ℕ × Value)
@@ -54,7 +55,9 @@ IsAction action = IsName action.kind × (action.version < 4294967296) × AllByRe
 
 -- a path and 32 bytes
 abbrev pub IsPrint : List ℕ × List ℕ → Type 0
-IsPrint print = IsTrue (is_rel_path print.0) × IsUtf8 print.0 × (length print.1 ≡ 32) × AllByRecursion (λ b. b < 256) print.1
+IsPrint print =
+    IsTrue (is_rel_path print.0) × IsUtf8 print.0 × (length print.1 ≡ 32)
+    × AllByRecursion (λ b. b < 256) print.1
 
 -- a name, and each path once, in the order of the paths
 abbrev pub ArePrints : Prints → Type 0

@@ -20,7 +20,8 @@ use Rattle.gb_history.specs.Remembered.{Remembered, Prints, IsAction, IsRemember
 abbrev pub value_json : Value → Data
 value_json (values.Text text) = object (member (codes "text") (string text) no_members)
 value_json (values.Flag flag) = object (member (codes "flag") (boolean flag) no_members)
-value_json (values.List texts) = object (member (codes "list") (array (items_of (map string texts))) no_members)
+value_json (values.List texts) =
+    object (member (codes "list") (array (items_of (map string texts))) no_members)
 value_json (values.Place place) = object (member (codes "place") (string place) no_members)
 value_json (values.Task path) = object (member (codes "task") (string path) no_members)
 

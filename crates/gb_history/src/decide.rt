@@ -2,7 +2,8 @@
 ghost use Rattle.std.specs.Prelude.{◌≡◌, ◌↔◌, ◌++◌, length, IsTrue, IfOk, OnOk};
 ghost use Rattle.std.specs.List.{AllZip, flat_map, zip};
 ghost use Rattle.std.specs.Option.{option_copied};
-ghost use Rattle.gb_history.specs.Decision.{Decides, DecidesFrom, IsAlike, IsSince, IsUpToDate, changes_of, is_incremental};
+ghost use Rattle.gb_history.specs.Decision.{Decides, DecidesFrom, IsAlike, IsSince};
+ghost use Rattle.gb_history.specs.Decision.{IsUpToDate, changes_of, is_incremental};
 
 use crate::record::Record;
 use crate::same::{Same, are_same};

@@ -7,7 +7,8 @@ ghost use Rattle.std.specs.Map.{lookup, remove_entry};
 ghost use Rattle.serde_json.specs.Written.{compact_text};
 ghost use Rattle.gb_core.specs.Lists.{byte_order};
 ghost use Rattle.gb_history.specs.Remembered.{Remembered, AreHeld};
-ghost use Rattle.gb_history.specs.Text.{history_json, history_text_in, history_text, EntryFits, IsHistoryText};
+ghost use Rattle.gb_history.specs.Text.{history_json, history_text_in, history_text, EntryFits};
+ghost use Rattle.gb_history.specs.Text.{IsHistoryText};
 ghost use Rattle.gb_history.specs.declared.record.Edition.{Edition as Written};
 ghost use Rattle.gb_history.specs.declared.fault.RecordFault.TheVariants.{OutOfMemory};
 

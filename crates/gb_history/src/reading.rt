@@ -1,5 +1,6 @@
 //! Records from JSON.
-ghost use Rattle.std.specs.Prelude.{codes, ◌≡◌, ◌<◌, ◌∷◌, [], List, ℕ, Ok, Some, map, length, IsTrue, IfOk, MatchResult, IsSomeAnd};
+ghost use Rattle.std.specs.Prelude.{codes, ◌≡◌, ◌<◌, ◌∷◌, [], List, ℕ, Ok, Some, map, length, IsTrue};
+ghost use Rattle.std.specs.Prelude.{IfOk, MatchResult, IsSomeAnd};
 ghost use Rattle.std.specs.List.{AllByRecursion};
 ghost use Rattle.std.specs.Str.{IsUtf8};
 ghost use Rattle.std.specs.FinMap.Entries.{is_sorted};
@@ -15,8 +16,12 @@ ghost use Rattle.serde_json.specs.Data.{Data, string, array, number, unsigned};
 ghost use Rattle.serde_json.specs.Find.{get};
 ghost use Rattle.serde_json.specs.Read.{read};
 ghost use Rattle.serde_json.specs.View.{view, items_of};
-ghost use Rattle.gb_history.specs.Remembered.{Remembered, Prints as Printed, IsName, IsArgument, IsInput, IsAction, IsPrint, ArePrints, IsOutput, AreInOrder, IsRemembered};
-ghost use Rattle.gb_history.specs.Text.{value_json, input_json, action_json, print_json, prints_json, output_json, shape_text, run_json, record_json, entry_json, history_json, FitsEdition, IsActionIn, EntryFits, IsEntryIn};
+ghost use Rattle.gb_history.specs.Remembered.{Remembered, Prints as Printed, IsName, IsArgument, IsInput};
+ghost use Rattle.gb_history.specs.Remembered.{IsAction, IsPrint, ArePrints};
+ghost use Rattle.gb_history.specs.Remembered.{IsOutput, AreInOrder, IsRemembered};
+ghost use Rattle.gb_history.specs.Text.{value_json, input_json, action_json, print_json, prints_json};
+ghost use Rattle.gb_history.specs.Text.{output_json, shape_text, run_json, record_json, entry_json};
+ghost use Rattle.gb_history.specs.Text.{history_json, FitsEdition, IsActionIn, EntryFits, IsEntryIn};
 ghost use Rattle.gb_history.specs.declared.record.Edition.{Edition as Written};
 ghost use Rattle.gb_history.specs.declared.record.OutputRecord.{OutputRecord as Output};
 ghost use Rattle.gb_history.specs.declared.fault.RecordFault.TheVariants.{OutOfMemory};
@@ -76,7 +81,8 @@ fn pair_of(json: &Json) -> Option<(&Json, &Json)>
 }
 
 fn name_from(alloc: Global, text: &str) -> Result<Name, RecordFault>
-    ensures { IsTrue (is_name text.now) → MatchResult result (λ name. name ≡ text.now) (λ e. e ≡ OutOfMemory) }
+    ensures { IsTrue (is_name text.now)
+        → MatchResult result (λ name. name ≡ text.now) (λ e. e ≡ OutOfMemory) }
 {
     match Name::read(alloc, text) {
         Ok(name) => Ok(name),
@@ -86,7 +92,8 @@ fn name_from(alloc: Global, text: &str) -> Result<Name, RecordFault>
 }
 
 fn task_from(alloc: Global, text: &str) -> Result<TaskPath, RecordFault>
-    ensures { IsTrue (is_task_path text.now) → MatchResult result (λ path. path ≡ text.now) (λ e. e ≡ OutOfMemory) }
+    ensures { IsTrue (is_task_path text.now)
+        → MatchResult result (λ path. path ≡ text.now) (λ e. e ≡ OutOfMemory) }
 {
     match TaskPath::read(alloc, text) {
         Ok(path) => Ok(path),
@@ -96,7 +103,8 @@ fn task_from(alloc: Global, text: &str) -> Result<TaskPath, RecordFault>
 }
 
 fn place_from(alloc: Global, text: &str) -> Result<Place, RecordFault>
-    ensures { IsTrue (is_place text.now) → MatchResult result (λ place. place ≡ text.now) (λ e. e ≡ OutOfMemory) }
+    ensures { IsTrue (is_place text.now)
+        → MatchResult result (λ place. place ≡ text.now) (λ e. e ≡ OutOfMemory) }
 {
     match Place::read(alloc, text) {
         Ok(place) => Ok(place),
@@ -106,7 +114,8 @@ fn place_from(alloc: Global, text: &str) -> Result<Place, RecordFault>
 }
 
 fn path_from(alloc: Global, text: &str) -> Result<RelPath, RecordFault>
-    ensures { IsTrue (is_rel_path text.now) → MatchResult result (λ path. path ≡ text.now) (λ e. e ≡ OutOfMemory) }
+    ensures { IsTrue (is_rel_path text.now)
+        → MatchResult result (λ path. path ≡ text.now) (λ e. e ≡ OutOfMemory) }
 {
     match RelPath::read(alloc, text) {
         Ok(path) => Ok(path),
@@ -190,7 +199,8 @@ fn input_from(alloc: Global, json: &Json) -> Result<(Name, Value), RecordFault>
 }
 
 pub fn inputs_from(alloc: Global, items: &[Json]) -> Result<NamedValues, RecordFault>
-    ensures { (vs : List (List ℕ × Argument)) → AllByRecursion IsInput vs → map view items.now ≡ map input_json vs
+    ensures { (vs : List (List ℕ × Argument)) → AllByRecursion IsInput vs
+        → map view items.now ≡ map input_json vs
         → MatchResult result (λ got. got ≡ vs) (λ e. e ≡ OutOfMemory) }
 {
     let mut values = NamedValues::new(alloc);
@@ -222,7 +232,8 @@ fn version_from(edition: Edition, json: &Json) -> Option<u32>
 }
 
 fn kind_from(alloc: Global, json: &Json) -> Result<Name, RecordFault>
-    ensures { (name : List ℕ) → IsTrue (is_name name) → get (codes "kind") (view json.now) ≡ Some (string name)
+    ensures { (name : List ℕ) → IsTrue (is_name name)
+        → get (codes "kind") (view json.now) ≡ Some (string name)
         → MatchResult result (λ got. got ≡ name) (λ e. e ≡ OutOfMemory) }
 {
     let Some(text) = text_at(json, "kind") else {
@@ -291,7 +302,8 @@ fn print_from(alloc: Global, json: &Json) -> Result<(RelPath, [u8; 32]), RecordF
 }
 
 fn digests_from(alloc: Global, items: &[Json]) -> Result<Vec<(RelPath, [u8; 32])>, RecordFault>
-    ensures { (ps : List (List ℕ × List ℕ)) → AllByRecursion IsPrint ps → map view items.now ≡ map print_json ps
+    ensures { (ps : List (List ℕ × List ℕ)) → AllByRecursion IsPrint ps
+        → map view items.now ≡ map print_json ps
         → MatchResult result (λ got. got.items ≡ ps) (λ e. e ≡ OutOfMemory) }
 {
     let mut prints = Vec::new(alloc);
@@ -330,7 +342,8 @@ pub fn properties_from(alloc: Global, items: &[Json]) -> Result<Vec<Prints>, Rec
 }
 
 fn form_from(json: &Json) -> Option<Form>
-    ensures { (form : Shape) → get (codes "shape") (view json.now) ≡ Some (string (shape_text form)) → result ≡ Some form }
+    ensures { (form : Shape) → get (codes "shape") (view json.now) ≡ Some (string (shape_text form))
+        → result ≡ Some form }
 {
     match text_at(json, "shape")? {
         "file" => Some(Form::File),
@@ -376,7 +389,8 @@ struct Lists<'j> {
 }
 
 fn lists_at(json: &Json) -> Option<Lists<'_>>
-    ensures { (edition : Written) (path : List ℕ) (run : Remembered) → view json.now ≡ run_json edition path run
+    ensures { (edition : Written) (path : List ℕ) (run : Remembered)
+        → view json.now ≡ run_json edition path run
         → IsSomeAnd result (λ lists. (map view lists.actions.now ≡ map (action_json edition) run.actions)
         × (map view lists.inputs.now ≡ map prints_json run.inputs)
         × (map view lists.outputs.now ≡ map output_json run.outputs)
@@ -412,7 +426,8 @@ pub fn in_order(
 
 /// The record that a JSON value says.
 fn run_from(alloc: Global, edition: Edition, json: &Json) -> Result<Record, RecordFault>
-    ensures read { (path : List ℕ) (run : Remembered) → IsRemembered run → AllByRecursion (FitsEdition edition) run.actions
+    ensures read { (path : List ℕ) (run : Remembered) → IsRemembered run
+        → AllByRecursion (FitsEdition edition) run.actions
         → view json.now ≡ run_json edition path run
         → MatchResult result (λ got. got ≡ run) (λ e. e ≡ OutOfMemory) }
     ensures fits { IfOk result (λ got. AllByRecursion (FitsEdition edition) got.actions) }
@@ -429,7 +444,8 @@ fn run_from(alloc: Global, edition: Edition, json: &Json) -> Result<Record, Reco
 
 /// The one item of a list of one.
 fn only_of(json: &Json) -> Option<&Json>
-    ensures { (a : Data) → view json.now ≡ array (items_of (a ∷ [])) → IsSomeAnd result (λ item. view item.now ≡ a) }
+    ensures { (a : Data) → view json.now ≡ array (items_of (a ∷ []))
+        → IsSomeAnd result (λ item. view item.now ≡ a) }
 {
     let list = json.as_array()?.as_slice();
     if list.len() != 1 {
@@ -453,7 +469,8 @@ pub fn edition_from(json: &Json) -> Option<Edition>
 
 /// The record in a list of one.
 pub fn record_from(alloc: Global, edition: Edition, json: &Json) -> Result<Record, RecordFault>
-    ensures read { (path : List ℕ) (run : Remembered) → IsRemembered run → AllByRecursion (FitsEdition edition) run.actions
+    ensures read { (path : List ℕ) (run : Remembered) → IsRemembered run
+        → AllByRecursion (FitsEdition edition) run.actions
         → view json.now ≡ record_json edition path run
         → MatchResult result (λ got. got ≡ run) (λ e. e ≡ OutOfMemory) }
     ensures fits { IfOk result (λ got. AllByRecursion (FitsEdition edition) got.actions) }

@@ -46,14 +46,22 @@ impl Model for Record {
 
     ghost Value = { Remembered };
 
-    ghost view = { λ r. record { actions = r.actions.items; values = r.values; inputs = r.inputs.items; outputs = r.outputs.items } };
+    ghost view = { λ r.
+        record {
+          actions = r.actions.items;
+          values = r.values;
+          inputs = r.inputs.items;
+          outputs = r.outputs.items;
+        } };
 
-    ghost invariant = { λ r. IsTrue (is_sorted byte_order r.values) × IsTrue (is_sorted byte_order r.inputs.items)
+    ghost invariant = { λ r. IsTrue (is_sorted byte_order r.values)
+        × IsTrue (is_sorted byte_order r.inputs.items)
         × IsTrue (is_sorted byte_order (prints_in r.outputs.items)) };
 }
 
 impl Record {
-    /// The record of these actions, input values, file properties and outputs, the last three by rising names.
+    /// The record of these actions, input values, file properties and outputs, the
+    /// last three by rising names.
     pub fn new(
         actions: Vec<Action>,
         values: NamedValues,
@@ -63,7 +71,13 @@ impl Record {
         requires values { IsTrue (is_sorted byte_order values) }
         requires inputs { IsTrue (is_sorted byte_order inputs.items) }
         requires outputs { IsTrue (is_sorted byte_order (prints_in outputs.items)) }
-        ensures { result ≡ record { actions = actions.items; values = values; inputs = inputs.items; outputs = outputs.items } }
+        ensures { result
+            ≡ record {
+              actions = actions.items;
+              values = values;
+              inputs = inputs.items;
+              outputs = outputs.items;
+            } }
     {
         Record {
             actions,

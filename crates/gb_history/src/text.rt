@@ -1,11 +1,13 @@
 //! The text of a record, and the record that has a text; and what this shares with a whole history.
-ghost use Rattle.std.specs.Prelude.{◌≡◌, [], List, ℕ, IfOk, OnOk, IsTrue, IsSomeAnd, IfSome, OnSome, MatchResult, ◌↔◌};
+ghost use Rattle.std.specs.Prelude.{◌≡◌, [], List, ℕ, IfOk, OnOk, IsTrue, IsSomeAnd, IfSome};
+ghost use Rattle.std.specs.Prelude.{OnSome, MatchResult, ◌↔◌};
 ghost use Rattle.std.specs.List.{AllByRecursion};
 ghost use Rattle.std.specs.Str.{IsUtf8};
 ghost use Rattle.serde_json.specs.View.{view};
 ghost use Rattle.serde_json.specs.Written.{compact_text};
 ghost use Rattle.gb_history.specs.Remembered.{Remembered, IsRemembered, IsSaid};
-ghost use Rattle.gb_history.specs.Text.{history_json, record_json, record_text, text_in, history_text_in, sealed, FitsEdition, IsTextOf, TextsSayOneRecord, TextsSayOneHistory};
+ghost use Rattle.gb_history.specs.Text.{history_json, record_json, record_text, text_in, history_text_in};
+ghost use Rattle.gb_history.specs.Text.{sealed, FitsEdition, IsTextOf, TextsSayOneRecord, TextsSayOneHistory};
 ghost use Rattle.gb_history.specs.Tokens.{data_tokens};
 ghost use Rattle.gb_history.specs.declared.record.Edition.{Edition as Written};
 ghost use Rattle.gb_history.specs.declared.fault.RecordFault.TheVariants.{OutOfMemory};
@@ -37,7 +39,7 @@ fn sealed_text(json: Vec<u8>) -> Result<Vec<u8>, AllocError>
 }
 
 /// The sealed text of records as JSON.
-pub fn sealed_json(writer: Writer) -> Result<Vec<u8>, AllocError>
+pub(crate) fn sealed_json(writer: Writer) -> Result<Vec<u8>, AllocError>
     ensures { (edition : Written) (entries : List (List ℕ × Remembered)) → writer.before ≡ []
         → writer.tokens ≡ data_tokens (history_json edition entries)
         → IfOk result (λ text. text.items ≡ history_text_in edition entries) }
@@ -78,7 +80,7 @@ pub fn is_same(left: &[u8], right: &[u8]) -> bool
 }
 
 /// The bytes before the seal, where there is room for one.
-pub fn before_seal(bytes: &[u8]) -> Option<&[u8]>
+pub(crate) fn before_seal(bytes: &[u8]) -> Option<&[u8]>
     ensures { (json : List ℕ) → bytes.now ≡ sealed json → IsSomeAnd result (λ text. text.now ≡ json) }
 {
     if bytes.len() < 66 {
@@ -88,7 +90,7 @@ pub fn before_seal(bytes: &[u8]) -> Option<&[u8]>
 }
 
 /// A JSON text, and the edition that it says it is written in.
-pub fn json_in(alloc: Global, json: &[u8]) -> Result<(Edition, Json), RecordFault>
+pub(crate) fn json_in(alloc: Global, json: &[u8]) -> Result<(Edition, Json), RecordFault>
     ensures { (edition : Written) (entries : List (List ℕ × Remembered)) → AllByRecursion IsSaid entries
         → json.now ≡ compact_text (history_json edition entries)
         → MatchResult result (λ got. (got.0 ≡ edition) × (view got.1 ≡ history_json edition entries))
@@ -104,7 +106,8 @@ pub fn json_in(alloc: Global, json: &[u8]) -> Result<(Edition, Json), RecordFaul
 /// The edition and the record that a JSON text says.
 fn parsed(alloc: Global, json: &[u8]) -> Result<(Edition, Record), RecordFault>
     ensures read { (edition : Written) (path : List ℕ) (run : Remembered) → IsUtf8 path → IsRemembered run
-        → AllByRecursion (FitsEdition edition) run.actions → json.now ≡ compact_text (record_json edition path run)
+        → AllByRecursion (FitsEdition edition) run.actions
+        → json.now ≡ compact_text (record_json edition path run)
         → MatchResult result (λ got. (got.0 ≡ edition) × (got.1 ≡ run)) (λ e. e ≡ OutOfMemory) }
     ensures fits { IfOk result (λ got. AllByRecursion (FitsEdition got.0) got.1.actions) }
 {

@@ -7,8 +7,11 @@ ghost use Rattle.hex.specs.Hex.{encode_lower};
 ghost use Rattle.json.specs.Token.{key};
 ghost use Rattle.serde_json.specs.Data.{boolean, number, unsigned, string, array, object, no_members, member};
 ghost use Rattle.serde_json.specs.View.{items_of};
-ghost use Rattle.gb_history.specs.Remembered.{IsArgument, IsInput, IsAction, IsPrint, ArePrints, IsOutput, IsRemembered, AreHeld};
-ghost use Rattle.gb_history.specs.Text.{value_json, input_json, plain_object, versioned_object, action_json, print_json, prints_json, output_json, shape_text, run_json, edition_number, record_json, entry_json, history_json};
+ghost use Rattle.gb_history.specs.Remembered.{IsArgument, IsInput, IsAction, IsPrint, ArePrints};
+ghost use Rattle.gb_history.specs.Remembered.{IsOutput, IsRemembered, AreHeld};
+ghost use Rattle.gb_history.specs.Text.{value_json, input_json, plain_object, versioned_object, action_json};
+ghost use Rattle.gb_history.specs.Text.{print_json, prints_json, output_json, shape_text, run_json};
+ghost use Rattle.gb_history.specs.Text.{edition_number, record_json, entry_json, history_json};
 ghost use Rattle.gb_history.specs.Tokens.{data_tokens};
 
 use crate::record::{Edition, OutputRecord, Record};

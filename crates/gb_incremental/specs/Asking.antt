@@ -1,5 +1,6 @@
 -- What the writer of a task is asked by changes, and what a run by changes goes on from.
-use Rattle.std.specs.Prelude.{◌≡◌, ◌&&◌, Bool, true, false, List, [], map, Ok, Some, IsTrue, bytes_eq, is_some}
+use Rattle.std.specs.Prelude.{◌≡◌, ◌&&◌, Bool, true, false, List, [], map, Ok, Some, IsTrue, bytes_eq}
+use Rattle.std.specs.Prelude.{is_some}
 use Rattle.std.specs.List.{filter, list_all, list_any}
 use Rattle.std.specs.FinMap.Entries.{find}
 use Rattle.gb_core.specs.Lists.{byte_order}
@@ -81,7 +82,8 @@ writes_stored meanings stored = is_some (shape_of meanings stored).out
 -- what is stored for the action can answer changes
 abbrev pub AnswersChanges : {S : Type 0} → Meanings S → Rows S → Action → Type 0
 AnswersChanges {S = S} meanings rows action =
-    (stored : S) → find byte_order action.kind rows ≡ Some stored → (shape_of meanings stored).incremental ≡ true
+    (stored : S) → find byte_order action.kind rows ≡ Some stored
+    → (shape_of meanings stored).incremental ≡ true
 
 -- so it can, if it writes
 abbrev pub CanGoOn : {S : Type 0} → Meanings S → Rows S → Action → Type 0

@@ -28,7 +28,8 @@ pub record IsItsTurn (kinds : Kinds) (task : Task) (action : Action) (trees : Tr
   pub writes : writers kinds task.actions ≡ action ∷ []
 
 -- It ends: the folder is the rest with its files.
-pub record Ends (kinds : Kinds) (task : Task) (action : Action) (trees : Trees) (old new : Files) : Type 0 where
+pub record Ends (kinds : Kinds) (task : Task) (action : Action) (trees : Trees)
+    (old new : Files) : Type 0 where
   pub more : Files
   pub step : step_by task.outputs (rest_of task old) [] (made_by kinds task action trees) ≡ Ok more
   pub few : full_outputs task.outputs more ≡ []

@@ -1,5 +1,7 @@
 //! What follows for a run by changes, each the contract of a function that does nothing.
-ghost use Rattle.gb_incremental.specs.Laws.{FailedRunsInventNothing, FailedRunsKeepRightFiles, FailedRunsPrintFronts, RepliesAreMade, RepliesLeadOn, TornPlacesAreOfTheRun};
+ghost use Rattle.gb_incremental.specs.Laws.{FailedRunsInventNothing, FailedRunsKeepRightFiles};
+ghost use Rattle.gb_incremental.specs.Laws.{FailedRunsPrintFronts, RepliesAreMade, RepliesLeadOn};
+ghost use Rattle.gb_incremental.specs.Laws.{TornPlacesAreOfTheRun};
 
 use gb_meaning::laws::Grounds;
 

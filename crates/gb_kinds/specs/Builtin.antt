@@ -1,5 +1,6 @@
 -- What the kinds of actions make and print, by their numbers.
-use Rattle.std.specs.Prelude.{ℕ, ◌==◌, true, List, [], ◌∷◌, ◌++◌, map, if◌then◌else◌, Option, None, Some, false, Result, Ok, Err, codes}
+use Rattle.std.specs.Prelude.{ℕ, ◌==◌, true, List, [], ◌∷◌, ◌++◌, map, if◌then◌else◌, Option, None, Some}
+use Rattle.std.specs.Prelude.{false, Result, Ok, Err, codes}
 use Rattle.std.specs.Borrow.{Bor}
 use Rattle.std.specs.declared.alloc.Global.{Global}
 use Rattle.gb_core.specs.declared.value.Value.{Value}
@@ -16,7 +17,9 @@ use Rattle.gb_action.specs.declared.request.Request.{Request}
 use Rattle.gb_action.specs.declared.shape.Arg.{Arg}
 use Rattle.gb_action.specs.declared.shape.Arg.TheVariants as args
 use Rattle.gb_action.specs.declared.shape.Shape.{Shape}
-use Rattle.gb_kinds.specs.declared.shapes.TheConstants.{PRINT_LINE, WRITE_TEXT, FAIL, COPY_FILES, REPLACE_TOKENS, KEEP_LINES, SUMS, CONCAT, ADD_FILE, WORD_INDEX}
+use Rattle.gb_kinds.specs.declared.shapes.TheConstants.{PRINT_LINE, WRITE_TEXT, FAIL, COPY_FILES}
+use Rattle.gb_kinds.specs.declared.shapes.TheConstants.{REPLACE_TOKENS, KEEP_LINES, SUMS}
+use Rattle.gb_kinds.specs.declared.shapes.TheConstants.{CONCAT, ADD_FILE, WORD_INDEX}
 use Rattle.gb_kinds.specs.ByFile.{file_of, by_file, all_bytes, source_changes, change_line}
 use Rattle.gb_kinds.specs.Contents.{sum_line, kept_lines, with_value}
 use Rattle.gb_kinds.specs.Remade.{as_made}
@@ -85,16 +88,19 @@ kind_shape NoKind = of_texts [] None
 
 -- ---- What is made and printed
 
--- `writeText` makes the output itself, which holds the text; `fail` fails with it; `copyFiles`, `replaceTokens`, `keepLines`
--- and `sums` make a file of each file; `concat` makes one file of all, in the order of their paths; `addFile` makes the
--- file at its path beneath the output; `wordIndex` makes for each word the file that tells where it stands
+-- `writeText` makes the output itself, which holds the text; `fail` fails with it; `copyFiles`,
+-- `replaceTokens`, `keepLines` and `sums` make a file of each file; `concat` makes one file of all, in the
+-- order of their paths; `addFile` makes the file at its path beneath the output; `wordIndex` makes for each
+-- word the file that tells where it stands
 abbrev pub kind_makes : Kind → Making
 kind_makes PrintLine arguments values trees = Ok []
 kind_makes WriteText arguments values trees = Ok (file_of [] (first_text arguments) ∷ [])
 kind_makes Fail arguments values trees = Err (first_text arguments)
 kind_makes CopyFiles arguments values trees = Ok (by_file (λ bytes. bytes) (tree_at trees source))
-kind_makes ReplaceTokens arguments values trees = Ok (by_file (with_value (first_text arguments) (second_text arguments)) (tree_at trees source))
-kind_makes KeepLines arguments values trees = Ok (by_file (kept_lines (first_text arguments)) (tree_at trees source))
+kind_makes ReplaceTokens arguments values trees =
+    Ok (by_file (with_value (first_text arguments) (second_text arguments)) (tree_at trees source))
+kind_makes KeepLines arguments values trees =
+    Ok (by_file (kept_lines (first_text arguments)) (tree_at trees source))
 kind_makes Sums arguments values trees = Ok (by_file sum_line (tree_at trees source))
 kind_makes Concat arguments values trees = Ok (file_of [] (all_bytes (tree_at trees source)) ∷ [])
 kind_makes AddFile arguments values trees = Ok (file_of (first_text arguments) (second_text arguments) ∷ [])
@@ -130,13 +136,18 @@ builtin_makes number = kind_makes (kind_of number)
 abbrev pub builtin_prints : ℕ → Printing
 builtin_prints number = kind_prints (kind_of number)
 
--- the built-in actions in the order of their table, each with its name, number and version: those that read no files,
+-- the built-in actions in the order of their table, each with its name, number and version:
+-- those that read no files,
 abbrev pub text_names : List (List ℕ × ℕ × ℕ)
-text_names = (codes "printLine", PRINT_LINE, 1) ∷ (codes "writeText", WRITE_TEXT, 1) ∷ (codes "fail", FAIL, 1) ∷ []
+text_names =
+    (codes "printLine", PRINT_LINE, 1) ∷ (codes "writeText", WRITE_TEXT, 1) ∷ (codes "fail", FAIL, 1) ∷ []
 
 -- those that follow the changes of files,
 abbrev pub file_names : List (List ℕ × ℕ × ℕ)
-file_names = (codes "copyFiles", COPY_FILES, 1) ∷ (codes "replaceTokens", REPLACE_TOKENS, 1) ∷ (codes "keepLines", KEEP_LINES, 1) ∷ (codes "sums", SUMS, 1) ∷ (codes "wordIndex", WORD_INDEX, 1) ∷ []
+file_names =
+    (codes "copyFiles", COPY_FILES, 1) ∷ (codes "replaceTokens", REPLACE_TOKENS, 1)
+    ∷ (codes "keepLines", KEEP_LINES, 1) ∷ (codes "sums", SUMS, 1)
+    ∷ (codes "wordIndex", WORD_INDEX, 1) ∷ []
 
 -- and those that write one file
 abbrev pub one_file_names : List (List ℕ × ℕ × ℕ)
@@ -146,6 +157,9 @@ abbrev pub builtin_names : List (List ℕ × ℕ × ℕ)
 builtin_names = text_names ++ file_names ++ one_file_names
 
 -- a closure that may be called under `pre`, and then answers by `post`, stands for the kind
-pub record StandsFor (number : ℕ) (pre : Global → Bor Request → Type 0) (post : Global → Bor Request → Result Reply ActionFault → Type 0) : Type 0 where
-  pub callable : (alloc : Global) (request : Bor Request) → IsAsked (builtin_shape number) request.now → pre alloc request
-  pub keeps : (alloc : Global) (request : Bor Request) (answer : Result Reply ActionFault) → post alloc request answer → Answers (builtin_makes number) (builtin_prints number) request.now answer
+pub record StandsFor (number : ℕ) (pre : Global → Bor Request → Type 0)
+    (post : Global → Bor Request → Result Reply ActionFault → Type 0) : Type 0 where
+  pub callable : (alloc : Global) (request : Bor Request) → IsAsked (builtin_shape number) request.now
+      → pre alloc request
+  pub keeps : (alloc : Global) (request : Bor Request) (answer : Result Reply ActionFault)
+      → post alloc request answer → Answers (builtin_makes number) (builtin_prints number) request.now answer

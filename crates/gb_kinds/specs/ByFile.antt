@@ -1,5 +1,6 @@
 -- The kinds that work file by file: what they make, and what they reply.
-use Rattle.std.specs.Prelude.{◌≡◌, ℕ, Bool, true, false, List, [], ◌∷◌, ◌++◌, map, codes, bytes_eq, if◌then◌else◌, Option, Some, None, unwrap_or}
+use Rattle.std.specs.Prelude.{◌≡◌, ℕ, Bool, true, false, List, [], ◌∷◌, ◌++◌, map, codes, bytes_eq}
+use Rattle.std.specs.Prelude.{if◌then◌else◌, Option, Some, None, unwrap_or}
 use Rattle.std.specs.List.{flat_map}
 use Rattle.std.specs.FinMap.Entries.{find}
 use Rattle.gb_core.specs.Lists.{byte_order}
@@ -69,8 +70,10 @@ rewritten edit path standing (Some bytes) = where_new path standing (edit bytes)
 
 -- what a change has written
 abbrev pub writes_for : (List ℕ → List ℕ) → List OutputFiles → Tree → Change → List Written
-writes_for edit outputs files (Added path) = rewritten edit path (stands_at outputs target path) (file_at files path)
-writes_for edit outputs files (Modified path) = rewritten edit path (stands_at outputs target path) (file_at files path)
+writes_for edit outputs files (Added path) =
+    rewritten edit path (stands_at outputs target path) (file_at files path)
+writes_for edit outputs files (Modified path) =
+    rewritten edit path (stands_at outputs target path) (file_at files path)
 writes_for edit outputs files (Removed path) = []
 
 -- what a change has removed
@@ -79,11 +82,15 @@ removes_for (Added path) = []
 removes_for (Modified path) = []
 removes_for (Removed path) = record { output = target; path = path } ∷ []
 
--- The reply of a kind that works file by file: all files, or those that changed and do not stand so already. It prints a
--- line for each change.
+-- The reply of a kind that works file by file: all files, or those that changed and do not stand so already.
+-- It prints a line for each change.
 pub record IsByFile (edit : List ℕ → List ℕ) (request : Request) (reply : Reply) : Type 0 where
   pub keeps : request.changes.incremental ≡ false → reply.removes ≡ []
-  pub in_full : request.changes.incremental ≡ false → reply.writes ≡ by_file edit (tree_at request.files source)
-  pub removes : request.changes.incremental ≡ true → reply.removes ≡ flat_map removes_for (source_changes request.changes.lists)
-  pub writes : request.changes.incremental ≡ true → reply.writes ≡ flat_map (writes_for edit request.outputs (tree_at request.files source)) (source_changes request.changes.lists)
+  pub in_full : request.changes.incremental ≡ false
+      → reply.writes ≡ by_file edit (tree_at request.files source)
+  pub removes : request.changes.incremental ≡ true
+      → reply.removes ≡ flat_map removes_for (source_changes request.changes.lists)
+  pub writes : request.changes.incremental ≡ true
+      → reply.writes ≡ flat_map (writes_for edit request.outputs (tree_at request.files source))
+      (source_changes request.changes.lists)
   pub lines : reply.lines ≡ map change_line (source_changes request.changes.lists)

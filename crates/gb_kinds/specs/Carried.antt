@@ -1,5 +1,6 @@
 -- The index of words from the old index and what changed.
-use Rattle.std.specs.Prelude.{◌≡◌, ℕ, Bool, true, false, not, ◌&&◌, ◌||◌, List, [], ◌∷◌, map, if◌then◌else◌, bytes_eq, IsTrue, Option, Some, None, unwrap_or}
+use Rattle.std.specs.Prelude.{◌≡◌, ℕ, Bool, true, false, not, ◌&&◌, ◌||◌, List, [], ◌∷◌, map, if◌then◌else◌}
+use Rattle.std.specs.Prelude.{bytes_eq, IsTrue, Option, Some, None, unwrap_or}
 use Rattle.std.specs.FinMap.Entries.{is_sorted}
 use Rattle.std.specs.List.{concat, filter, flat_map, list_all, list_any}
 use Rattle.std.specs.List.Sorted.{IsStrictlySortedBy}
@@ -35,14 +36,17 @@ told_at index word = lines_of (unwrap_or (file_at index word) [])
 
 -- a file that changed holds the word now, or held it by the old index
 abbrev pub is_looked_at : Tree → List Change → Tree → List ℕ → Bool
-is_looked_at old changes files word = list_any (λ change. holds_in (file_at files (path_of change)) word) changes || list_any (is_of_change changes) (told_at old word)
+is_looked_at old changes files word =
+    list_any (λ change. holds_in (file_at files (path_of change)) word) changes
+    || list_any (is_of_change changes) (told_at old word)
 
--- The line stays, or it is new: the old index has it and it tells no path that changed, or it tells one whose file holds the
--- word now.
+-- The line stays, or it is new: the old index has it and it tells no path that changed, or it tells one whose
+-- file holds the word now.
 abbrev pub is_carried : Tree → List Change → Tree → List ℕ → List ℕ → Bool
 is_carried old changes files word line =
     (list_any (bytes_eq line) (told_at old word) && not (is_of_change changes line))
-    || list_any (λ change. bytes_eq (path_line (path_of change)) line && holds_in (file_at files (path_of change)) word) changes
+    || list_any (λ change. bytes_eq (path_line (path_of change)) line
+    && holds_in (file_at files (path_of change)) word) changes
 
 -- the lines as a file, if there are any
 abbrev pub file_of_lines : List (List ℕ) → Option (List ℕ)
@@ -56,12 +60,14 @@ pub record IsEntry (is_there : List ℕ → Bool) (entry : Option (List ℕ)) : 
   pub exactly : (line : List ℕ) → list_any (bytes_eq line) lines ≡ is_there line
   pub joined : entry ≡ file_of_lines lines
 
--- What is found by the old index, the changes, and the files that changed: at each word that is looked at the lines that are
--- carried, and nothing at others. All paths that were met are paths.
-pub record IsCarried (old : Tree) (changes : List Change) (files : Tree) (looked_at : List ℕ → Bool) (index : Tree) : Type 0 where
+-- What is found by the old index, the changes, and the files that changed: at each word that is looked at the
+-- lines that are carried, and nothing at others. All paths that were met are paths.
+pub record IsCarried (old : Tree) (changes : List Change) (files : Tree) (looked_at : List ℕ → Bool)
+    (index : Tree) : Type 0 where
   pub looked : (word : List ℕ) → looked_at word ≡ is_looked_at old changes files word
   pub ordered : IsTrue (is_sorted byte_order index)
-  pub entries : (word : List ℕ) → is_looked_at old changes files word ≡ true → IsEntry (is_carried old changes files word) (file_at index word)
+  pub entries : (word : List ℕ) → is_looked_at old changes files word ≡ true
+      → IsEntry (is_carried old changes files word) (file_at index word)
   pub others : (word : List ℕ) → is_looked_at old changes files word ≡ false → file_at index word ≡ None
   pub in_order : IsTrue (is_sorted byte_order files)
   pub paths : IsTrue (list_all (λ file. is_rel_path file.0) files)
@@ -70,13 +76,16 @@ pub record IsCarried (old : Tree) (changes : List Change) (files : Tree) (looked
 -- the index that a request asks for: that of all its files, or what is found by what changed
 pub record IsIndexFor (request : Request) (looked_at : List ℕ → Bool) (index : Tree) : Type 0 where
   pub in_full : request.changes.incremental ≡ false → index ≡ index_of (tree_at request.files source)
-  pub carried : request.changes.incremental ≡ true → IsCarried (standing request.outputs) (source_changes request.changes.lists) (tree_at request.files source) looked_at index
+  pub carried : request.changes.incremental ≡ true
+      → IsCarried (standing request.outputs) (source_changes request.changes.lists)
+      (tree_at request.files source) looked_at index
 
 -- ---- As it is built
 
 -- the line stood and is not gone, or it is new
 abbrev pub is_line_of : List ℕ → (List ℕ → Bool) → List ℕ → List ℕ → Bool
-is_line_of stood gone new line = (list_any (bytes_eq line) (lines_of stood) && not (gone line)) || list_any (bytes_eq line) (lines_of new)
+is_line_of stood gone new line =
+    (list_any (bytes_eq line) (lines_of stood) && not (gone line)) || list_any (bytes_eq line) (lines_of new)
 
 -- the changed paths as those of files
 abbrev pub as_files : List Change → Tree
@@ -84,4 +93,5 @@ as_files changes = map (λ change. (path_of change, [])) changes
 
 -- the paths of the files of which it is so, each on a line, if there is one
 abbrev pub lines_where : (List ℕ × List ℕ → Bool) → Tree → Option (List ℕ)
-lines_where chosen files = if list_any chosen files then Some (flat_map (λ file. path_line file.0) (filter chosen files)) else None
+lines_where chosen files =
+    if list_any chosen files then Some (flat_map (λ file. path_line file.0) (filter chosen files)) else None

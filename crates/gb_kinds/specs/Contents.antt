@@ -25,7 +25,7 @@ kept_lines text bytes = concat (filter (occurs text) (lines_of bytes))
 abbrev pub token : List ℕ → List ℕ
 token key = 64 ∷ key ++ 64 ∷ []
 
--- The bytes with the value in place of each token of the key. Tokens are found from the left, none over another, and none
--- is looked for in a value that was put in.
+-- The bytes with the value in place of each token of the key. Tokens are found from the left, none over
+-- another, and none is looked for in a value that was put in.
 abbrev pub with_value : List ℕ → List ℕ → List ℕ → List ℕ
 with_value key value bytes = replaced_at bytes (length (token key)) value 0 (matches bytes (token key) 0)

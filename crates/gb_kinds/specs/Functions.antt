@@ -1,5 +1,6 @@
 -- What the functions of values give: of properties and providers, by their numbers.
-use Rattle.std.specs.Prelude.{ℕ, ◌==◌, Bool, List, [], ◌∷◌, ◌++◌, length, map, codes, bytes_eq, if◌then◌else◌, Option, None, Some, Result, Ok, Err}
+use Rattle.std.specs.Prelude.{ℕ, ◌==◌, Bool, List, [], ◌∷◌, ◌++◌, length, map, codes, bytes_eq, if◌then◌else◌}
+use Rattle.std.specs.Prelude.{Option, None, Some, Result, Ok, Err}
 use Rattle.std.specs.Borrow.{Bor}
 use Rattle.std.specs.declared.alloc.Global.{Global}
 use Rattle.std.specs.Char.{to_ascii_uppercase}
@@ -15,7 +16,8 @@ use Rattle.gb_provider.specs.declared.fault.Chosen.{Chosen}
 use Rattle.gb_provider.specs.declared.fault.Refusal.{Refusal}
 use Rattle.gb_provider.specs.declared.fault.Refusal.TheVariants.{BadArguments, WrongValue}
 use Rattle.gb_provider.specs.declared.fault.TransformFault.{TransformFault}
-use Rattle.gb_kinds.specs.declared.functions.TheConstants.{UPPER, APPEND, SPLIT, JOIN, CHILD, NON_EMPTY, OUTPUT, CONCAT, IS_TRUE, EQUALS}
+use Rattle.gb_kinds.specs.declared.functions.TheConstants.{UPPER, APPEND, SPLIT, JOIN, CHILD, NON_EMPTY}
+use Rattle.gb_kinds.specs.declared.functions.TheConstants.{OUTPUT, CONCAT, IS_TRUE, EQUALS}
 
 -- ---- What a function takes: the sort of its value comes before the count of its arguments
 
@@ -109,10 +111,12 @@ abbrev pub split : Value → Arguments → Mapped
 split value arguments = of_text value (λ text. with_one arguments (split_by text))
 
 abbrev pub join : Value → Arguments → Mapped
-join value arguments = of_list value (λ texts. with_one arguments (λ separator. Ok (text_of (join_texts separator texts))))
+join value arguments =
+    of_list value (λ texts. with_one arguments (λ separator. Ok (text_of (join_texts separator texts))))
 
 abbrev pub child : Value → Arguments → Mapped
-child value arguments = of_place value (λ place. with_one arguments (λ path. if_place (joined (Some place) path)))
+child value arguments =
+    of_place value (λ place. with_one arguments (λ path. if_place (joined (Some place) path)))
 
 abbrev pub non_empty : Value → Arguments → Mapped
 non_empty value arguments = of_text value (λ text. alone arguments (if_any text))
@@ -120,10 +124,12 @@ non_empty value arguments = of_text value (λ text. alone arguments (if_any text
 -- ---- Of `flatMap` and `zip`, and tests
 
 abbrev pub output : Value → Arguments → Result (Option Chosen) Refusal
-output value arguments = of_task value (λ task. with_one arguments (λ name. Ok (Some (record { task = task; output = name }))))
+output value arguments =
+    of_task value (λ task. with_one arguments (λ name. Ok (Some (record { task = task; output = name }))))
 
 abbrev pub concat : Value → Value → Arguments → Result Value Refusal
-concat left right arguments = of_text left (λ front. of_text right (λ back. alone arguments (values.Text (front ++ back))))
+concat left right arguments =
+    of_text left (λ front. of_text right (λ back. alone arguments (values.Text (front ++ back))))
 
 abbrev pub is_true : Value → Arguments → Result Bool Refusal
 is_true value arguments = of_truth value (alone arguments)
@@ -172,11 +178,21 @@ test_arity number = if number == IS_TRUE then 0 else 1
 -- ---- Closures
 
 -- a closure that may be called with any value, and then answers by `post`, keeps the meaning
-pub record Keeps {A : Type 0} (means : Value → Arguments → Result A Refusal) (pre : Global → Bor Value → Bor Arguments → Type 0) (post : Global → Bor Value → Bor Arguments → Result A TransformFault → Type 0) : Type 0 where
+pub record Keeps {A : Type 0} (means : Value → Arguments → Result A Refusal)
+    (pre : Global → Bor Value → Bor Arguments → Type 0)
+    (post : Global → Bor Value → Bor Arguments → Result A TransformFault → Type 0) : Type 0 where
   pub callable : (alloc : Global) (value : Bor Value) (arguments : Bor Arguments) → pre alloc value arguments
-  pub keeps : (alloc : Global) (value : Bor Value) (arguments : Bor Arguments) (answer : Result A TransformFault) → post alloc value arguments answer → IsReply answer (means value.now arguments.now)
+  pub keeps : (alloc : Global) (value : Bor Value) (arguments : Bor Arguments)
+      (answer : Result A TransformFault) → post alloc value arguments answer
+      → IsReply answer (means value.now arguments.now)
 
 -- the same of two values
-pub record KeepsOfTwo (means : Value → Value → Arguments → Result Value Refusal) (pre : Global → Bor Value → Bor Value → Bor Arguments → Type 0) (post : Global → Bor Value → Bor Value → Bor Arguments → Result Value TransformFault → Type 0) : Type 0 where
-  pub callable : (alloc : Global) (left right : Bor Value) (arguments : Bor Arguments) → pre alloc left right arguments
-  pub keeps : (alloc : Global) (left right : Bor Value) (arguments : Bor Arguments) (answer : Result Value TransformFault) → post alloc left right arguments answer → IsReply answer (means left.now right.now arguments.now)
+pub record KeepsOfTwo (means : Value → Value → Arguments → Result Value Refusal)
+    (pre : Global → Bor Value → Bor Value → Bor Arguments → Type 0)
+    (post : Global → Bor Value → Bor Value → Bor Arguments → Result Value TransformFault → Type 0)
+    : Type 0 where
+  pub callable : (alloc : Global) (left right : Bor Value) (arguments : Bor Arguments)
+      → pre alloc left right arguments
+  pub keeps : (alloc : Global) (left right : Bor Value) (arguments : Bor Arguments)
+      (answer : Result Value TransformFault) → post alloc left right arguments answer
+      → IsReply answer (means left.now right.now arguments.now)

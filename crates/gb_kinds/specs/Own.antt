@@ -8,7 +8,9 @@ use Rattle.gb_action.specs.Files.{Tree, Trees, tree_at}
 use Rattle.gb_action.specs.Meanings.{Values}
 use Rattle.gb_action.specs.Shapes.{source, target}
 use Rattle.gb_action.specs.declared.reply.Written.{Written}
-use Rattle.gb_kinds.specs.Builtin.{Kind, PrintLine, WriteText, Fail, CopyFiles, ReplaceTokens, KeepLines, Sums, Concat, AddFile, WordIndex, NoKind, kind_makes, kind_shape, first_text, second_text}
+use Rattle.gb_kinds.specs.Builtin.{Kind, PrintLine, WriteText, Fail, CopyFiles, ReplaceTokens, KeepLines}
+use Rattle.gb_kinds.specs.Builtin.{Sums, Concat, AddFile, WordIndex, NoKind, kind_makes}
+use Rattle.gb_kinds.specs.Builtin.{kind_shape, first_text, second_text}
 use Rattle.gb_kinds.specs.ByFile.{by_file}
 use Rattle.gb_kinds.specs.Contents.{sum_line, kept_lines, with_value}
 use Rattle.gb_kinds.specs.Words.{index_of}
@@ -21,18 +23,30 @@ pub own_by_file : (edit : List ℕ → List ℕ) (files : Tree) → are_own true
 own_by_file edit [] = refl
 own_by_file edit (file ∷ files) = own_by_file edit files
 
-pub moved : (has_output : Bool) (made written : List Written) → ◌≡◌ {A = Result (List Written) (List ℕ)} (Ok made) (Ok written) → are_own has_output made ≡ true → are_own has_output written ≡ true
-moved has_output made written e own = subst (λ xs. are_own has_output xs ≡ true) (ap (λ (r : Result (List Written) (List ℕ)). result_unwrap_or r []) e) own
+pub moved : (has_output : Bool) (made written : List Written)
+    → ◌≡◌ {A = Result (List Written) (List ℕ)} (Ok made) (Ok written) → are_own has_output made ≡ true
+    → are_own has_output written ≡ true
+moved has_output made written e own =
+    subst (λ xs. are_own has_output xs ≡ true)
+    (ap (λ (r : Result (List Written) (List ℕ)). result_unwrap_or r []) e) own
 
-pub writes_own : (kind : Kind) (arguments : List Value) (values : Values) (trees : Trees) (written : List Written) → kind_makes kind arguments values trees ≡ Ok written → are_own (is_some (kind_shape kind).out) written ≡ true
+pub writes_own : (kind : Kind) (arguments : List Value) (values : Values) (trees : Trees)
+    (written : List Written) → kind_makes kind arguments values trees ≡ Ok written
+    → are_own (is_some (kind_shape kind).out) written ≡ true
 writes_own PrintLine arguments values trees written e = moved false [] written e refl
 writes_own WriteText arguments values trees written e = moved true _ written e refl
 writes_own Fail arguments values trees written e = absurd (cc)
-writes_own CopyFiles arguments values trees written e = moved true _ written e (own_by_file (λ bytes. bytes) (tree_at trees source))
-writes_own ReplaceTokens arguments values trees written e = moved true _ written e (own_by_file (with_value (first_text arguments) (second_text arguments)) (tree_at trees source))
-writes_own KeepLines arguments values trees written e = moved true _ written e (own_by_file (kept_lines (first_text arguments)) (tree_at trees source))
-writes_own Sums arguments values trees written e = moved true _ written e (own_by_file sum_line (tree_at trees source))
+writes_own CopyFiles arguments values trees written e =
+    moved true _ written e (own_by_file (λ bytes. bytes) (tree_at trees source))
+writes_own ReplaceTokens arguments values trees written e =
+    moved true _ written e
+    (own_by_file (with_value (first_text arguments) (second_text arguments)) (tree_at trees source))
+writes_own KeepLines arguments values trees written e =
+    moved true _ written e (own_by_file (kept_lines (first_text arguments)) (tree_at trees source))
+writes_own Sums arguments values trees written e =
+    moved true _ written e (own_by_file sum_line (tree_at trees source))
 writes_own Concat arguments values trees written e = moved true _ written e refl
 writes_own AddFile arguments values trees written e = moved true _ written e refl
-writes_own WordIndex arguments values trees written e = moved true _ written e (own_by_file (λ bytes. bytes) (index_of (tree_at trees source)))
+writes_own WordIndex arguments values trees written e =
+    moved true _ written e (own_by_file (λ bytes. bytes) (index_of (tree_at trees source)))
 writes_own NoKind arguments values trees written e = absurd (cc)

@@ -21,15 +21,19 @@ standing outputs = unwrap_or (files_of outputs target) []
 
 -- those of the paths at which a file stands and none is made
 abbrev pub outdated : List OutputFiles → Tree → List (List ℕ) → List OutputPath
-outdated outputs made paths = map (λ path. record { output = target; path = path }) (filter (λ path. is_some (stands_at outputs target path) && not (is_some (file_at made path))) paths)
+outdated outputs made paths =
+    map (λ path. record { output = target; path = path })
+    (filter (λ path. is_some (stands_at outputs target path) && not (is_some (file_at made path))) paths)
 
 -- the files that do not stand so already
 abbrev pub renewed : List OutputFiles → Tree → List Written
 renewed outputs made = flat_map (λ file. where_new file.0 (stands_at outputs target file.0) file.1) made
 
--- The reply of a kind that makes these files: all of them, or, where it looked at some paths alone, those of them that do not
--- stand so, and it removes what stands at one of the paths and is made no more. It prints a line for each change.
-pub record IsRemade (made : Tree) (looked_at : List (List ℕ)) (request : Request) (reply : Reply) : Type 0 where
+-- The reply of a kind that makes these files: all of them, or, where it looked at some paths alone, those
+-- of them that do not stand so, and it removes what stands at one of the paths and is made no more. It
+-- prints a line for each change.
+pub record IsRemade (made : Tree) (looked_at : List (List ℕ)) (request : Request)
+    (reply : Reply) : Type 0 where
   pub keeps : request.changes.incremental ≡ false → reply.removes ≡ []
   pub in_full : request.changes.incremental ≡ false → reply.writes ≡ as_made made
   pub removes : request.changes.incremental ≡ true → reply.removes ≡ outdated request.outputs made looked_at

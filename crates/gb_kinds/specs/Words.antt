@@ -1,5 +1,6 @@
 -- The words of files, and the files that tell for each word where it stands.
-use Rattle.std.specs.Prelude.{ℕ, ◌==◌, Bool, ◌&&◌, nat_le, List, [], ◌∷◌, ◌++◌, length, map, if◌then◌else◌, bytes_eq, Option, Some, unwrap_or}
+use Rattle.std.specs.Prelude.{ℕ, ◌==◌, Bool, ◌&&◌, nat_le, List, [], ◌∷◌, ◌++◌, length, map, if◌then◌else◌}
+use Rattle.std.specs.Prelude.{bytes_eq, Option, Some, unwrap_or}
 use Rattle.std.specs.Char.{is_ascii_alphabetic, to_ascii_lowercase}
 use Rattle.std.specs.BTreeMap.{BTreeMap}
 use Rattle.std.specs.Global.{Global}
@@ -35,7 +36,8 @@ lines_for word files = flat_map (λ file. path_line file.0) (filter (λ file. ho
 
 -- a file for each word of the files, at the word, which tells the files that hold it
 abbrev pub index_of : Tree → Tree
-index_of files = in_order (map (λ word. (word, lines_for word files)) (flat_map (λ file. words_of file.1) files))
+index_of files =
+    in_order (map (λ word. (word, lines_for word files)) (flat_map (λ file. words_of file.1) files))
 
 -- ---- As it is built
 

@@ -16,7 +16,7 @@ pub fn first_text(args: &Arguments) -> &str
 }
 
 /// The second argument.
-pub fn second_text(args: &Arguments) -> &str
+pub(crate) fn second_text(args: &Arguments) -> &str
     ensures { result.now ≡ second_text args.now }
 {
     match args.as_slice().split_first() {

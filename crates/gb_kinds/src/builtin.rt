@@ -23,9 +23,11 @@ pub struct StoredAction {
     run: Run,
     pub ghost positive: { 1 ≤ version },
     pub ghost shaped: { shape ≡ builtin_shape kind },
-    ghost callable: { (alloc : _) (request : _) → IsAsked (builtin_shape kind) request.now → Run.pre run alloc request },
+    ghost callable: { (alloc : _) (request : _) → IsAsked (builtin_shape kind) request.now
+        → Run.pre run alloc request },
     ghost keeps: { (alloc : _) (request : _) (answer : _) → Run.post run alloc request answer
-        → Answers (builtin_makes kind) (builtin_prints kind) request.now answer } by { Prim.hlevel Answers-prop },
+        → Answers (builtin_makes kind) (builtin_prints kind)
+        request.now answer } by { Prim.hlevel Answers-prop },
 }
 
 impl StoredAction {
@@ -52,7 +54,13 @@ pub struct Builtin;
 impl Actions for Builtin {
     type Stored = StoredAction;
 
-    ghost meanings = { record { kind = λ stored. stored.kind; version = λ stored. stored.version; shape = builtin_shape; makes = builtin_makes; prints = builtin_prints } };
+    ghost meanings = { record {
+      kind = λ stored. stored.kind;
+      version = λ stored. stored.version;
+      shape = builtin_shape;
+      makes = builtin_makes;
+      prints = builtin_prints;
+    } };
 
     ghost use Rattle.gb_kinds.specs.Builtin.{kind_of};
     ghost use Rattle.gb_kinds.specs.Own.{writes_own};

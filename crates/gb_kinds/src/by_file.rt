@@ -6,7 +6,8 @@ ghost use Rattle.std.specs.FinMap.Entries.{is_sorted};
 ghost use Rattle.gb_core.specs.Lists.{byte_order};
 ghost use Rattle.gb_action.specs.Files.{tree_at};
 ghost use Rattle.gb_action.specs.Shapes.{source as source_is};
-ghost use Rattle.gb_kinds.specs.ByFile.{file_of, by_file, holds, rewritten, writes_for, removes_for, IsByFile};
+ghost use Rattle.gb_kinds.specs.ByFile.{file_of, by_file, holds, rewritten};
+ghost use Rattle.gb_kinds.specs.ByFile.{writes_for, removes_for, IsByFile};
 
 use crate::edit::FileMaker;
 use crate::names::{output_name, source_name};

@@ -1,5 +1,6 @@
 //! The index of words from the old index, the changes, and the files that changed.
-ghost use Rattle.std.specs.Prelude.{◌≡◌, ◌||◌, ◌&&◌, [], true, false, not, bytes_eq, if◌then◌else◌, unwrap_or, IfOk, OnOk, IsTrue};
+ghost use Rattle.std.specs.Prelude.{◌≡◌, ◌||◌, ◌&&◌, [], true, false, not, bytes_eq, if◌then◌else◌};
+ghost use Rattle.std.specs.Prelude.{unwrap_or, IfOk, OnOk, IsTrue};
 ghost use Rattle.std.specs.BTreeSet.{contains};
 ghost use Rattle.std.specs.FinMap.Entries.{is_sorted};
 ghost use Rattle.std.specs.List.{concat, list_all, list_any};
@@ -12,7 +13,8 @@ ghost use Rattle.gb_action.specs.Files.{file_at, tree_at};
 ghost use Rattle.gb_action.specs.Outputs.{stands_at};
 ghost use Rattle.gb_action.specs.Shapes.{source as source_is, target};
 ghost use Rattle.gb_kinds.specs.ByFile.{source_changes};
-ghost use Rattle.gb_kinds.specs.Carried.{as_files, file_of_lines, holds_in, is_line_of, is_of_change, lines_where, path_of, IsCarried, IsEntry};
+ghost use Rattle.gb_kinds.specs.Carried.{as_files, file_of_lines, holds_in, is_line_of, is_of_change};
+ghost use Rattle.gb_kinds.specs.Carried.{lines_where, path_of, IsCarried, IsEntry};
 ghost use Rattle.gb_kinds.specs.Remade.{standing as standing_in};
 ghost use Rattle.gb_kinds.specs.Words.{index_files, path_line, with_path};
 
@@ -49,7 +51,10 @@ struct Changed {
 /// bytes are read. Takes n log n steps in the bytes of the old index and of the changed files, and
 /// one for each path.
 pub fn carried_index(alloc: Global, request: &Request) -> Result<Remade, AllocError>
-    ensures { IfOk result (λ remade. IsCarried (standing_in request.now.outputs) (source_changes request.now.changes.lists) (tree_at request.now.files source_is) (contains byte_order remade.looked_at) (index_files remade.made)) }
+    ensures { IfOk result (λ remade.
+        IsCarried (standing_in request.now.outputs) (source_changes request.now.changes.lists)
+        (tree_at request.now.files source_is) (contains byte_order remade.looked_at)
+        (index_files remade.made)) }
 {
     let name = source_name(alloc)?;
     let output = output_name(alloc)?;
@@ -75,10 +80,18 @@ fn meet_paths(files: &[(RelPath, Bytes)])
 }
 
 fn changed_of(alloc: Global, request: &Request, changes: &[Change]) -> Result<Changed, AllocError>
-    ensures lines { IfOk result (λ changed. (line : _) → contains byte_order changed.lines line ≡ is_of_change changes.now line) }
-    ensures words { IfOk result (λ changed. (word : _) → contains byte_order changed.words word ≡ list_any (λ change. holds_in (file_at (tree_at request.now.files source_is) (path_of change)) word) changes.now) }
-    ensures entries { IfOk result (λ changed. (word : _) → file_at (index_files changed.index) word ≡ lines_where (λ file. holds_in (file_at (tree_at request.now.files source_is) file.0) word) (as_files changes.now)) }
-    ensures paths { IfOk result (λ _. IsTrue (list_all (λ change. is_rel_path (path_of change)) changes.now)) }
+    ensures lines { IfOk result (λ changed. (line : _)
+        → contains byte_order changed.lines line ≡ is_of_change changes.now line) }
+    ensures words { IfOk result (λ changed. (word : _)
+        → contains byte_order changed.words word
+        ≡ list_any (λ change. holds_in (file_at (tree_at request.now.files source_is) (path_of change))
+        word) changes.now) }
+    ensures entries { IfOk result (λ changed. (word : _)
+        → file_at (index_files changed.index) word
+        ≡ lines_where (λ file. holds_in (file_at (tree_at request.now.files source_is) file.0) word)
+        (as_files changes.now)) }
+    ensures paths { IfOk result (λ _.
+        IsTrue (list_all (λ change. is_rel_path (path_of change)) changes.now)) }
 {
     let name = source_name(alloc)?;
     let mut changed = Changed {
@@ -115,9 +128,16 @@ fn add_change(
 ) -> Result<(), AllocError>
     requires { IsTrue (is_sorted byte_order (index_files changed.old.index)) }
     ensures ordered { OnOk result (IsTrue (is_sorted byte_order (index_files changed.new.index))) }
-    ensures lines { OnOk result ((line : _) → contains byte_order changed.new.lines line ≡ (contains byte_order changed.old.lines line || bytes_eq (path_line path.now) line)) }
-    ensures words { OnOk result ((word : _) → contains byte_order changed.new.words word ≡ (contains byte_order changed.old.words word || holds_in (option_copied contents.entry) word)) }
-    ensures entries { OnOk result ((word : _) → file_at (index_files changed.new.index) word ≡ with_path path.now (holds_in (option_copied contents.entry) word) (file_at (index_files changed.old.index) word)) }
+    ensures lines { OnOk result ((line : _)
+        → contains byte_order changed.new.lines line
+        ≡ (contains byte_order changed.old.lines line || bytes_eq (path_line path.now) line)) }
+    ensures words { OnOk result ((word : _)
+        → contains byte_order changed.new.words word
+        ≡ (contains byte_order changed.old.words word || holds_in (option_copied contents.entry) word)) }
+    ensures entries { OnOk result ((word : _)
+        → file_at (index_files changed.new.index) word
+        ≡ with_path path.now (holds_in (option_copied contents.entry) word)
+        (file_at (index_files changed.old.index) word)) }
     ensures path { OnOk result (IsTrue (is_rel_path path.now)) }
 {
     let words = words_in(alloc, contents)?;
@@ -128,7 +148,9 @@ fn add_change(
 }
 
 fn add_words(words: &mut Words, more: Words) -> Result<(), AllocError>
-    ensures { OnOk result ((word : _) → contains byte_order words.new word ≡ (contains byte_order words.old word || contains byte_order more word)) }
+    ensures { OnOk result ((word : _)
+        → contains byte_order words.new word
+        ≡ (contains byte_order words.old word || contains byte_order more word)) }
 {
     for word in more {
         words.insert(word)?;
@@ -138,7 +160,8 @@ fn add_words(words: &mut Words, more: Words) -> Result<(), AllocError>
 
 /// The words of a file, if there is one.
 fn words_in(alloc: Global, contents: Option<&Bytes>) -> Result<Words, AllocError>
-    ensures { IfOk result (λ words. (word : _) → contains byte_order words word ≡ holds_in (option_copied contents.entry) word) }
+    ensures { IfOk result (λ words. (word : _)
+        → contains byte_order words word ≡ holds_in (option_copied contents.entry) word) }
 {
     match contents {
         Some(bytes) => words_of(alloc, bytes.as_slice()),
@@ -153,7 +176,11 @@ fn add_told(
     index: &[(RelPath, Bytes)],
     lines: &Lines,
 ) -> Result<(), AllocError>
-    ensures { OnOk result ((word : _) → contains byte_order words.new word ≡ (contains byte_order words.old word || list_any (λ file. bytes_eq file.0 word && list_any (contains byte_order lines.now) (lines_of file.1)) index.now)) }
+    ensures { OnOk result ((word : _)
+        → contains byte_order words.new word
+        ≡ (contains byte_order words.old word
+        || list_any (λ file. bytes_eq file.0 word
+        && list_any (contains byte_order lines.now) (lines_of file.1)) index.now)) }
 {
     for (word, told) in index {
         add_where_told(alloc, words, word, told.as_slice(), lines)?;
@@ -168,7 +195,11 @@ fn add_where_told(
     told: &[u8],
     lines: &Lines,
 ) -> Result<(), AllocError>
-    ensures { OnOk result ((other : _) → contains byte_order words.new other ≡ (contains byte_order words.old other || (bytes_eq word.now other && list_any (contains byte_order lines.now) (lines_of told.now)))) }
+    ensures { OnOk result ((other : _)
+        → contains byte_order words.new other
+        ≡ (contains byte_order words.old other
+        || (bytes_eq word.now other
+        && list_any (contains byte_order lines.now) (lines_of told.now)))) }
 {
     if tells_one(alloc, told, lines)? {
         words.insert(word.copy()?)?;
@@ -197,8 +228,12 @@ fn index_at(
     new: &Index,
 ) -> Result<Index, AllocError>
     ensures ordered { IfOk result (λ index. IsTrue (is_sorted byte_order (index_files index))) }
-    ensures entries { IfOk result (λ index. (word : _) → contains byte_order words.now word ≡ true → IsEntry (is_line_of (unwrap_or (stands_at request.now.outputs target word) []) (contains byte_order gone.now) (unwrap_or (file_at (index_files new.now) word) [])) (file_at (index_files index) word)) }
-    ensures others { IfOk result (λ index. (word : _) → contains byte_order words.now word ≡ false → file_at (index_files index) word ≡ None) }
+    ensures entries { IfOk result (λ index. (word : _) → contains byte_order words.now word ≡ true
+        → IsEntry (is_line_of (unwrap_or (stands_at request.now.outputs target word) [])
+        (contains byte_order gone.now) (unwrap_or (file_at (index_files new.now) word) []))
+        (file_at (index_files index) word)) }
+    ensures others { IfOk result (λ index. (word : _) → contains byte_order words.now word ≡ false
+        → file_at (index_files index) word ≡ None) }
 {
     let output = output_name(alloc)?;
     let mut index = BTreeMap::new(alloc);
@@ -232,7 +267,8 @@ fn told_at<'a>(index: &'a Index, word: &RelPath) -> &'a [u8]
 
 /// The lines that stood without those that are gone, and the new ones.
 fn carried_lines(alloc: Global, stood: &[u8], gone: &Lines, new: &[u8]) -> Result<Lines, AllocError>
-    ensures { IfOk result (λ lines. (line : _) → contains byte_order lines line ≡ is_line_of stood.now (contains byte_order gone.now) new.now line) }
+    ensures { IfOk result (λ lines. (line : _)
+        → contains byte_order lines line ≡ is_line_of stood.now (contains byte_order gone.now) new.now line) }
 {
     let mut lines = BTreeSet::new(alloc);
     add_others(alloc, &mut lines, stood, gone)?;
@@ -249,7 +285,11 @@ fn add_others(
     stood: &[u8],
     gone: &Lines,
 ) -> Result<(), AllocError>
-    ensures { OnOk result ((line : _) → contains byte_order lines.new line ≡ (contains byte_order lines.old line || (list_any (bytes_eq line) (lines_of stood.now) && not (contains byte_order gone.now line)))) }
+    ensures { OnOk result ((line : _)
+        → contains byte_order lines.new line
+        ≡ (contains byte_order lines.old line
+        || (list_any (bytes_eq line) (lines_of stood.now)
+        && not (contains byte_order gone.now line)))) }
 {
     for line in stood.lines_with_terminator() {
         let line = Line::from_slice(alloc, line)?;
@@ -270,7 +310,11 @@ fn add_entry(
     requires { IsTrue (is_sorted byte_order (index_files index.old)) }
     ensures ordered { OnOk result (IsTrue (is_sorted byte_order (index_files index.new))) }
     ensures in_order { OnOk result (IsStrictlySortedBy byte_order lines.now.keys) }
-    ensures entries { OnOk result ((other : _) → file_at (index_files index.new) other ≡ (if bytes_eq word.now other then option_or (file_of_lines lines.now.keys) (file_at (index_files index.old) other) else file_at (index_files index.old) other)) }
+    ensures entries { OnOk result ((other : _)
+        → file_at (index_files index.new) other
+        ≡ (if bytes_eq word.now other
+        then option_or (file_of_lines lines.now.keys) (file_at (index_files index.old) other)
+        else file_at (index_files index.old) other)) }
 {
     let told = joined(alloc, lines)?;
     if !lines.is_empty() {

@@ -74,7 +74,8 @@ pub fn word_index(alloc: Global, request: &Request) -> Result<Reply, ActionFault
 }
 
 fn index_for(alloc: Global, request: &Request) -> Result<Remade, AllocError>
-    ensures { IfOk result (λ remade. IsIndexFor request.now (contains byte_order remade.looked_at) (index_files remade.made)) }
+    ensures { IfOk result (λ remade.
+        IsIndexFor request.now (contains byte_order remade.looked_at) (index_files remade.made)) }
 {
     if request.changes.is_incremental() {
         return carried_index(alloc, request);

@@ -6,8 +6,10 @@ ghost use Rattle.std.specs.Prelude.{◌≡◌, ◌++◌, ◌∷◌, [], false, b
 ghost use Rattle.std.specs.List.{list_any};
 ghost use Rattle.gb_provider.specs.declared.table.Transform.TheVariants as uses;
 ghost use Rattle.gb_provider.specs.declared.fault.TableFault.TheVariants.{OutOfMemory};
-ghost use Rattle.gb_kinds.specs.Functions.{map_means, map_arity, flat_map_means, flat_map_arity, zip_means, zip_arity, test_means, test_arity, Keeps, KeepsOfTwo};
-ghost use Rattle.gb_kinds.specs.FunctionNames.{numbers, text_functions, part_functions, other_functions, value_functions};
+ghost use Rattle.gb_kinds.specs.Functions.{map_means, map_arity, flat_map_means, flat_map_arity, zip_means};
+ghost use Rattle.gb_kinds.specs.Functions.{zip_arity, test_means, test_arity, Keeps, KeepsOfTwo};
+ghost use Rattle.gb_kinds.specs.FunctionNames.{numbers, text_functions, part_functions, other_functions};
+ghost use Rattle.gb_kinds.specs.FunctionNames.{value_functions};
 
 use crate::functions::{
     APPEND, CHILD, CONCAT, EQUALS, IS_TRUE, JOIN, NON_EMPTY, OUTPUT, SPLIT, UPPER,
@@ -47,7 +49,8 @@ pub fn function_table(
     requires concat { KeepsOfTwo (zip_means CONCAT) (ZipRun.pre concat) (ZipRun.post concat) }
     requires is_true { Keeps (test_means IS_TRUE) (TestRun.pre is_true) (TestRun.post is_true) }
     requires equals { Keeps (test_means EQUALS) (TestRun.pre equals) (TestRun.post equals) }
-    ensures ok { IfOk result (λ table. numbers table (λ f. f.kind) (λ f. f.kind) (λ f. f.kind) (λ f. f.kind) ≡ value_functions) }
+    ensures ok { IfOk result (λ table.
+        numbers table (λ f. f.kind) (λ f. f.kind) (λ f. f.kind) (λ f. f.kind) ≡ value_functions) }
     ensures err { IfErr result (λ fault. fault ≡ OutOfMemory) }
 {
     let mut table = map_table(alloc, upper, append, non_empty, split, join, child)?;
@@ -72,7 +75,9 @@ fn map_table(
     requires split { Keeps (map_means SPLIT) (MapRun.pre split) (MapRun.post split) }
     requires join { Keeps (map_means JOIN) (MapRun.pre join) (MapRun.post join) }
     requires child { Keeps (map_means CHILD) (MapRun.pre child) (MapRun.post child) }
-    ensures ok { IfOk result (λ table. numbers table (λ f. f.kind) (λ f. f.kind) (λ f. f.kind) (λ f. f.kind) ≡ text_functions ++ part_functions) }
+    ensures ok { IfOk result (λ table.
+        numbers table (λ f. f.kind) (λ f. f.kind) (λ f. f.kind) (λ f. f.kind)
+        ≡ text_functions ++ part_functions) }
     ensures err { IfErr result (λ fault. fault ≡ OutOfMemory) }
 {
     let mut table = FunctionTable::new(alloc);
@@ -93,7 +98,8 @@ fn add_text_functions(
     requires append { Keeps (map_means APPEND) (MapRun.pre append) (MapRun.post append) }
     requires non_empty { Keeps (map_means NON_EMPTY) (MapRun.pre non_empty) (MapRun.post non_empty) }
     requires before { numbers table.old (λ f. f.kind) (λ f. f.kind) (λ f. f.kind) (λ f. f.kind) ≡ [] }
-    ensures ok { OnOk result (numbers table.new (λ f. f.kind) (λ f. f.kind) (λ f. f.kind) (λ f. f.kind) ≡ text_functions) }
+    ensures ok { OnOk result (numbers table.new (λ f. f.kind) (λ f. f.kind) (λ f. f.kind) (λ f. f.kind)
+        ≡ text_functions) }
     ensures err { IfErr result (λ fault. fault ≡ OutOfMemory) }
 {
     add_map(alloc, table, "upper", UPPER, 0, upper)?;
@@ -113,8 +119,10 @@ fn add_part_functions(
     requires split { Keeps (map_means SPLIT) (MapRun.pre split) (MapRun.post split) }
     requires join { Keeps (map_means JOIN) (MapRun.pre join) (MapRun.post join) }
     requires child { Keeps (map_means CHILD) (MapRun.pre child) (MapRun.post child) }
-    requires before { numbers table.old (λ f. f.kind) (λ f. f.kind) (λ f. f.kind) (λ f. f.kind) ≡ text_functions }
-    ensures ok { OnOk result (numbers table.new (λ f. f.kind) (λ f. f.kind) (λ f. f.kind) (λ f. f.kind) ≡ text_functions ++ part_functions) }
+    requires before { numbers table.old (λ f. f.kind) (λ f. f.kind) (λ f. f.kind) (λ f. f.kind)
+        ≡ text_functions }
+    ensures ok { OnOk result (numbers table.new (λ f. f.kind) (λ f. f.kind) (λ f. f.kind) (λ f. f.kind)
+        ≡ text_functions ++ part_functions) }
     ensures err { IfErr result (λ fault. fault ≡ OutOfMemory) }
 {
     add_map(alloc, table, "split", SPLIT, 1, split)?;
@@ -132,8 +140,10 @@ fn add_other_functions(
 ) -> Result<(), TableFault>
     requires output { Keeps (flat_map_means OUTPUT) (FlatRun.pre output) (FlatRun.post output) }
     requires concat { KeepsOfTwo (zip_means CONCAT) (ZipRun.pre concat) (ZipRun.post concat) }
-    requires before { numbers table.old (λ f. f.kind) (λ f. f.kind) (λ f. f.kind) (λ f. f.kind) ≡ text_functions ++ part_functions }
-    ensures ok { OnOk result (numbers table.new (λ f. f.kind) (λ f. f.kind) (λ f. f.kind) (λ f. f.kind) ≡ text_functions ++ part_functions ++ other_functions) }
+    requires before { numbers table.old (λ f. f.kind) (λ f. f.kind) (λ f. f.kind) (λ f. f.kind)
+        ≡ text_functions ++ part_functions }
+    ensures ok { OnOk result (numbers table.new (λ f. f.kind) (λ f. f.kind) (λ f. f.kind) (λ f. f.kind)
+        ≡ text_functions ++ part_functions ++ other_functions) }
     ensures err { IfErr result (λ fault. fault ≡ OutOfMemory) }
 {
     add_flat(alloc, table, "output", OUTPUT, 1, output)?;
@@ -150,8 +160,10 @@ fn add_tests(
 ) -> Result<(), TableFault>
     requires is_true { Keeps (test_means IS_TRUE) (TestRun.pre is_true) (TestRun.post is_true) }
     requires equals { Keeps (test_means EQUALS) (TestRun.pre equals) (TestRun.post equals) }
-    requires before { numbers table.old (λ f. f.kind) (λ f. f.kind) (λ f. f.kind) (λ f. f.kind) ≡ text_functions ++ part_functions ++ other_functions }
-    ensures ok { OnOk result (numbers table.new (λ f. f.kind) (λ f. f.kind) (λ f. f.kind) (λ f. f.kind) ≡ value_functions) }
+    requires before { numbers table.old (λ f. f.kind) (λ f. f.kind) (λ f. f.kind) (λ f. f.kind)
+        ≡ text_functions ++ part_functions ++ other_functions }
+    ensures ok { OnOk result (numbers table.new (λ f. f.kind) (λ f. f.kind) (λ f. f.kind) (λ f. f.kind)
+        ≡ value_functions) }
     ensures err { IfErr result (λ fault. fault ≡ OutOfMemory) }
 {
     add_test(alloc, table, "isTrue", IS_TRUE, 0, is_true)?;
@@ -170,8 +182,11 @@ fn add_map(
 ) -> Result<(), TableFault>
     requires counted { arity ≡ map_arity kind }
     requires keeps { Keeps (map_means kind) (MapRun.pre run) (MapRun.post run) }
-    requires other { list_any (λ e. bytes_eq e.0 name.now) (numbers table.old (λ f. f.kind) (λ f. f.kind) (λ f. f.kind) (λ f. f.kind)) ≡ false }
-    ensures ok { OnOk result (numbers table.new (λ f. f.kind) (λ f. f.kind) (λ f. f.kind) (λ f. f.kind) ≡ numbers table.old (λ f. f.kind) (λ f. f.kind) (λ f. f.kind) (λ f. f.kind) ++ (name.now, uses.Map kind) ∷ []) }
+    requires other { list_any (λ e. bytes_eq e.0 name.now)
+        (numbers table.old (λ f. f.kind) (λ f. f.kind) (λ f. f.kind) (λ f. f.kind)) ≡ false }
+    ensures ok { OnOk result (numbers table.new (λ f. f.kind) (λ f. f.kind) (λ f. f.kind) (λ f. f.kind)
+        ≡ numbers table.old (λ f. f.kind) (λ f. f.kind) (λ f. f.kind) (λ f. f.kind)
+        ++ (name.now, uses.Map kind) ∷ []) }
     ensures err { IfErr result (λ fault. fault ≡ OutOfMemory) }
 {
     let stored = StoredMap::new(kind, arity, run);
@@ -190,8 +205,11 @@ fn add_flat(
 ) -> Result<(), TableFault>
     requires counted { arity ≡ flat_map_arity kind }
     requires keeps { Keeps (flat_map_means kind) (FlatRun.pre run) (FlatRun.post run) }
-    requires other { list_any (λ e. bytes_eq e.0 name.now) (numbers table.old (λ f. f.kind) (λ f. f.kind) (λ f. f.kind) (λ f. f.kind)) ≡ false }
-    ensures ok { OnOk result (numbers table.new (λ f. f.kind) (λ f. f.kind) (λ f. f.kind) (λ f. f.kind) ≡ numbers table.old (λ f. f.kind) (λ f. f.kind) (λ f. f.kind) (λ f. f.kind) ++ (name.now, uses.FlatMap kind) ∷ []) }
+    requires other { list_any (λ e. bytes_eq e.0 name.now)
+        (numbers table.old (λ f. f.kind) (λ f. f.kind) (λ f. f.kind) (λ f. f.kind)) ≡ false }
+    ensures ok { OnOk result (numbers table.new (λ f. f.kind) (λ f. f.kind) (λ f. f.kind) (λ f. f.kind)
+        ≡ numbers table.old (λ f. f.kind) (λ f. f.kind) (λ f. f.kind) (λ f. f.kind)
+        ++ (name.now, uses.FlatMap kind) ∷ []) }
     ensures err { IfErr result (λ fault. fault ≡ OutOfMemory) }
 {
     let stored = StoredFlat::new(kind, arity, run);
@@ -210,8 +228,11 @@ fn add_zip(
 ) -> Result<(), TableFault>
     requires counted { arity ≡ zip_arity kind }
     requires keeps { KeepsOfTwo (zip_means kind) (ZipRun.pre run) (ZipRun.post run) }
-    requires other { list_any (λ e. bytes_eq e.0 name.now) (numbers table.old (λ f. f.kind) (λ f. f.kind) (λ f. f.kind) (λ f. f.kind)) ≡ false }
-    ensures ok { OnOk result (numbers table.new (λ f. f.kind) (λ f. f.kind) (λ f. f.kind) (λ f. f.kind) ≡ numbers table.old (λ f. f.kind) (λ f. f.kind) (λ f. f.kind) (λ f. f.kind) ++ (name.now, uses.Zip kind) ∷ []) }
+    requires other { list_any (λ e. bytes_eq e.0 name.now)
+        (numbers table.old (λ f. f.kind) (λ f. f.kind) (λ f. f.kind) (λ f. f.kind)) ≡ false }
+    ensures ok { OnOk result (numbers table.new (λ f. f.kind) (λ f. f.kind) (λ f. f.kind) (λ f. f.kind)
+        ≡ numbers table.old (λ f. f.kind) (λ f. f.kind) (λ f. f.kind) (λ f. f.kind)
+        ++ (name.now, uses.Zip kind) ∷ []) }
     ensures err { IfErr result (λ fault. fault ≡ OutOfMemory) }
 {
     let stored = StoredZip::new(kind, arity, run);
@@ -230,8 +251,11 @@ fn add_test(
 ) -> Result<(), TableFault>
     requires counted { arity ≡ test_arity kind }
     requires keeps { Keeps (test_means kind) (TestRun.pre run) (TestRun.post run) }
-    requires other { list_any (λ e. bytes_eq e.0 name.now) (numbers table.old (λ f. f.kind) (λ f. f.kind) (λ f. f.kind) (λ f. f.kind)) ≡ false }
-    ensures ok { OnOk result (numbers table.new (λ f. f.kind) (λ f. f.kind) (λ f. f.kind) (λ f. f.kind) ≡ numbers table.old (λ f. f.kind) (λ f. f.kind) (λ f. f.kind) (λ f. f.kind) ++ (name.now, uses.Test kind) ∷ []) }
+    requires other { list_any (λ e. bytes_eq e.0 name.now)
+        (numbers table.old (λ f. f.kind) (λ f. f.kind) (λ f. f.kind) (λ f. f.kind)) ≡ false }
+    ensures ok { OnOk result (numbers table.new (λ f. f.kind) (λ f. f.kind) (λ f. f.kind) (λ f. f.kind)
+        ≡ numbers table.old (λ f. f.kind) (λ f. f.kind) (λ f. f.kind) (λ f. f.kind)
+        ++ (name.now, uses.Test kind) ∷ []) }
     ensures err { IfErr result (λ fault. fault ≡ OutOfMemory) }
 {
     let stored = StoredTest::new(kind, arity, run);

@@ -36,7 +36,10 @@ pub fn add_path(
 ) -> Result<(), AllocError>
     requires { IsTrue (is_sorted byte_order (index_files index.old)) }
     ensures ordered { OnOk result (IsTrue (is_sorted byte_order (index_files index.new))) }
-    ensures paths { OnOk result ((word : _) → file_at (index_files index.new) word ≡ with_path path.now (contains byte_order words.now word) (file_at (index_files index.old) word)) }
+    ensures paths { OnOk result ((word : _)
+        → file_at (index_files index.new) word
+        ≡ with_path path.now (contains byte_order words.now word)
+        (file_at (index_files index.old) word)) }
 {
     for word in words.iter() {
         add_line(alloc, index, word, path)?;
@@ -52,7 +55,9 @@ fn add_line(
     path: &RelPath,
 ) -> Result<(), AllocError>
     ensures ordered { OnOk result (IsTrue (is_sorted byte_order (index_files index.new))) }
-    ensures paths { OnOk result ((other : _) → file_at (index_files index.new) other ≡ with_path path.now (bytes_eq word.now other) (file_at (index_files index.old) other)) }
+    ensures paths { OnOk result ((other : _)
+        → file_at (index_files index.new) other
+        ≡ with_path path.now (bytes_eq word.now other) (file_at (index_files index.old) other)) }
 {
     let mut lines = index.remove(word).unwrap_or(Vec::new(alloc));
     lines.extend_from_slice(path.as_str().as_bytes())?;

@@ -30,7 +30,8 @@ pub struct Remade {
 
 /// The reply of a kind that makes these files.
 pub fn reply_remade(alloc: Global, request: &Request, remade: Remade) -> Result<Reply, AllocError>
-    ensures { IfOk result (λ reply. IsRemade (index_files remade.made) remade.looked_at.keys request.now reply) }
+    ensures { IfOk result (λ reply.
+        IsRemade (index_files remade.made) remade.looked_at.keys request.now reply) }
 {
     let Remade { looked_at, made } = remade;
     let name = source_name(alloc)?;
@@ -90,7 +91,8 @@ fn outdated(
     made: &Index,
     looked_at: &Words,
 ) -> Result<Removals, AllocError>
-    ensures { IfOk result (λ removes. removes ≡ outdated request.now.outputs (index_files made.now) looked_at.now.keys) }
+    ensures { IfOk result (λ removes.
+        removes ≡ outdated request.now.outputs (index_files made.now) looked_at.now.keys) }
 {
     let output = output_name(alloc)?;
     let mut removes = Removals::new(alloc);

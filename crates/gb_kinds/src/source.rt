@@ -28,7 +28,7 @@ pub fn files_of<'a>(request: &'a Request, name: &Name) -> &'a [(RelPath, Bytes)]
 }
 
 /// The file of a property at a path.
-pub fn file_of<'a>(request: &'a Request, name: &Name, path: &RelPath) -> Option<&'a Bytes>
+pub(crate) fn file_of<'a>(request: &'a Request, name: &Name, path: &RelPath) -> Option<&'a Bytes>
     ensures { option_copied result ≡ file_at (tree_at request.now.files name.now) path.now }
 {
     match request.files.get(name) {
@@ -48,7 +48,7 @@ pub fn changes_of<'a>(request: &'a Request, name: &Name) -> &'a [Change]
 }
 
 /// One line for each change.
-pub fn change_lines(alloc: Global, changes: &[Change]) -> Result<Lines, AllocError>
+pub(crate) fn change_lines(alloc: Global, changes: &[Change]) -> Result<Lines, AllocError>
     ensures { IfOk result (λ lines. lines ≡ map change_line changes.now) }
 {
     let mut lines = Lines::new(alloc);

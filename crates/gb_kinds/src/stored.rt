@@ -50,7 +50,8 @@ pub struct StoredMap {
     run: MapRun,
     pub ghost counted: { arity ≡ map_arity kind },
     ghost callable: { (alloc : _) (value : _) (arguments : _) → MapRun.pre run alloc value arguments },
-    ghost keeps: { (alloc : _) (value : _) (arguments : _) (answer : _) → MapRun.post run alloc value arguments answer
+    ghost keeps: { (alloc : _) (value : _) (arguments : _) (answer : _)
+        → MapRun.post run alloc value arguments answer
         → IsReply answer (map_means kind value.now arguments.now) } by { Prim.hlevel mapped-prop },
 }
 
@@ -80,7 +81,8 @@ pub struct StoredFlat {
     run: FlatRun,
     pub ghost counted: { arity ≡ flat_map_arity kind },
     ghost callable: { (alloc : _) (value : _) (arguments : _) → FlatRun.pre run alloc value arguments },
-    ghost keeps: { (alloc : _) (value : _) (arguments : _) (answer : _) → FlatRun.post run alloc value arguments answer
+    ghost keeps: { (alloc : _) (value : _) (arguments : _) (answer : _)
+        → FlatRun.post run alloc value arguments answer
         → IsReply answer (flat_map_means kind value.now arguments.now) } by { Prim.hlevel chosen-prop },
 }
 
@@ -109,8 +111,10 @@ pub struct StoredZip {
     runs: Runs,
     run: ZipRun,
     pub ghost counted: { arity ≡ zip_arity kind },
-    ghost callable: { (alloc : _) (left : _) (right : _) (arguments : _) → ZipRun.pre run alloc left right arguments },
-    ghost keeps: { (alloc : _) (left : _) (right : _) (arguments : _) (answer : _) → ZipRun.post run alloc left right arguments answer
+    ghost callable: { (alloc : _) (left : _) (right : _) (arguments : _)
+        → ZipRun.pre run alloc left right arguments },
+    ghost keeps: { (alloc : _) (left : _) (right : _) (arguments : _) (answer : _)
+        → ZipRun.post run alloc left right arguments answer
         → IsReply answer (zip_means kind left.now right.now arguments.now) } by { Prim.hlevel zipped-prop },
 }
 
@@ -139,7 +143,8 @@ pub struct StoredTest {
     run: TestRun,
     pub ghost counted: { arity ≡ test_arity kind },
     ghost callable: { (alloc : _) (value : _) (arguments : _) → TestRun.pre run alloc value arguments },
-    ghost keeps: { (alloc : _) (value : _) (arguments : _) (answer : _) → TestRun.post run alloc value arguments answer
+    ghost keeps: { (alloc : _) (value : _) (arguments : _) (answer : _)
+        → TestRun.post run alloc value arguments answer
         → IsReply answer (test_means kind value.now arguments.now) } by { Prim.hlevel tested-prop },
 }
 
@@ -169,10 +174,26 @@ impl Transforms for Builtin {
     type Test = StoredTest;
 
     ghost meanings = { record {
-      map = record { kind = λ stored. stored.kind; arity = λ stored. map_arity stored.kind; means = map_means };
-      flat_map = record { kind = λ stored. stored.kind; arity = λ stored. flat_map_arity stored.kind; means = flat_map_means };
-      zip = record { kind = λ stored. stored.kind; arity = λ stored. zip_arity stored.kind; means = zip_means };
-      test = record { kind = λ stored. stored.kind; arity = λ stored. test_arity stored.kind; means = test_means };
+      map = record {
+        kind = λ stored. stored.kind;
+        arity = λ stored. map_arity stored.kind;
+        means = map_means;
+      };
+      flat_map = record {
+        kind = λ stored. stored.kind;
+        arity = λ stored. flat_map_arity stored.kind;
+        means = flat_map_means;
+      };
+      zip = record {
+        kind = λ stored. stored.kind;
+        arity = λ stored. zip_arity stored.kind;
+        means = zip_means;
+      };
+      test = record {
+        kind = λ stored. stored.kind;
+        arity = λ stored. test_arity stored.kind;
+        means = test_means;
+      };
     } };
 
     fn map_arity(stored: &StoredMap) -> u8 {

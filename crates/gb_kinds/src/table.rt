@@ -42,7 +42,8 @@ pub fn action_table(
     requires word_index { StandsFor WORD_INDEX (Run.pre word_index) (Run.post word_index) }
     requires concat { StandsFor CONCAT (Run.pre concat) (Run.post concat) }
     requires add_file { StandsFor ADD_FILE (Run.pre add_file) (Run.post add_file) }
-    ensures ok { IfOk result (λ table. map {B = List ℕ × ℕ × ℕ} (λ e. (e.0, e.1.kind, e.1.version)) table ≡ builtin_names) }
+    ensures ok { IfOk result (λ table.
+        map {B = List ℕ × ℕ × ℕ} (λ e. (e.0, e.1.kind, e.1.version)) table ≡ builtin_names) }
     ensures err { IfErr result (λ fault. fault ≡ OutOfMemory) }
 {
     let mut table = ActionTable::new(alloc);
@@ -72,7 +73,8 @@ fn add_text_kinds(
     requires write_text { StandsFor WRITE_TEXT (Run.pre write_text) (Run.post write_text) }
     requires fail { StandsFor FAIL (Run.pre fail) (Run.post fail) }
     requires before { map {B = List ℕ × ℕ × ℕ} (λ e. (e.0, e.1.kind, e.1.version)) table.old ≡ [] }
-    ensures ok { OnOk result (map {B = List ℕ × ℕ × ℕ} (λ e. (e.0, e.1.kind, e.1.version)) table.new ≡ text_names) }
+    ensures ok { OnOk result (map {B = List ℕ × ℕ × ℕ} (λ e. (e.0, e.1.kind, e.1.version)) table.new
+        ≡ text_names) }
     ensures err { IfErr result (λ fault. fault ≡ OutOfMemory) }
 {
     add(
@@ -111,7 +113,8 @@ fn add_file_kinds(
     requires sums { StandsFor SUMS (Run.pre sums) (Run.post sums) }
     requires word_index { StandsFor WORD_INDEX (Run.pre word_index) (Run.post word_index) }
     requires before { map {B = List ℕ × ℕ × ℕ} (λ e. (e.0, e.1.kind, e.1.version)) table.old ≡ text_names }
-    ensures ok { OnOk result (map {B = List ℕ × ℕ × ℕ} (λ e. (e.0, e.1.kind, e.1.version)) table.new ≡ text_names ++ file_names) }
+    ensures ok { OnOk result (map {B = List ℕ × ℕ × ℕ} (λ e. (e.0, e.1.kind, e.1.version)) table.new
+        ≡ text_names ++ file_names) }
     ensures err { IfErr result (λ fault. fault ≡ OutOfMemory) }
 {
     add(
@@ -159,8 +162,10 @@ fn add_one_file_kinds(
 ) -> Result<(), TableFault>
     requires concat { StandsFor CONCAT (Run.pre concat) (Run.post concat) }
     requires add_file { StandsFor ADD_FILE (Run.pre add_file) (Run.post add_file) }
-    requires before { map {B = List ℕ × ℕ × ℕ} (λ e. (e.0, e.1.kind, e.1.version)) table.old ≡ text_names ++ file_names }
-    ensures ok { OnOk result (map {B = List ℕ × ℕ × ℕ} (λ e. (e.0, e.1.kind, e.1.version)) table.new ≡ builtin_names) }
+    requires before { map {B = List ℕ × ℕ × ℕ} (λ e. (e.0, e.1.kind, e.1.version)) table.old
+        ≡ text_names ++ file_names }
+    ensures ok { OnOk result (map {B = List ℕ × ℕ × ℕ} (λ e. (e.0, e.1.kind, e.1.version)) table.new
+        ≡ builtin_names) }
     ensures err { IfErr result (λ fault. fault ≡ OutOfMemory) }
 {
     add(alloc, table, "concat", CONCAT, concat_shape(alloc), concat)?;
@@ -186,8 +191,11 @@ fn add(
 ) -> Result<(), TableFault>
     requires shaped { IfOk shape (λ shape. shape ≡ builtin_shape kind) }
     requires stands { StandsFor kind (Run.pre run) (Run.post run) }
-    requires other { list_any (λ e. bytes_eq e.0 name.now) (map {B = List ℕ × ℕ × ℕ} (λ e. (e.0, e.1.kind, e.1.version)) table.old) ≡ false }
-    ensures ok { OnOk result (map {B = List ℕ × ℕ × ℕ} (λ e. (e.0, e.1.kind, e.1.version)) table.new ≡ map {B = List ℕ × ℕ × ℕ} (λ e. (e.0, e.1.kind, e.1.version)) table.old ++ (name.now, kind, 1) ∷ []) }
+    requires other { list_any (λ e. bytes_eq e.0 name.now)
+        (map {B = List ℕ × ℕ × ℕ} (λ e. (e.0, e.1.kind, e.1.version)) table.old) ≡ false }
+    ensures ok { OnOk result (map {B = List ℕ × ℕ × ℕ} (λ e. (e.0, e.1.kind, e.1.version)) table.new
+        ≡ map {B = List ℕ × ℕ × ℕ} (λ e. (e.0, e.1.kind, e.1.version)) table.old
+        ++ (name.now, kind, 1) ∷ []) }
     ensures err { IfErr result (λ fault. fault ≡ OutOfMemory) }
 {
     let stored = StoredAction::new(kind, 1, shape?, run);

@@ -1,5 +1,6 @@
 //! The words of a file's bytes.
-ghost use Rattle.std.specs.Prelude.{◌≡◌, ◌||◌, ◌&&◌, ◌∷◌, [], map, bytes_eq, IfOk, IsTrue, OnOk, string_bytes};
+ghost use Rattle.std.specs.Prelude.{◌≡◌, ◌||◌, ◌&&◌, ◌∷◌, [], map, bytes_eq, IfOk};
+ghost use Rattle.std.specs.Prelude.{IsTrue, OnOk, string_bytes};
 ghost use Rattle.std.specs.BTreeSet.{contains};
 ghost use Rattle.std.specs.Char.{encode_utf8, is_ascii_lowercase};
 ghost use Rattle.std.specs.List.{list_all};
@@ -51,7 +52,9 @@ fn letter_or_space(byte: u8) -> char
 /// Adds the run of small letters if it counts as a word.
 fn add_run(alloc: Global, words: &mut Words, run: &str) -> Result<(), AllocError>
     requires { IsTrue (list_all is_ascii_lowercase run.now) }
-    ensures { OnOk result ((word : _) → contains byte_order words.new word ≡ (contains byte_order words.old word || (is_word run.now && bytes_eq word run.now))) }
+    ensures { OnOk result ((word : _)
+        → contains byte_order words.new word
+        ≡ (contains byte_order words.old word || (is_word run.now && bytes_eq word run.now))) }
 {
     if is_word(run) {
         words.insert(rel_path(alloc, run)?)?;

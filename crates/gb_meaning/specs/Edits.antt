@@ -1,6 +1,8 @@
 -- What an edit from outside answers and leaves, and the loss of all that the tool keeps for itself.
-use Rattle.std.specs.Prelude.{ℕ, ◌≡◌, ◌≤◌, ◌<◌, ◌⊎◌, false, not, Option, None, Some, IsSome, IsTrue, codes, length}
-use Rattle.gb_folder.specs.Files.{Place, Bytes, Contents, HasRisen, Tearing, file_at, files_where, is_blocked, is_odd_under, is_own, places_under, with_file, without}
+use Rattle.std.specs.Prelude.{ℕ, ◌≡◌, ◌≤◌, ◌<◌, ◌⊎◌, false, not, Option, None, Some, IsSome}
+use Rattle.std.specs.Prelude.{IsTrue, codes, length}
+use Rattle.gb_folder.specs.Files.{Place, Bytes, Contents, HasRisen, Tearing, file_at, files_where, is_blocked}
+use Rattle.gb_folder.specs.Files.{is_odd_under, is_own, places_under, with_file, without}
 use Rattle.gb_folder.specs.Limits.{max_file}
 use Rattle.gb_report.specs.declared.fault.Fault.{Fault}
 use Rattle.gb_report.specs.declared.fault.Fault.TheVariants as faults

@@ -1,5 +1,6 @@
 -- What may happen to a world: edits, the loss of what is remembered, and invocations; and the answer to each.
-use Rattle.std.specs.Prelude.{ℕ, ◌≡◌, ◌≢◌, ◌*◌, Bool, false, not, ◌&&◌, ◌||◌, ◌⊎◌, List, [], ◌++◌, length, bytes_eq, codes, nat_lt, Some, None, Option, Result, Ok, Err, IsTrue, ⊤}
+use Rattle.std.specs.Prelude.{ℕ, ◌≡◌, ◌≢◌, ◌*◌, Bool, false, not, ◌&&◌, ◌||◌, ◌⊎◌, List, [], ◌++◌, length}
+use Rattle.std.specs.Prelude.{bytes_eq, codes, nat_lt, Some, None, Option, Result, Ok, Err, IsTrue, ⊤}
 use Rattle.std.specs.List.{list_any, list_all}
 use Rattle.gb_report.specs.declared.fault.Fault.{Fault}
 use Rattle.gb_report.specs.declared.fault.Fault.TheVariants as faults
@@ -10,7 +11,8 @@ use Rattle.gb_meaning.specs.declared.events.Event.TheVariants as events
 use Rattle.gb_meaning.specs.declared.events.Answer.{Answer}
 use Rattle.gb_meaning.specs.declared.events.Answer.TheVariants as answers
 use Rattle.gb_meaning.specs.declared.events.Invocation.{Invocation}
-use Rattle.gb_folder.specs.Files.{Tearing, is_empty, Place, Bytes, Files, Contents, file_at, files_where, is_own, is_blocked, DiffersOnlyAt, HasRisen}
+use Rattle.gb_folder.specs.Files.{Tearing, is_empty, Place, Bytes, Files, Contents, file_at, files_where}
+use Rattle.gb_folder.specs.Files.{is_own, is_blocked, DiffersOnlyAt, HasRisen}
 use Rattle.gb_core.specs.Place.{is_under, is_place}
 use Rattle.gb_plan.specs.Task.{Text, Path, roots_of, is_output_of}
 use Rattle.gb_meaning.specs.Kinds.{Name, Kinds}
@@ -29,8 +31,8 @@ use Rattle.gb_meaning.specs.Turn.{May, Rules, Guard, Builds, TouchesRecord, IsWr
 use Rattle.gb_meaning.specs.TrueRecord.{Record, RecordTexts, record_of, outside}
 
 -- What a run is about: what the kinds mean; what scripts register with the values of `-P`, or their first
--- fault; and how records are read, where each stands, what its text is, and the digest of contents; and what a
--- stopped write or removal may leave.
+-- fault; and how records are read, where each stands, what its text is, and the digest of contents; and what
+-- a stopped write or removal may leave.
 pub record Setting : Type 1 where
   pub kinds : Kinds
   pub registers : Files → List (Name × Text) → Result Registry Fault → Type 0

@@ -11,7 +11,8 @@ use Rattle.gb_meaning.specs.Headline.{Agrees, Stands, TearsAreSeen}
 -- some kinds agree with each table in which no name stands twice
 abbrev pub SomeKindsAgree : {S : Type 0} → Meanings S → Type 0
 SomeKindsAgree {S = S} meanings =
-    (rows : Rows S) → no_repeats (map (λ row. row.0) rows) ≡ true → (kinds : Kinds) × Agrees meanings rows kinds
+    (rows : Rows S) → no_repeats (map (λ row. row.0) rows) ≡ true
+    → (kinds : Kinds) × Agrees meanings rows kinds
 
 -- a device that never leaves anything
 abbrev pub leaves_nothing : Tearing

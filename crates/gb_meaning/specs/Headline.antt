@@ -1,5 +1,7 @@
 -- What a build promises, and a run of many.
-use Rattle.std.specs.Prelude.{is_some, map, ℕ, ◌≡◌, ◌≤◌, ◌+◌, ◌-◌, ◌^◌, ◌↔◌, Bool, true, false, not, cond, ◌⊎◌, ◌||◌, Some, None, List, [], ◌∷◌, ◌++◌, length, bytes_eq, Option, Result, Ok, Err, IsTrue, ⊤, min}
+use Rattle.std.specs.Prelude.{is_some, map, ℕ, ◌≡◌, ◌≤◌, ◌+◌, ◌-◌, ◌^◌, ◌↔◌, Bool, true, false, not, cond}
+use Rattle.std.specs.Prelude.{◌⊎◌, ◌||◌, Some, None, List, [], ◌∷◌, ◌++◌, length, bytes_eq, Option, Result}
+use Rattle.std.specs.Prelude.{Ok, Err, IsTrue, ⊤, min}
 use Rattle.std.specs.List.{AllByRecursion, list_any, count_by, items_where_true, AllZip}
 use Rattle.gb_report.specs.declared.fault.Fault.{Fault}
 use Rattle.gb_report.specs.declared.fault.Fault.TheVariants as faults
@@ -12,7 +14,8 @@ use Rattle.gb_meaning.specs.declared.events.Event.TheVariants as events
 use Rattle.gb_meaning.specs.declared.events.Answer.{Answer}
 use Rattle.gb_meaning.specs.declared.events.Answer.TheVariants as answers
 use Rattle.gb_meaning.specs.declared.events.Invocation.{Invocation}
-use Rattle.gb_folder.specs.Files.{Tearing, is_empty, Place, Bytes, Files, Contents, files_where, with_file, is_own, DiffersOnlyAt}
+use Rattle.gb_folder.specs.Files.{Tearing, is_empty, Place, Bytes, Files, Contents, files_where}
+use Rattle.gb_folder.specs.Files.{with_file, is_own, DiffersOnlyAt}
 use Rattle.gb_core.specs.Place.{is_under}
 use Rattle.gb_plan.specs.Task.{Text, Path}
 use Rattle.gb_meaning.specs.Kinds.{Name, Kind, Kinds}
@@ -21,7 +24,8 @@ use Rattle.gb_plan.specs.Ready.{Rows}
 use Rattle.gb_meaning.specs.Memory.{Memory}
 use Rattle.gb_plan.specs.Graph.{Registry, IsRegistry, build_folder}
 use Rattle.gb_meaning.specs.Turn.{Guard, heard_of}
-use Rattle.gb_meaning.specs.TrueRecord.{Record, RecordTexts, SaysNoRecord, AreApart, StandsFor, outside, memory_contents}
+use Rattle.gb_meaning.specs.TrueRecord.{Record, RecordTexts, SaysNoRecord, AreApart}
+use Rattle.gb_meaning.specs.TrueRecord.{StandsFor, outside, memory_contents}
 use Rattle.gb_core.specs.Path.{is_task_path}
 use Rattle.gb_meaning.specs.Edits.{Shown}
 use Rattle.gb_meaning.specs.Events.{Setting, State, Step, world_in}

@@ -1,10 +1,12 @@
 -- What the actions of a task make of its inputs.
-use Rattle.std.specs.Prelude.{Bool, not, List, [], ◌∷◌, ◌++◌, map, length, if◌then◌else◌, bytes_eq, nat_lt, Option, None, Some, Result, Ok, Err}
+use Rattle.std.specs.Prelude.{Bool, not, List, [], ◌∷◌, ◌++◌, map, length, if◌then◌else◌, bytes_eq, nat_lt}
+use Rattle.std.specs.Prelude.{Option, None, Some, Result, Ok, Err}
 use Rattle.std.specs.List.{flat_map, filter, fold}
 use Rattle.gb_core.specs.Place.{beneath, is_place}
 use Rattle.gb_report.specs.declared.fault.Fault.{Fault}
 use Rattle.gb_report.specs.declared.fault.Fault.TheVariants as faults
-use Rattle.gb_folder.specs.Files.{is_empty, Place, Bytes, Files, with_file, files_where, files_under, is_blocked}
+use Rattle.gb_folder.specs.Files.{is_empty, Place, Bytes, Files, with_file}
+use Rattle.gb_folder.specs.Files.{files_where, files_under, is_blocked}
 use Rattle.gb_folder.specs.Limits.{max_file, max_files}
 use Rattle.gb_action.specs.declared.reply.Written.{Written}
 use Rattle.gb_action.specs.Files.{Trees}

@@ -57,8 +57,8 @@ module _ (setting : Setting) (registers : ℕ → Registering) (may_leave : ℕ 
       × EventsHold (setting_at number) session.start session.events session.answers session.end
       × SessionsHold (suc number) session.end.contents rest
 
-  -- Each session is a plain run in which each success is from scratch, if no two contents that stood in it, or
-  -- that the records speak of which it found, have one digest; and then so are those after it.
+  -- Each session is a plain run in which each success is from scratch, if no two contents that stood in it,
+  -- or that the records speak of which it found, have one digest; and then so are those after it.
   abbrev pub AllHold : ℕ → Memory → List Session → Type 0
   AllHold number remembered [] = ⊤
   AllHold number remembered (session ∷ rest) =

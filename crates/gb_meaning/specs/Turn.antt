@@ -1,5 +1,7 @@
 -- A build, task by task: which tasks start, what each answers, and what it leaves.
-use Rattle.std.specs.Prelude.{ℕ, ◌≡◌, ◌+◌, ◌≤◌, ◌≢◌, Bool, true, false, not, ◌&&◌, ◌||◌, ◌⊎◌, List, [], ◌∷◌, ◌++◌, length, map, take, if◌then◌else◌, Option, Some, None, Ok, IsTrue, bytes_eq, Contains}
+use Rattle.std.specs.Prelude.{ℕ, ◌≡◌, ◌+◌, ◌≤◌, ◌≢◌, Bool, true, false, not, ◌&&◌, ◌||◌, ◌⊎◌, List, [], ◌∷◌}
+use Rattle.std.specs.Prelude.{◌++◌, length, map, take, if◌then◌else◌, Option, Some, None, Ok}
+use Rattle.std.specs.Prelude.{IsTrue, bytes_eq, Contains}
 use Rattle.std.specs.List.{list_any, filter, flat_map}
 use Rattle.gb_report.specs.declared.fault.Fault.{Fault}
 use Rattle.gb_report.specs.declared.fault.Fault.TheVariants as faults
@@ -22,7 +24,8 @@ use Rattle.gb_meaning.specs.Memory.{Memory, World, folder_contents, recalled, re
 use Rattle.gb_action.specs.Changes.{Changes}
 use Rattle.gb_plan.specs.Graph.{Plan, Reached, needs_in, order}
 use Rattle.gb_plan.specs.declared.plan.Planned.{Planned}
-use Rattle.gb_meaning.specs.Label.{Moment, Early, CannotRead, Skips, HasNoActions, HasNoSource, early_case, some_outcome, IsLabel, IsCurrent, IsIncremental, AreChanges, run_of}
+use Rattle.gb_meaning.specs.Label.{Moment, Early, CannotRead, Skips, HasNoActions, HasNoSource, early_case}
+use Rattle.gb_meaning.specs.Label.{some_outcome, IsLabel, IsCurrent, IsIncremental, AreChanges, run_of}
 use Rattle.gb_report.specs.Outcome.{is_failed, is_started}
 
 -- ---- Which tasks start
@@ -120,7 +123,10 @@ cause_of other = ByItself
 -- the world with these files at the task's output places
 abbrev pub world_with : Task → World → Files → Memory → World
 world_with task old files memory =
-    record { folder = record old.folder { files = with_outputs task old.folder.files files }; memory = memory }
+    record {
+      folder = record old.folder { files = with_outputs task old.folder.files files };
+      memory = memory;
+    }
 
 -- where the run has begun, what its end leaves in memory: the entry of a task with outputs
 abbrev pub memory_after : Task → Memory → Files → Memory

@@ -33,17 +33,20 @@ module _ {M F Z S A : Type 0} (tables : Tables M F Z S A) (source : Source) (all
   pub record IsLaid (number : ℕ → ℕ) (nodes : List (Expression M F Z)) (project : Path)
       (given : List (Named (List ℕ))) (statements : List Statement) : Type 0 where
     pub numbers : ℕ → ℕ
-    pub part : IsPartOf numbers (properties_made project nodes (filter_map declared_property statements)) whole
+    pub part : IsPartOf numbers (properties_made project nodes (filter_map declared_property statements))
+        whole
     pub agrees : (i : ℕ) → i < length nodes → numbers i ≡ number i
     pub right : IsRight tables source all whole numbers
         (properties_made project nodes (filter_map declared_property statements))
         (script_site project given (length nodes) statements)
 
-  -- The properties of a script that stand in the whole, unset, are laid, where what is given by name is right.
+  -- The properties of a script that stand in the whole, unset, are laid, where what
+  -- is given by name is right.
   abbrev pub ScriptsAreLaid : Type 0
   ScriptsAreLaid =
       (number : ℕ → ℕ) (nodes : List (Expression M F Z)) (project : Path) (given : List (Named (List ℕ)))
       (statements : List Statement) → IsPartOf number nodes whole
-      → ((text : List ℕ) → lookup (is_at (byte_order text)) given ≡ find byte_order text (reverse source.given))
+      → ((text : List ℕ)
+      → lookup (is_at (byte_order text)) given ≡ find byte_order text (reverse source.given))
       → AreUnset project (filter_map declared_property statements)
       → IsLaid number nodes project given statements

@@ -7,9 +7,12 @@ use Rattle.gb_provider.specs.Answers.{Held}
 use Rattle.gb_provider.specs.Rules.{numbers_of}
 use Rattle.gb_provider.specs.Table.{Table, map_named, flat_map_named, zip_named}
 use Rattle.gb_provider.specs.declared.expression.Expression.{Expression}
-use Rattle.gb_provider.specs.declared.expression.Expression.TheVariants.{Constant, Listed, Mapped, FlatMapped, Zipped, OrElse}
+use Rattle.gb_provider.specs.declared.expression.Expression.TheVariants.{Constant, Listed, Mapped, FlatMapped}
+use Rattle.gb_provider.specs.declared.expression.Expression.TheVariants.{Zipped, OrElse}
 use Rattle.gb_provider.specs.declared.expression.Node.{Node}
-use Rattle.gb_script.specs.Tree.{Tree, Chain, Root, TextOf, FlagOf, ListOf, PropertyOf, DirOf, FileOf, TheBuildDir, GradlePropertyOf, TaskOf, Link, MapBy, FlatMapBy, ZipBy, Else, Trees, NoTree, AndTree, Links, NoLink, AndLink}
+use Rattle.gb_script.specs.Tree.{Tree, Chain, Root, TextOf, FlagOf, ListOf, PropertyOf, DirOf, FileOf}
+use Rattle.gb_script.specs.Tree.{TheBuildDir, GradlePropertyOf, TaskOf, Link, MapBy, FlatMapBy, ZipBy, Else}
+use Rattle.gb_script.specs.Tree.{Trees, NoTree, AndTree, Links, NoLink, AndLink}
 use Rattle.gb_script.specs.declared.function.Function.{Function}
 use Rattle.gb_registry.specs.Projects.{absolute, folder_of}
 use Rattle.gb_project.specs.Whole.{if_found}

@@ -1,5 +1,6 @@
 -- What the statements of a script make of the properties of its project.
-use Rattle.std.specs.Prelude.{◌≡◌, ℕ, List, [], ◌∷◌, ◌++◌, ◌+◌, length, map, ◌≤◌, false, Option, Some, None, slice_get, slice_set}
+use Rattle.std.specs.Prelude.{◌≡◌, ℕ, List, [], ◌∷◌, ◌++◌, ◌+◌, length, map, ◌≤◌, false, Option, Some}
+use Rattle.std.specs.Prelude.{None, slice_get, slice_set}
 use Rattle.std.specs.BTreeMap.{insert_entry}
 use Rattle.gb_core.specs.Lists.{byte_order}
 use Rattle.gb_provider.specs.declared.expression.Node.{Node}

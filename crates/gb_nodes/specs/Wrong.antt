@@ -10,7 +10,8 @@ use Rattle.gb_report.specs.declared.fault.Fault.TheVariants as faults
 use Rattle.gb_registry.specs.References.{name_faults}
 use Rattle.gb_registry.specs.Wrong.{place_faults, function_faults, found_in}
 use Rattle.gb_script.specs.declared.function.Function.{Function}
-use Rattle.gb_script.specs.Tree.{Tree, Root, PropertyOf, DirOf, FileOf, TaskOf, Link, MapBy, FlatMapBy, ZipBy, Else}
+use Rattle.gb_script.specs.Tree.{Tree, Root, PropertyOf, DirOf, FileOf, TaskOf, Link, MapBy}
+use Rattle.gb_script.specs.Tree.{FlatMapBy, ZipBy, Else}
 use Rattle.gb_nodes.specs.Site.{Site, property_node}
 
 -- the property has no node

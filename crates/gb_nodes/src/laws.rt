@@ -25,8 +25,8 @@ pub fn rows_grow<A: Actions, T: Transforms>()
         (whole : List (Expression T.Map T.FlatMap T.Zip)) → RowsGrow tables source all whole }
 {}
 
-/// The properties of a script that stand in the whole table, unset, stand there once their nodes are made, and
-/// where the expressions of its project stand is right.
+/// The properties of a script that stand in the whole table, unset, stand there once their nodes are made,
+/// and where the expressions of its project stand is right.
 pub fn scripts_are_laid<A: Actions, T: Transforms>()
     ensures { (tables : Tables T.Map T.FlatMap T.Zip T.Test A.Stored) (source : Source) (all : List Spot)
         (whole : List (Expression T.Map T.FlatMap T.Zip)) → ScriptsAreLaid tables source all whole }

@@ -5,7 +5,8 @@ ghost use Rattle.gb_registry.specs.Wrong.{found_along, found_at, found_by, found
 ghost use Rattle.gb_script.specs.Tree.{links_of, trees_of};
 ghost use Rattle.gb_script.specs.View.{link_of, root_of};
 ghost use Rattle.gb_nodes.specs.Site.{AreThere, site_of};
-ghost use Rattle.gb_nodes.specs.Nodes.{AreMade, IsMade, link_made, links_made, root_made, tree_made, trees_made};
+ghost use Rattle.gb_nodes.specs.Nodes.{AreMade, IsMade, link_made, links_made};
+ghost use Rattle.gb_nodes.specs.Nodes.{root_made, tree_made, trees_made};
 ghost use Rattle.gb_nodes.specs.Wrong.{link_faults, making_faults, root_faults};
 
 use crate::site::Site;

@@ -43,7 +43,7 @@ fn add_property<T: Transforms>(
 }
 
 /// Adds a node for each property that the statements of a project declare.
-pub fn add_properties<T: Transforms>(
+pub(crate) fn add_properties<T: Transforms>(
     alloc: Global,
     providers: &mut Providers<'_, T>,
     project: &ProjectPath,

@@ -22,7 +22,7 @@ use gb_script::expression::Expression;
 use std::alloc::Global;
 
 /// Adds the nodes of expressions, one after another. Refused as in `add_tree`.
-pub fn add_each<T: Transforms>(
+pub(crate) fn add_each<T: Transforms>(
     alloc: Global,
     providers: &mut Providers<'_, T>,
     site: &Site<'_>,

@@ -52,7 +52,7 @@ fn task_of(alloc: Global, project: &Project, text: &Text) -> Result<TaskPath, Fa
 }
 
 /// The node of a property. Refused where there is none of the name (54).
-pub fn node_of(site: &Site<'_>, name: &Name) -> Result<Node, Fault>
+pub(crate) fn node_of(site: &Site<'_>, name: &Name) -> Result<Node, Fault>
     ensures node { IfOk result (λ node. property_node (site_of site.now) name.now ≡ Some node) }
     ensures faults { TellsFirst (known_faults name.now (property_node (site_of site.now) name.now)) result }
 {
@@ -107,7 +107,7 @@ fn constant_of(alloc: Global, site: &Site<'_>, source: &Source) -> Result<Option
 }
 
 /// The node of a source that is no list: a property has its node already, and any other gets one.
-pub fn add_source<T: Transforms>(
+pub(crate) fn add_source<T: Transforms>(
     alloc: Global,
     providers: &mut Providers<'_, T>,
     site: &Site<'_>,

@@ -3,7 +3,8 @@ ghost use Rattle.std.specs.Prelude.{◌≡◌, ◌<◌, OnOk, length};
 ghost use Rattle.gb_provider.specs.declared.change.Change.TheVariants.{Convention, Finalize, SetFrom, Unset};
 ghost use Rattle.gb_registry.specs.Faults.{TellsFirst};
 ghost use Rattle.gb_nodes.specs.Site.{AreThere, site_of};
-ghost use Rattle.gb_nodes.specs.Statements.{IsRun, place_of, property_faults, statement_faults, statement_made, statements_faults, statements_made, with_change};
+ghost use Rattle.gb_nodes.specs.Statements.{IsRun, place_of, property_faults, statement_faults};
+ghost use Rattle.gb_nodes.specs.Statements.{statement_made, statements_faults, statements_made, with_change};
 
 use crate::making::add_tree;
 use crate::site::Site;
@@ -127,7 +128,7 @@ fn add_statement<T: Transforms>(
 
 /// Adds the expressions of statements and changes the properties that they name, in the order of the script.
 /// Refused as in `add_statement`.
-pub fn add_statements<T: Transforms>(
+pub(crate) fn add_statements<T: Transforms>(
     alloc: Global,
     providers: &mut Providers<'_, T>,
     site: &Site<'_>,

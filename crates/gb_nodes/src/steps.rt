@@ -54,7 +54,7 @@ pub fn add_map<T: Transforms>(
 }
 
 /// Adds a `flatMap` behind an expression. Refused as in `add_map`.
-pub fn add_flat_map<T: Transforms>(
+pub(crate) fn add_flat_map<T: Transforms>(
     alloc: Global,
     providers: &mut Providers<'_, T>,
     node: Node,

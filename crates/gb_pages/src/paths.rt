@@ -8,14 +8,14 @@ use std::alloc::{AllocError, Global};
 use std::str;
 
 /// What stands before `.md`.
-pub fn stem(path: &[u8]) -> Option<&[u8]>
+pub(crate) fn stem(path: &[u8]) -> Option<&[u8]>
     ensures { option_copied result ≡ stem path.now }
 {
     path.strip_suffix(b".md")
 }
 
 /// The path of the page of a text, by what stands before `.md` in the path of that.
-pub fn page_path(alloc: Global, front: Option<&[u8]>) -> Result<Option<RelPath>, AllocError>
+pub(crate) fn page_path(alloc: Global, front: Option<&[u8]>) -> Result<Option<RelPath>, AllocError>
     ensures { IfOk result (λ path. path ≡ page_path (option_copied front.entry)) }
 {
     let Some(front) = front else {

@@ -1,6 +1,9 @@
 -- The plan of what was asked: which tasks are scheduled, and in which order they stand.
-use Rattle.std.specs.Prelude.{ℕ, ◌≡◌, ◌<◌, Bool, true, false, not, ◌&&◌, ◌||◌, ◌==◌, ◌↔◌, List, [], ◌∷◌, ◌++◌, map, if◌then◌else◌, bytes_eq, nat_lt, nat_eq, codes, Option, Some, None, Result, Ok, Err, IsTrue, IfOk, slice_get}
-use Rattle.std.specs.List.{list_any, list_all, flat_map, filter, starts_with, AllByRecursion, join_by, slice_split}
+use Rattle.std.specs.Prelude.{ℕ, ◌≡◌, ◌<◌, Bool, true, false, not, ◌&&◌, ◌||◌, ◌==◌, ◌↔◌, List, [], ◌∷◌, ◌++◌}
+use Rattle.std.specs.Prelude.{map, if◌then◌else◌, bytes_eq, nat_lt, nat_eq, codes, Option, Some, None, Result}
+use Rattle.std.specs.Prelude.{Ok, Err, IsTrue, IfOk, slice_get}
+use Rattle.std.specs.List.{list_any, list_all, flat_map, filter, starts_with}
+use Rattle.std.specs.List.{AllByRecursion, join_by, slice_split}
 use Rattle.std.specs.FinMap.Entries.{find}
 use Rattle.std.specs.Ordering.{is_lt}
 use Rattle.gb_core.specs.Lists.{byte_order}

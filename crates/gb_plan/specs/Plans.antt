@@ -13,7 +13,8 @@ is_selected_in plan path =
 -- what the tasks at a path need, cut to the scheduled ones
 abbrev pub needs_at : Plan → Path → List Path
 needs_at plan path =
-    flat_map (λ planned. needs_in plan planned.task) (filter (λ planned. bytes_eq planned.task.path path) plan)
+    flat_map (λ planned. needs_in plan planned.task)
+    (filter (λ planned. bytes_eq planned.task.path path) plan)
 
 -- what a task of the plan declares
 pub record IsDeclarationIn (plan : Plan) (path : Path) (task : TaskDeclaration) : Type 0 where

@@ -1,5 +1,6 @@
 -- Why what was asked is refused before its first task.
-use Rattle.std.specs.Prelude.{◌≡◌, Bool, true, false, not, ◌&&◌, ◌==◌, ◌⊎◌, List, [], ◌∷◌, ◌++◌, map, if◌then◌else◌, bytes_eq, Some, None, Result, Ok, Err, Contains}
+use Rattle.std.specs.Prelude.{◌≡◌, Bool, true, false, not, ◌&&◌, ◌==◌, ◌⊎◌, List, [], ◌∷◌, ◌++◌, map}
+use Rattle.std.specs.Prelude.{if◌then◌else◌, bytes_eq, Some, None, Result, Ok, Err, Contains}
 use Rattle.std.specs.List.{list_any, list_all, flat_map, filter}
 use Rattle.std.specs.Ordering.{is_lt, ordering_then}
 use Rattle.gb_core.specs.Lists.{byte_order, first_of}
@@ -11,7 +12,9 @@ use Rattle.gb_report.specs.declared.fault.Fault.TheVariants as faults
 use Rattle.gb_tree.specs.Property.{distinct}
 use Rattle.gb_plan.specs.declared.task.TaskDeclaration.{TaskDeclaration}
 use Rattle.gb_plan.specs.Task.{Text, Path, has_path, roots_of, output_places}
-use Rattle.gb_plan.specs.Graph.{Registry, declaration_at, Request, Plan, order, absolute, selected_by, words_of, brings, leaves_out, selected, IsSchedule, after_at, stuck, IsAfter, no_repeats}
+use Rattle.gb_plan.specs.Graph.{Registry, declaration_at, Request, Plan, order, absolute, selected_by}
+use Rattle.gb_plan.specs.Graph.{words_of, brings, leaves_out, selected, IsSchedule, after_at}
+use Rattle.gb_plan.specs.Graph.{stuck, IsAfter, no_repeats}
 
 -- ---- Words
 

@@ -3,7 +3,8 @@ use Rattle.std.specs.Prelude.{ℕ, ◌≡◌, Bool, true, false, List, [], ◌++
 use Rattle.std.specs.Io.KnownBytes.{Appends}
 use Rattle.std.specs.List.{flat_map}
 use Rattle.gb_report.specs.Outcome.{is_successful}
-use Rattle.gb_report.specs.Report.{dry_text, failure_text, refusal_text, report_text, result_text, summary, task_text}
+use Rattle.gb_report.specs.Report.{dry_text, failure_text, refusal_text, report_text}
+use Rattle.gb_report.specs.Report.{result_text, summary, task_text}
 use Rattle.gb_report.specs.declared.report.Report.{Report}
 
 -- ---- What a printer does

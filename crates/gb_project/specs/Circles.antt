@@ -1,5 +1,6 @@
 -- Circles in a part of a table, and in the whole.
-use Rattle.std.specs.Prelude.{Bool, true, false, Option, Some, slice_get, ◌≡◌, ◌≢◌, ℕ, ◌<◌, List, length, map, slice_index}
+use Rattle.std.specs.Prelude.{Bool, true, false, Option, Some, slice_get, ◌≡◌, ◌≢◌, ℕ, ◌<◌, List}
+use Rattle.std.specs.Prelude.{length, map, slice_index}
 use Rattle.gb_provider.specs.Circle.{IsCircle}
 use Rattle.gb_provider.specs.Meanings.{Meanings}
 use Rattle.gb_provider.specs.Names.{names_on}

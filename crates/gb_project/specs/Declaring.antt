@@ -1,5 +1,6 @@
 -- Why a task is not declared.
-use Rattle.std.specs.Prelude.{ℕ, Bool, true, false, not, ◌&&◌, ◌||◌, List, [], ◌∷◌, ◌++◌, map, if◌then◌else◌, Option, Some, None, Result, Ok, Err, is_some, codes, bytes_eq}
+use Rattle.std.specs.Prelude.{ℕ, Bool, true, false, not, ◌&&◌, ◌||◌, List, [], ◌∷◌, ◌++◌, map, if◌then◌else◌}
+use Rattle.std.specs.Prelude.{Option, Some, None, Result, Ok, Err, is_some, codes, bytes_eq}
 use Rattle.std.specs.List.{flat_map, list_any}
 use Rattle.std.specs.FinMap.Entries.{find}
 use Rattle.gb_core.specs.Lists.{byte_order}

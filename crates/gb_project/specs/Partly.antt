@@ -5,7 +5,9 @@ use Rattle.gb_provider.specs.Meanings.{Meanings}
 use Rattle.gb_provider.specs.Remembered.{AreWithin}
 use Rattle.gb_provider.specs.Rules.{output_place}
 use Rattle.gb_provider.specs.declared.expression.Expression.{Expression}
-use Rattle.gb_provider.specs.declared.expression.Expression.TheVariants.{Constant, OfProperty, OfOutput, Listed, Mapped, FlatMapped, Zipped, OrElse}
+use Rattle.gb_provider.specs.declared.expression.Expression.TheVariants.{Constant, OfProperty, OfOutput}
+use Rattle.gb_provider.specs.declared.expression.Expression.TheVariants.{Listed, Mapped, FlatMapped, Zipped}
+use Rattle.gb_provider.specs.declared.expression.Expression.TheVariants.{OrElse}
 use Rattle.gb_provider.specs.declared.expression.Outcome.{Outcome}
 use Rattle.gb_provider.specs.declared.expression.Outcome.TheVariants.{Refused}
 use Rattle.gb_provider.specs.declared.expression.Setting.{Setting}
@@ -22,7 +24,10 @@ module _ (number : ℕ → ℕ) where
   abbrev pub renamed : {M F Z : Type 0} → Expression M F Z → Expression M F Z
   renamed (Constant value) = Constant value
   renamed (OfProperty property) =
-      OfProperty (record property { setting = option_map renamed_setting property.setting; convention = option_map number property.convention })
+      OfProperty (record property {
+        setting = option_map renamed_setting property.setting;
+        convention = option_map number property.convention;
+      })
   renamed (OfOutput output) = OfOutput (record output { declared = option_map number output.declared })
   renamed (Listed operands) = Listed (map number operands)
   renamed (Mapped source call) = Mapped (number source) call

@@ -14,7 +14,8 @@ use Rattle.gb_project.specs.Whole.{build_folder}
 
 -- The task has its own path, no outputs without actions, its outputs beneath the build folder of its project,
 -- and actions that can be asked.
-pub record IsSound {M F Z S A : Type 0} (tables : Tables M F Z S A) (at : Registered) (task : TaskDeclaration) : Type 0 where
+pub record IsSound {M F Z S A : Type 0} (tables : Tables M F Z S A) (at : Registered)
+    (task : TaskDeclaration) : Type 0 where
   pub own : task.path ≡ at.path
   pub shaped : IsShaped task
   pub built : AllByRecursion (λ output. is_beneath output.place (build_folder at.project) ≡ true) task.outputs

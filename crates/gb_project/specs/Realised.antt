@@ -1,5 +1,6 @@
 -- What a task declares, with its expressions evaluated.
-use Rattle.std.specs.Prelude.{ℕ, Bool, true, false, not, ◌&&◌, List, [], ◌∷◌, ◌++◌, map, if◌then◌else◌, Option, Some, None, Result, Ok, Err, codes}
+use Rattle.std.specs.Prelude.{ℕ, Bool, true, false, not, ◌&&◌, List, [], ◌∷◌, ◌++◌, map, if◌then◌else◌}
+use Rattle.std.specs.Prelude.{Option, Some, None, Result, Ok, Err, codes}
 use Rattle.std.specs.List.{flat_map, list_all}
 use Rattle.std.specs.FinMap.Entries.{find}
 use Rattle.gb_core.specs.Place.{is_beneath}
@@ -122,7 +123,8 @@ tasks_from other = []
 
 -- ---- A task
 
-module _ {M F Z S A : Type 0} (tables : Tables M F Z S A) (source : Source) (at : Registered) (all : List Spot) (table : List (Expression M F Z)) where
+module _ {M F Z S A : Type 0} (tables : Tables M F Z S A) (source : Source) (at : Registered)
+    (all : List Spot) (table : List (Expression M F Z)) where
   abbrev pub entry_of : Tree → ℕ
   entry_of tree = number_of tables source all (spot_of at.project tree)
 
@@ -154,7 +156,8 @@ module _ {M F Z S A : Type 0} (tables : Tables M F Z S A) (source : Source) (at 
 
   abbrev pub passes : Condition → Result Bool Trouble
   passes condition =
-      and_then (asked condition.value) (truth_of condition.test (test_named tables.functions condition.test.name))
+      and_then (asked condition.value)
+      (truth_of condition.test (test_named tables.functions condition.test.name))
 
   abbrev pub value_under : Named Tree → Result (Named Value) Trouble
   value_under value = and_then (required value.0 value.1) (λ v. Ok (value.0, v))
@@ -178,7 +181,8 @@ module _ {M F Z S A : Type 0} (tables : Tables M F Z S A) (source : Source) (at 
 
   abbrev pub output_under : Named Made → Result Output Trouble
   output_under output =
-      and_then (place_of output.0 output.1.1) (λ place. built (record { name = output.0; form = output.1.0; place = place }))
+      and_then (place_of output.0 output.1.1)
+      (λ place. built (record { name = output.0; form = output.1.0; place = place }))
 
   -- an action takes what it is given
   abbrev pub fitting : Call → Option A → List Value → Result Action Trouble
@@ -191,7 +195,8 @@ module _ {M F Z S A : Type 0} (tables : Tables M F Z S A) (source : Source) (at 
 
   abbrev pub action_of : Call → Result Action Trouble
   action_of call =
-      and_then (each_of (required call.name) call.arguments) (fitting call (find byte_order call.name tables.kinds))
+      and_then (each_of (required call.name) call.arguments)
+      (fitting call (find byte_order call.name tables.kinds))
 
   -- what the needs of a task come from: input values, roots of files, and arguments of actions
   abbrev pub needing : Joined → List Tree

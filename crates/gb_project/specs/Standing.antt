@@ -11,4 +11,6 @@ use Rattle.gb_project.specs.Whole.{spots, number_of, expression_at, whole}
 abbrev pub ExpressionsStand : {M F Z S A : Type 0} → Tables M F Z S A → Source → Type 0
 ExpressionsStand tables source = (project : Path) (root : Root) (steps : List Link) (place : ℕ) →
     slice_get (spots tables source) place ≡ Some (Written project root steps) →
-    slice_get (whole tables source) (number_of tables source (spots tables source) (Written project root steps)) ≡ Some (expression_at tables source (spots tables source) (Written project root steps))
+    slice_get (whole tables source)
+    (number_of tables source (spots tables source) (Written project root steps))
+    ≡ Some (expression_at tables source (spots tables source) (Written project root steps))

@@ -1,5 +1,6 @@
 -- All expressions of the scripts as one table: what `get` and `producers` are asked of.
-use Rattle.std.specs.Prelude.{ℕ, List, [], ◌∷◌, ◌++◌, map, fold, reverse, Option, Some, None, Result, Ok, Err, option_map, codes}
+use Rattle.std.specs.Prelude.{ℕ, List, [], ◌∷◌, ◌++◌, map, fold, reverse, Option, Some, None, Result, Ok}
+use Rattle.std.specs.Prelude.{Err, option_map, codes}
 use Rattle.std.specs.List.{flat_map, list_any, position_or_len}
 use Rattle.std.specs.Option.{option_to_list}
 use Rattle.std.specs.FinMap.Entries.{find}
@@ -9,9 +10,13 @@ use Rattle.gb_provider.specs.Called.{Called}
 use Rattle.gb_core.specs.Lists.{byte_order}
 use Rattle.gb_provider.specs.Table.{map_named, flat_map_named, zip_named}
 use Rattle.gb_provider.specs.declared.expression.Expression.{Expression}
-use Rattle.gb_provider.specs.declared.expression.Expression.TheVariants.{Constant, OfProperty, OfOutput, Listed, Mapped, FlatMapped, Zipped, OrElse}
+use Rattle.gb_provider.specs.declared.expression.Expression.TheVariants.{Constant, OfProperty, OfOutput}
+use Rattle.gb_provider.specs.declared.expression.Expression.TheVariants.{Listed, Mapped, FlatMapped, Zipped}
+use Rattle.gb_provider.specs.declared.expression.Expression.TheVariants.{OrElse}
 use Rattle.gb_provider.specs.declared.expression.Setting.TheVariants.{Followed}
-use Rattle.gb_script.specs.Tree.{Tree, Root, TextOf, FlagOf, ListOf, PropertyOf, DirOf, FileOf, TheBuildDir, GradlePropertyOf, TaskOf, Link, MapBy, FlatMapBy, ZipBy, Else, Trees, NoTree, AndTree}
+use Rattle.gb_script.specs.Tree.{Tree, Root, TextOf, FlagOf, ListOf, PropertyOf, DirOf, FileOf, TheBuildDir}
+use Rattle.gb_script.specs.Tree.{GradlePropertyOf, TaskOf, Link, MapBy, FlatMapBy, ZipBy, Else}
+use Rattle.gb_script.specs.Tree.{Trees, NoTree, AndTree}
 use Rattle.gb_script.specs.declared.function.Function.{Function}
 use Rattle.gb_script.specs.declared.script.Statement.{Statement}
 use Rattle.gb_script.specs.declared.script.Statement.TheVariants as statements
@@ -77,7 +82,8 @@ module _ {M F Z S A : Type 0} (tables : Tables M F Z S A) (source : Source) wher
   abbrev pub spots : List Spot
   spots =
       flat_map statement_spots source.said
-      ++ flat_map (λ task. task_spots task (declared tables source.names source.said task)) (tasks_of source.said)
+      ++ flat_map (λ task. task_spots task (declared tables source.names source.said task))
+      (tasks_of source.said)
 
   module _ (spots : List Spot) where
     -- the number of an expression: where it stands first
@@ -96,9 +102,11 @@ module _ {M F Z S A : Type 0} (tables : Tables M F Z S A) (source : Source) wher
           project = project;
           name = name;
           setting =
-              option_map (λ tree. Followed (number_of (spot_of project tree))) (fold (set_after name) None script);
+              option_map (λ tree. Followed (number_of (spot_of project tree)))
+              (fold (set_after name) None script);
           convention =
-              option_map (λ tree. number_of (spot_of project tree)) (fold (convention_after name) None script);
+              option_map (λ tree. number_of (spot_of project tree))
+              (fold (convention_after name) None script);
           is_final = list_any (finalizes name) script;
         })
 

@@ -3,7 +3,8 @@ ghost use Rattle.std.specs.Prelude.{◌≡◌};
 ghost use Rattle.std.specs.List.{flat_map};
 ghost use Rattle.gb_registry.specs.Faults.{TellsFirst};
 ghost use Rattle.gb_registry.specs.Tables.{tables_of};
-ghost use Rattle.gb_project.specs.Declaring.{call_faults, clause_faults, condition_faults, files_faults, main_faults, pattern_faults, scope_in, trees_faults};
+ghost use Rattle.gb_project.specs.Declaring.{call_faults, clause_faults, condition_faults, files_faults};
+ghost use Rattle.gb_project.specs.Declaring.{main_faults, pattern_faults, scope_in, trees_faults};
 ghost use Rattle.gb_registry.specs.Wrong.{task_faults_in, test_faults};
 ghost use Rattle.std.specs.Option.{option_copied};
 

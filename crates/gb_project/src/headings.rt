@@ -40,7 +40,7 @@ fn word(clause: &Clause) -> &'static str
 }
 
 /// Whether another word stands at the name that a clause is about.
-pub fn clashes(words: &ByName<'_>, clause: &Clause) -> bool
+pub(crate) fn clashes(words: &ByName<'_>, clause: &Clause) -> bool
     ensures { result ≡ clashes (words_in words.now) (heading clause.now) }
 {
     let Some(name) = subject(clause) else {

@@ -5,7 +5,8 @@ ghost use Rattle.std.specs.Option.{option_copied, option_to_list};
 ghost use Rattle.std.specs.List.{last_or};
 ghost use Rattle.gb_core.specs.Lists.{byte_order};
 ghost use Rattle.gb_project.specs.Borrowed.{named_in, now_of, outputs_in};
-ghost use Rattle.gb_project.specs.Joined.{by_name, enabled_in, files_in, first_in, last_in, only_if_in, output_in, up_to_date_when_in, value_in, with_action};
+ghost use Rattle.gb_project.specs.Joined.{by_name, enabled_in, files_in, first_in, last_in, only_if_in};
+ghost use Rattle.gb_project.specs.Joined.{output_in, up_to_date_when_in, value_in, with_action};
 
 use crate::picks;
 use gb_action::list::ActionList;

@@ -5,7 +5,8 @@ ghost use Rattle.gb_registry.specs.Faults.{TellsFirst};
 ghost use Rattle.gb_registry.specs.Projects.{absolute};
 ghost use Rattle.gb_registry.specs.References.{name_faults};
 ghost use Rattle.gb_project.specs.Borrowed.{now_of};
-ghost use Rattle.gb_project.specs.Joined.{depends_on_in, finalized_by_in, must_run_after_in, tasks_in, with_named};
+ghost use Rattle.gb_project.specs.Joined.{depends_on_in, finalized_by_in, must_run_after_in, tasks_in};
+ghost use Rattle.gb_project.specs.Joined.{with_named};
 
 use crate::picks;
 use gb_core::name::NameFault;

@@ -1,7 +1,9 @@
 //! What one clause of a task says.
 ghost use Rattle.std.specs.Prelude.{◌≡◌, [], option_map, unwrap_or};
 ghost use Rattle.std.specs.Option.{option_copied};
-ghost use Rattle.gb_project.specs.Joined.{depends_on_in, enabled_in, files_in, finalized_by_in, first_in, last_in, must_run_after_in, only_if_in, output_in, up_to_date_when_in, value_in};
+ghost use Rattle.gb_project.specs.Joined.{depends_on_in, enabled_in, files_in, finalized_by_in, first_in};
+ghost use Rattle.gb_project.specs.Joined.{last_in, must_run_after_in, only_if_in, output_in};
+ghost use Rattle.gb_project.specs.Joined.{up_to_date_when_in, value_in};
 
 use gb_action::output::Form;
 use gb_core::text::Texts;
@@ -87,7 +89,7 @@ pub fn enabled_in(clause: &Clause) -> Option<&Expression>
     }
 }
 
-pub fn depends_on_in(clause: &Clause) -> Option<&Texts>
+pub(crate) fn depends_on_in(clause: &Clause) -> Option<&Texts>
     ensures { unwrap_or (option_copied result) [] ≡ depends_on_in clause.now }
 {
     match clause {
@@ -96,7 +98,7 @@ pub fn depends_on_in(clause: &Clause) -> Option<&Texts>
     }
 }
 
-pub fn must_run_after_in(clause: &Clause) -> Option<&Texts>
+pub(crate) fn must_run_after_in(clause: &Clause) -> Option<&Texts>
     ensures { unwrap_or (option_copied result) [] ≡ must_run_after_in clause.now }
 {
     match clause {
@@ -105,7 +107,7 @@ pub fn must_run_after_in(clause: &Clause) -> Option<&Texts>
     }
 }
 
-pub fn finalized_by_in(clause: &Clause) -> Option<&Texts>
+pub(crate) fn finalized_by_in(clause: &Clause) -> Option<&Texts>
     ensures { unwrap_or (option_copied result) [] ≡ finalized_by_in clause.now }
 {
     match clause {

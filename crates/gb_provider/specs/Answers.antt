@@ -30,7 +30,9 @@ module _ {M F Z S : Type 0} (meanings : Meanings M F Z S) (nodes : List (Express
 
   -- an expression without an answer runs into this circle, told by its names
   abbrev pub RunsInto : List (List ℕ) → Type 0
-  RunsInto names = (circle : List ℕ) × IsCircle (rules meanings nodes) entry circle × IsLeastRound (names_on nodes circle) names
+  RunsInto names =
+      (circle : List ℕ) × IsCircle (rules meanings nodes) entry circle
+      × IsLeastRound (names_on nodes circle) names
 
   -- the fault that `get` answers
   abbrev pub IsFault : ProviderFault → Type 0
@@ -55,7 +57,8 @@ module _ {M F Z S : Type 0} (meanings : Meanings M F Z S) (nodes : List (Express
   IsRequired (Err (faults.Value fault)) = value_of ≡ Some (Refused fault)
   IsRequired (Err faults.OutOfMemory) = Unit {0}
 
-module _ (means : Value → List (List ℕ) → Result Bool Refusal) (name : List ℕ) (arguments : List (List ℕ)) where
+module _ (means : Value → List (List ℕ) → Result Bool Refusal) (name : List ℕ)
+    (arguments : List (List ℕ)) where
   -- what a test of a value answers; an absent one is false
   abbrev pub IsTruth : Outcome → Bool → Type 0
   IsTruth (Given value) truth = means value arguments ≡ Ok truth
@@ -64,7 +67,8 @@ module _ (means : Value → List (List ℕ) → Result Bool Refusal) (name : Lis
 
   -- the fault of the value, or the test's own
   abbrev pub IsTestFault : Outcome → ValueFault → Type 0
-  IsTestFault (Given value) fault = (refusal : Refusal) × (means value arguments ≡ Err refusal) × (fault ≡ values.Refused name refusal)
+  IsTestFault (Given value) fault =
+      (refusal : Refusal) × (means value arguments ≡ Err refusal) × (fault ≡ values.Refused name refusal)
   IsTestFault Absent fault = ⊥
   IsTestFault (Refused own) fault = fault ≡ own
 
@@ -77,22 +81,29 @@ module _ (means : Value → List (List ℕ) → Result Bool Refusal) (name : Lis
   IsAsked value (Err (faults.Value fault)) = IsTestFault (Given value) fault
   IsAsked value (Err faults.OutOfMemory) = Unit {0}
 
-module _ {M F Z S : Type 0} (meanings : Meanings M F Z S) (held : Held M F Z S) (entry : ℕ) (name : List ℕ) (arguments : List (List ℕ)) where
+module _ {M F Z S : Type 0} (meanings : Meanings M F Z S) (held : Held M F Z S) (entry : ℕ) (name : List ℕ)
+    (arguments : List (List ℕ)) where
   -- the answer of a test that was found
   abbrev pub IsTestedBy : S → Result Bool ProviderFault → Type 0
   IsTestedBy test (Ok truth) =
-      (meanings.test.arity test ≡ length arguments) × ((outcome : Outcome) × (value_of meanings held.nodes entry ≡ Some outcome) × IsTruth (meaning_of meanings.test test) name arguments outcome truth)
+      (meanings.test.arity test ≡ length arguments)
+      × ((outcome : Outcome) × (value_of meanings held.nodes entry ≡ Some outcome)
+      × IsTruth (meaning_of meanings.test test) name arguments outcome truth)
   IsTestedBy test (Err (faults.Circular names)) =
-      (meanings.test.arity test ≡ length arguments) × IsFault meanings held.nodes entry (faults.Circular names)
+      (meanings.test.arity test ≡ length arguments)
+      × IsFault meanings held.nodes entry (faults.Circular names)
   IsTestedBy test (Err (faults.Step steps.UnknownTransform)) = ⊥
   IsTestedBy test (Err (faults.Step steps.BadArguments)) = meanings.test.arity test ≢ length arguments
   IsTestedBy test (Err (faults.Step steps.OutOfMemory)) = ⊥
   IsTestedBy test (Err faults.NoValue) = ⊥
   IsTestedBy test (Err (faults.Value fault)) =
-      (meanings.test.arity test ≡ length arguments) × ((outcome : Outcome) × (value_of meanings held.nodes entry ≡ Some outcome) × IsTestFault (meaning_of meanings.test test) name arguments outcome fault)
+      (meanings.test.arity test ≡ length arguments)
+      × ((outcome : Outcome) × (value_of meanings held.nodes entry ≡ Some outcome)
+      × IsTestFault (meaning_of meanings.test test) name arguments outcome fault)
   IsTestedBy test (Err faults.OutOfMemory) = Unit {0}
 
-  -- `test`: 31 where no test has the name, then 32 where its arguments are too many or too few, then its answer
+  -- `test`: 31 where no test has the name, then 32 where its arguments are too many or
+  -- too few, then its answer
   abbrev pub IsTested : Option S → Result Bool ProviderFault → Type 0
   IsTested (Some test) result = IsTestedBy test result
   IsTested None (Ok truth) = ⊥

@@ -1,11 +1,14 @@
 -- Changes of properties and outputs.
-use Rattle.std.specs.Prelude.{◌≡◌, ◌<◌, ℕ, List, Bool, true, false, not, Option, Some, None, Result, Ok, Err, slice_get, slice_set}
+use Rattle.std.specs.Prelude.{◌≡◌, ◌<◌, ℕ, List, Bool, true, false, not, Option, Some, None, Result, Ok}
+use Rattle.std.specs.Prelude.{Err, slice_get, slice_set}
 use Rattle.gb_provider.specs.declared.fault.Final.{Final}
 use Rattle.gb_provider.specs.declared.expression.Setting.TheVariants.{Held, Followed}
 use Rattle.gb_provider.specs.declared.expression.Output.{Output}
 use Rattle.gb_provider.specs.declared.expression.Property.{Property}
 use Rattle.gb_provider.specs.declared.expression.Expression.{Expression}
-use Rattle.gb_provider.specs.declared.expression.Expression.TheVariants.{Constant, OfProperty, OfOutput, Listed, Mapped, FlatMapped, Zipped, OrElse}
+use Rattle.gb_provider.specs.declared.expression.Expression.TheVariants.{Constant, OfProperty, OfOutput}
+use Rattle.gb_provider.specs.declared.expression.Expression.TheVariants.{Listed, Mapped, FlatMapped, Zipped}
+use Rattle.gb_provider.specs.declared.expression.Expression.TheVariants.{OrElse}
 use Rattle.gb_provider.specs.declared.expression.Node.{Node}
 use Rattle.gb_provider.specs.declared.fault.Chosen.{Chosen}
 use Rattle.gb_provider.specs.declared.change.Change.{Change}
@@ -55,23 +58,29 @@ ChangeWithin n (changes.Convention source) = source < n
 ChangeWithin n changes.Finalize = Unit {0}
 
 -- A property that takes the change is changed, and nothing else; else the change is refused.
-abbrev pub AreChanged : {M F Z : Type 0} → Change → List (Expression M F Z) → ℕ → List (Expression M F Z) → Result (Unit {0}) Final → Type 0
+abbrev pub AreChanged : {M F Z : Type 0} → Change → List (Expression M F Z) → ℕ → List (Expression M F Z)
+    → Result (Unit {0}) Final → Type 0
 AreChanged change old at new (Ok done) =
-    (property : Property) × (open_property change (slice_get old at) ≡ Some property) × (new ≡ slice_set old at (OfProperty (changed change property)))
+    (property : Property) × (open_property change (slice_get old at) ≡ Some property)
+    × (new ≡ slice_set old at (OfProperty (changed change property)))
 AreChanged change old at new (Err final) = (open_property change (slice_get old at) ≡ None) × (new ≡ old)
 
 -- the same of one expression
-abbrev pub IsNodeChanged : {M F Z : Type 0} → Change → Expression M F Z → Expression M F Z → Result (Unit {0}) Final → Type 0
+abbrev pub IsNodeChanged : {M F Z : Type 0} → Change → Expression M F Z → Expression M F Z
+    → Result (Unit {0}) Final → Type 0
 IsNodeChanged change old new (Ok done) =
-    (property : Property) × (open_property change (Some old) ≡ Some property) × (new ≡ OfProperty (changed change property))
+    (property : Property) × (open_property change (Some old) ≡ Some property)
+    × (new ≡ OfProperty (changed change property))
 IsNodeChanged change old new (Err final) = (open_property change (Some old) ≡ None) × (new ≡ old)
 
 -- an output is declared as this expression
 abbrev pub IsNodeDeclared : {M F Z : Type 0} → ℕ → Expression M F Z → Expression M F Z → Type 0
-IsNodeDeclared source old new = (output : Output) → old ≡ OfOutput output → new ≡ OfOutput (record output { declared = Some source })
+IsNodeDeclared source old new =
+    (output : Output) → old ≡ OfOutput output → new ≡ OfOutput (record output { declared = Some source })
 
 -- the same of all that providers hold: the table stays
-abbrev pub IsChanged : {M F Z S : Type 0} → Change → answers.Held M F Z S → ℕ → answers.Held M F Z S → Result (Unit {0}) Final → Type 0
+abbrev pub IsChanged : {M F Z S : Type 0} → Change → answers.Held M F Z S → ℕ → answers.Held M F Z S
+    → Result (Unit {0}) Final → Type 0
 IsChanged change old at new result = AreChanged change old.nodes at new.nodes result × (new.table ≡ old.table)
 
 module _ {M F Z S : Type 0} (old : answers.Held M F Z S) (chosen : Chosen) where
@@ -82,5 +91,11 @@ module _ {M F Z S : Type 0} (old : answers.Held M F Z S) (chosen : Chosen) where
 
   -- the node of an output, which is declared as this expression
   abbrev pub IsDeclared : ℕ → Option ℕ → answers.Held M F Z S → Node → Type 0
-  IsDeclared source (Some place) new node = (node.number ≡ place) × (new ≡ record old { nodes = slice_set old.nodes place (OfOutput (record { chosen = chosen; declared = Some source })) })
-  IsDeclared source None new node = IsAdded old (OfOutput (record { chosen = chosen; declared = Some source })) new node
+  IsDeclared source (Some place) new node =
+      (node.number ≡ place)
+      × (new ≡ record old {
+        nodes =
+            slice_set old.nodes place (OfOutput (record { chosen = chosen; declared = Some source }));
+      })
+  IsDeclared source None new node =
+      IsAdded old (OfOutput (record { chosen = chosen; declared = Some source })) new node

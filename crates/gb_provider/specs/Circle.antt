@@ -12,6 +12,7 @@ awaited_after rules (suc steps) entry = and_then (next_awaited rules) (awaited_a
 pub record IsCircle {A : Type 0} (rules : List (Rule A)) (entry : ℕ) (circle : List ℕ) : Type 0 where
   pub some : 0 < length circle
   pub reached : (steps : ℕ) × (awaited_after rules steps entry ≡ Some (slice_index circle 0))
-  pub next : (i : ℕ) → i + 1 < length circle → next_awaited rules (slice_index circle i) ≡ Some (slice_index circle (i + 1))
+  pub next : (i : ℕ) → i + 1 < length circle
+      → next_awaited rules (slice_index circle i) ≡ Some (slice_index circle (i + 1))
   pub closed : next_awaited rules (slice_index circle (length circle - 1)) ≡ Some (slice_index circle 0)
   pub different : (i j : ℕ) → i < j → j < length circle → slice_index circle i ≢ slice_index circle j

@@ -20,7 +20,8 @@ meaning_of kinds stored = kinds.means (kinds.kind stored)
 abbrev pub Arguments : Type 0
 Arguments = List (List ℕ)
 
--- The meanings of the functions of `map`, `flatMap` and `zip`, and of the tests: one answer for each operand and arguments.
+-- The meanings of the functions of `map`, `flatMap` and `zip`, and of the tests: one answer for
+-- each operand and arguments.
 pub record Meanings (M F Z S : Type 0) : Type 0 where
   pub map : Kinds M (Value → Arguments → Result (Option Value) Refusal)
   pub flat_map : Kinds F (Value → Arguments → Result (Option Chosen) Refusal)

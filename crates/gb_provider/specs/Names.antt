@@ -1,5 +1,6 @@
 -- The names on a circle.
-use Rattle.std.specs.Prelude.{◌≡◌, ◌≢◌, ℕ, ◌<◌, List, [], ◌∷◌, ◌++◌, Option, Some, None, length, drop, take, slice_get}
+use Rattle.std.specs.Prelude.{◌≡◌, ◌≢◌, ℕ, ◌<◌, List, [], ◌∷◌, ◌++◌, Option, Some, None, length}
+use Rattle.std.specs.Prelude.{drop, take, slice_get}
 use Rattle.std.specs.List.{flat_map}
 use Rattle.std.specs.Cmp.Lexicographic.{slice_cmp}
 use Rattle.std.specs.declared.cmp.Ordering.{Ordering}
@@ -7,7 +8,9 @@ use Rattle.std.specs.declared.cmp.Ordering.TheVariants.{Greater}
 use Rattle.gb_provider.specs.declared.fault.ProviderFault.{ProviderFault}
 use Rattle.gb_provider.specs.declared.fault.ProviderFault.TheVariants as faults
 use Rattle.gb_provider.specs.declared.expression.Expression.{Expression}
-use Rattle.gb_provider.specs.declared.expression.Expression.TheVariants.{Constant, OfProperty, OfOutput, Listed, Mapped, FlatMapped, Zipped, OrElse}
+use Rattle.gb_provider.specs.declared.expression.Expression.TheVariants.{Constant, OfProperty, OfOutput}
+use Rattle.gb_provider.specs.declared.expression.Expression.TheVariants.{Listed, Mapped, FlatMapped, Zipped}
+use Rattle.gb_provider.specs.declared.expression.Expression.TheVariants.{OrElse}
 use Rattle.gb_core.specs.Lists.{byte_order}
 
 -- a property's project or an output's task, `#`, and its name
@@ -42,7 +45,8 @@ round_from names place = drop place names ++ take place names
 -- of the rounds from each name on, the least in the order of names
 abbrev pub IsLeastRound : List (List ℕ) → List (List ℕ) → Type 0
 IsLeastRound names round =
-    ((place : ℕ) × (round ≡ round_from names place)) × ((k : ℕ) → k < length names → names_order round (round_from names k) ≢ Greater)
+    ((place : ℕ) × (round ≡ round_from names place))
+    × ((k : ℕ) → k < length names → names_order round (round_from names k) ≢ Greater)
 
 -- a circle is told by its names, unless memory runs out
 abbrev pub IsCircleTold : {M F Z : Type 0} → List (Expression M F Z) → List ℕ → ProviderFault → Type 0

@@ -10,7 +10,9 @@ use Rattle.gb_provider.specs.declared.fault.ProviderFault.TheVariants as provide
 use Rattle.gb_provider.specs.declared.expression.Setting.{Setting}
 use Rattle.gb_provider.specs.declared.expression.Setting.TheVariants.{Held, Followed}
 use Rattle.gb_provider.specs.declared.expression.Expression.{Expression}
-use Rattle.gb_provider.specs.declared.expression.Expression.TheVariants.{Constant, OfProperty, OfOutput, Listed, Mapped, FlatMapped, Zipped, OrElse}
+use Rattle.gb_provider.specs.declared.expression.Expression.TheVariants.{Constant, OfProperty, OfOutput}
+use Rattle.gb_provider.specs.declared.expression.Expression.TheVariants.{Listed, Mapped, FlatMapped, Zipped}
+use Rattle.gb_provider.specs.declared.expression.Expression.TheVariants.{OrElse}
 use Rattle.gb_provider.specs.declared.expression.Outcome.{Outcome}
 use Rattle.gb_provider.specs.declared.expression.Outcome.TheVariants as outcomes
 use Rattle.gb_provider.specs.declared.produced.Produced.{Produced}
@@ -52,7 +54,8 @@ on_tasks go_on (Endless chooser) = Answers (Endless chooser)
 -- those of all operands, beside those already there
 abbrev pub carry_all : List (List ℕ) → List ℕ → Rule Produced
 carry_all tasks [] = Answers (Tasks tasks)
-carry_all tasks (operand ∷ operands) = Reads operand (on_tasks (λ more. carry_all (with_tasks tasks more) operands))
+carry_all tasks (operand ∷ operands) =
+    Reads operand (on_tasks (λ more. carry_all (with_tasks tasks more) operands))
 
 -- A property: those of what it is set to, else of its convention, else none.
 abbrev pub carry_property : Option Setting → Option ℕ → Rule Produced
@@ -77,7 +80,8 @@ chosen_tasks function (Err refusal) = Refused (faults.Refused function refusal)
 module _ {M F Z S : Type 0} (meanings : Meanings M F Z S) where
   -- `flatMap`: the task of the output that the value of the source chooses
   abbrev pub choose_tasks : ℕ → Called F → Option Outcome → Produced
-  choose_tasks source call (Some (outcomes.Given value)) = chosen_tasks call.name (meaning_of meanings.flat_map call.function value call.arguments)
+  choose_tasks source call (Some (outcomes.Given value)) =
+      chosen_tasks call.name (meaning_of meanings.flat_map call.function value call.arguments)
   choose_tasks source call (Some outcomes.Absent) = Tasks []
   choose_tasks source call (Some (outcomes.Refused fault)) = Refused fault
   choose_tasks source call None = Endless source
@@ -105,8 +109,11 @@ module _ {M F Z S : Type 0} (meanings : Meanings M F Z S) where
       -- the expression has them from itself, or from one that is chosen by a value without end
       abbrev pub IsEndless : List (List ℕ) → Type 0
       IsEndless names =
-          ((produced_by ≡ None) × ((circle : List ℕ) × IsCircle carriers entry circle × IsLeastRound (names_on nodes circle) names))
-          ⊎ ((chooser : ℕ) × (produced_by ≡ Some (Endless chooser)) × IsFault meanings nodes chooser (providers.Circular names))
+          ((produced_by ≡ None)
+          × ((circle : List ℕ) × IsCircle carriers entry circle
+          × IsLeastRound (names_on nodes circle) names))
+          ⊎ ((chooser : ℕ) × (produced_by ≡ Some (Endless chooser))
+          × IsFault meanings nodes chooser (providers.Circular names))
 
       -- `producers`: the tasks, or the fault of a value that has to choose
       abbrev pub AreProducers : Result (List (List ℕ)) ProviderFault → Type 0
@@ -118,15 +125,18 @@ module _ {M F Z S : Type 0} (meanings : Meanings M F Z S) where
       AreProducers (Err providers.OutOfMemory) = Unit {0}
 
 -- how it is told that the value of an expression never comes
-abbrev pub IsEndlessTold : {M F Z S : Type 0} → Meanings M F Z S → List (Expression M F Z) → ℕ → ProviderFault → Type 0
-IsEndlessTold meanings nodes chooser (providers.Circular names) = IsFault meanings nodes chooser (providers.Circular names)
+abbrev pub IsEndlessTold : {M F Z S : Type 0} → Meanings M F Z S → List (Expression M F Z) → ℕ → ProviderFault
+    → Type 0
+IsEndlessTold meanings nodes chooser (providers.Circular names) =
+    IsFault meanings nodes chooser (providers.Circular names)
 IsEndlessTold meanings nodes chooser (providers.Step fault) = ⊥
 IsEndlessTold meanings nodes chooser providers.NoValue = ⊥
 IsEndlessTold meanings nodes chooser (providers.Value fault) = ⊥
 IsEndlessTold meanings nodes chooser providers.OutOfMemory = Unit {0}
 
 -- what providers hold: operands that are expressions of the table, and answers that are right
-pub record AreKept {M F Z S : Type 0} (meanings : Meanings M F Z S) (nodes : List (Expression M F Z)) (known_values : List (State Outcome)) (known_producers : List (State Produced)) : Type 0 where
+pub record AreKept {M F Z S : Type 0} (meanings : Meanings M F Z S) (nodes : List (Expression M F Z))
+    (known_values : List (State Outcome)) (known_producers : List (State Produced)) : Type 0 where
   pub within : AreWithin nodes
   pub values : IsRemembered (rules meanings nodes) known_values
   pub producers : IsRemembered (carriers meanings nodes) known_producers

@@ -30,7 +30,8 @@ abbrev pub and_then : {A B : Type 0} → (A → Option B) → Option A → Optio
 and_then f None = None
 and_then f (Some a) = f a
 
--- The answer of an entry after n rounds: none at first, and each round takes the operands as they were before it.
+-- The answer of an entry after n rounds: none at first, and each round takes the
+-- operands as they were before it.
 abbrev pub answer_after : {A : Type 0} → List (Rule A) → ℕ → ℕ → Option A
 answer_after rules zero entry = None
 answer_after rules (suc n) entry =

@@ -1,5 +1,6 @@
 -- How an expression is evaluated.
-use Rattle.std.specs.Prelude.{◌≡◌, ℕ, ◌<◌, List, [], ◌∷◌, ◌++◌, Bool, true, false, ◌&&◌, Option, Some, None, Result, Ok, Err, position, map, codes, All}
+use Rattle.std.specs.Prelude.{◌≡◌, ℕ, ◌<◌, List, [], ◌∷◌, ◌++◌, Bool, true, false, ◌&&◌, Option, Some, None}
+use Rattle.std.specs.Prelude.{Result, Ok, Err, position, map, codes, All}
 use Rattle.std.specs.Str.{bytes_eq}
 use Rattle.gb_core.specs.declared.value.Value.{Value}
 use Rattle.gb_core.specs.declared.value.Value.TheVariants as values
@@ -14,7 +15,9 @@ use Rattle.gb_provider.specs.declared.expression.Node.{Node}
 use Rattle.gb_provider.specs.declared.expression.Setting.{Setting}
 use Rattle.gb_provider.specs.declared.expression.Setting.TheVariants.{Held, Followed}
 use Rattle.gb_provider.specs.declared.expression.Expression.{Expression}
-use Rattle.gb_provider.specs.declared.expression.Expression.TheVariants.{Constant, OfProperty, OfOutput, Listed, Mapped, FlatMapped, Zipped, OrElse}
+use Rattle.gb_provider.specs.declared.expression.Expression.TheVariants.{Constant, OfProperty, OfOutput}
+use Rattle.gb_provider.specs.declared.expression.Expression.TheVariants.{Listed, Mapped, FlatMapped, Zipped}
+use Rattle.gb_provider.specs.declared.expression.Expression.TheVariants.{OrElse}
 use Rattle.gb_provider.specs.declared.expression.Outcome.{Outcome}
 use Rattle.gb_provider.specs.declared.expression.Outcome.TheVariants.{Given, Absent, Refused}
 use Rattle.gb_provider.specs.Called.{Called}
@@ -77,7 +80,8 @@ listed true texts = refused (codes "list") WrongValue
 abbrev pub list_rule : Bool → List (List ℕ) → List ℕ → Rule Outcome
 list_rule is_wrong texts [] = Answers (listed is_wrong texts)
 list_rule is_wrong texts (operand ∷ operands) =
-    Reads operand (on_value (on_text (λ text. list_rule is_wrong (texts ++ text ∷ []) operands) (list_rule true texts operands)))
+    Reads operand (on_value
+    (on_text (λ text. list_rule is_wrong (texts ++ text ∷ []) operands) (list_rule true texts operands)))
 
 abbrev pub mapped : List ℕ → Result (Option Value) Refusal → Outcome
 mapped function (Ok (Some value)) = Given value
@@ -121,15 +125,19 @@ or_else right (Refused fault) = Answers (Refused fault)
 module _ {M F Z S : Type 0} (meanings : Meanings M F Z S) where
   abbrev pub map_rule : ℕ → Called M → Rule Outcome
   map_rule source call =
-      Reads source (on_value (λ value. Answers (mapped call.name (meaning_of meanings.map call.function value call.arguments))))
+      Reads source (on_value (λ value.
+      Answers (mapped call.name (meaning_of meanings.map call.function value call.arguments))))
 
   abbrev pub flat_map_rule : List (Expression M F Z) → ℕ → Called F → Rule Outcome
   flat_map_rule nodes source call =
-      Reads source (on_value (λ value. chosen_rule nodes call.name (meaning_of meanings.flat_map call.function value call.arguments)))
+      Reads source (on_value (λ value.
+      chosen_rule nodes call.name (meaning_of meanings.flat_map call.function value call.arguments)))
 
   abbrev pub zip_rule : ℕ → ℕ → Called Z → Rule Outcome
   zip_rule left right call =
-      Reads left (on_value (λ a. Reads right (on_value (λ b. Answers (zipped call.name (meaning_of meanings.zip call.function a b call.arguments))))))
+      Reads left (on_value (λ a.
+      Reads right (on_value (λ b.
+      Answers (zipped call.name (meaning_of meanings.zip call.function a b call.arguments))))))
 
   -- How an expression of a table is evaluated.
   abbrev pub rule : List (Expression M F Z) → Expression M F Z → Rule Outcome

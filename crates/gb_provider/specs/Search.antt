@@ -1,5 +1,6 @@
 -- A search for the answer of one entry.
-use Rattle.std.specs.Prelude.{◌≡◌, ◌≢◌, ℕ, ◌+◌, ◌<◌, List, length, Option, Some, None, Result, Ok, Err, Vec, slice_get, slice_index, sum_by, Bool, true, false, IsTrue}
+use Rattle.std.specs.Prelude.{◌≡◌, ◌≢◌, ℕ, ◌+◌, ◌<◌, List, length, Option, Some, None, Result, Ok, Err, Vec}
+use Rattle.std.specs.Prelude.{slice_get, slice_index, sum_by, Bool, true, false, IsTrue}
 use Rattle.gb_provider.specs.declared.expression.Outcome.{Outcome}
 use Rattle.gb_provider.specs.declared.expression.Outcome.TheVariants.{Given, Absent, Refused}
 use Rattle.gb_provider.specs.declared.produced.Produced.{Produced}
@@ -36,24 +37,30 @@ pub record WaitsFor {A : Type 0} (rules : List (Rule A)) (f : ℕ → Option A) 
 
 -- what one look at an entry comes to, with the answers f
 abbrev pub IsLook : {A : Type 0} → List (Rule A) → (ℕ → Option A) → ℕ → Reading A → Type 0
-IsLook {A} rules f entry found = (rule : Rule A) × (slice_get rules entry ≡ Some rule) × (found ≡ reading f rule)
+IsLook {A} rules f entry found =
+    (rule : Rule A) × (slice_get rules entry ≡ Some rule) × (found ≡ reading f rule)
 
 -- each answer that is known follows from others that are known
 abbrev pub AreSettled : {A : Type 0} → List (Rule A) → List (State A) → Type 0
 AreSettled {A} rules states =
-    (e : ℕ) (a : A) → known states e ≡ Some a → (rule : Rule A) × (slice_get rules e ≡ Some rule) × (reading (known states) rule ≡ Settles a)
+    (e : ℕ) (a : A) → known states e ≡ Some a
+    → (rule : Rule A) × (slice_get rules e ≡ Some rule) × (reading (known states) rule ≡ Settles a)
 
--- what is known is right and rests on what is known, and the open entries are a path on which each waits for the next
-pub record IsSearch {A : Type 0} (rules : List (Rule A)) (entry : ℕ) (states : List (State A)) (path : List ℕ) : Type 0 where
+-- what is known is right and rests on what is known, and the open entries are a path on
+-- which each waits for the next
+pub record IsSearch {A : Type 0} (rules : List (Rule A)) (entry : ℕ) (states : List (State A))
+    (path : List ℕ) : Type 0 where
   pub same : length states ≡ length rules
   pub right : (e : ℕ) (a : A) → known states e ≡ Some a → answer rules e ≡ Some a
   pub settled : AreSettled rules states
   pub first : 0 < length path → slice_index path 0 ≡ entry
   pub done : length path ≡ 0 → (a : A) × (known states entry ≡ Some a)
   pub opened : (k : ℕ) → k < length path → slice_get states (slice_index path k) ≡ Some Open
-  pub waits : (k : ℕ) → k + 1 < length path → WaitsFor rules (known states) (slice_index path k) (slice_index path (k + 1))
+  pub waits : (k : ℕ) → k + 1 < length path
+      → WaitsFor rules (known states) (slice_index path k) (slice_index path (k + 1))
   pub different : (i j : ℕ) → i < j → j < length path → slice_index path i ≢ slice_index path j
-  pub listed : (e : ℕ) → slice_get states e ≡ Some Open → (k : ℕ) × (k < length path) × (slice_index path k ≡ e)
+  pub listed : (e : ℕ) → slice_get states e ≡ Some Open
+      → (k : ℕ) × (k < length path) × (slice_index path k ≡ e)
 
 -- what is known is right and rests on what is known, and no entry is being evaluated
 pub record IsSound {A : Type 0} (rules : List (Rule A)) (states : List (State A)) : Type 0 where
@@ -62,9 +69,12 @@ pub record IsSound {A : Type 0} (rules : List (Rule A)) (states : List (State A)
   pub closed : (e : ℕ) → slice_get states e ≢ Some Open
 
 -- what an evaluation of an entry comes to: its answer is known, or it runs into a circle
-abbrev pub IsEvaluated : {A : Type 0} → List (Rule A) → ℕ → List (State A) → Result (Option (Vec ℕ Global)) AllocError → Type 0
-IsEvaluated {A} rules entry states (Ok None) = (length states ≡ length rules) × IsSound rules states × ((a : A) × (known states entry ≡ Some a))
-IsEvaluated rules entry states (Ok (Some circle)) = (answer rules entry ≡ None) × IsCircle rules entry circle.items
+abbrev pub IsEvaluated : {A : Type 0} → List (Rule A) → ℕ → List (State A)
+    → Result (Option (Vec ℕ Global)) AllocError → Type 0
+IsEvaluated {A} rules entry states (Ok None) =
+    (length states ≡ length rules) × IsSound rules states × ((a : A) × (known states entry ≡ Some a))
+IsEvaluated rules entry states (Ok (Some circle)) =
+    (answer rules entry ≡ None) × IsCircle rules entry circle.items
 IsEvaluated rules entry states (Err failed) = Unit {0}
 
 -- how much is left to do at an entry
@@ -80,7 +90,8 @@ left states = sum_by left_at states
 abbrev pub ReadsAfter : {A : Type 0} → (ℕ → Option A) → ℕ → ℕ → Rule A → Type 0
 ReadsAfter f operand n (Answers a) = ⊥
 ReadsAfter f operand zero (Reads next_operand next) = next_operand ≡ operand
-ReadsAfter {A} f operand (suc n) (Reads next_operand next) = (a : A) × (f next_operand ≡ Some a) × ReadsAfter f operand n (next a)
+ReadsAfter {A} f operand (suc n) (Reads next_operand next) =
+    (a : A) × (f next_operand ≡ Some a) × ReadsAfter f operand n (next a)
 
 -- the first n operands of a rule are known, and say nothing yet
 abbrev pub IsPast : {A : Type 0} → (ℕ → Option A) → ℕ → Rule A → Type 0

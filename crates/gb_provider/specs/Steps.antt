@@ -10,19 +10,24 @@ use Rattle.gb_provider.specs.Answers.{Held}
 module _ {M F Z S : Type 0} (old : Held M F Z S) where
   -- one more expression, under the next number
   abbrev pub IsAdded : Expression M F Z → Held M F Z S → Node → Type 0
-  IsAdded expression new node = (node.number ≡ length old.nodes) × (new ≡ record old { nodes = old.nodes ++ expression ∷ [] })
+  IsAdded expression new node =
+      (node.number ≡ length old.nodes) × (new ≡ record old { nodes = old.nodes ++ expression ∷ [] })
 
   -- a call is added where the function takes as many arguments; else 32
-  abbrev pub IsCalled : {X : Type 0} → (Called X → Expression M F Z) → (X → ℕ) → List ℕ → List (List ℕ) → Held M F Z S → Result Node StepFault → X → Type 0
+  abbrev pub IsCalled : {X : Type 0} → (Called X → Expression M F Z) → (X → ℕ) → List ℕ → List (List ℕ)
+      → Held M F Z S → Result Node StepFault → X → Type 0
   IsCalled step arity name arguments new (Ok node) function =
-      (arity function ≡ length arguments) × IsAdded (step (record { name = name; function = function; arguments = arguments })) new node
+      (arity function ≡ length arguments)
+      × IsAdded (step (record { name = name; function = function; arguments = arguments })) new node
   IsCalled step arity name arguments new (Err steps.UnknownTransform) function = ⊥
   IsCalled step arity name arguments new (Err steps.BadArguments) function = arity function ≢ length arguments
   IsCalled step arity name arguments new (Err steps.OutOfMemory) function = Unit {0}
 
   -- a step by the function found under the name; 31 where none is found
-  abbrev pub IsStep : {X : Type 0} → (Called X → Expression M F Z) → (X → ℕ) → Option X → List ℕ → List (List ℕ) → Held M F Z S → Result Node StepFault → Type 0
-  IsStep step arity (Some function) name arguments new result = IsCalled step arity name arguments new result function
+  abbrev pub IsStep : {X : Type 0} → (Called X → Expression M F Z) → (X → ℕ) → Option X → List ℕ
+      → List (List ℕ) → Held M F Z S → Result Node StepFault → Type 0
+  IsStep step arity (Some function) name arguments new result =
+      IsCalled step arity name arguments new result function
   IsStep step arity None name arguments new (Ok node) = ⊥
   IsStep step arity None name arguments new (Err steps.UnknownTransform) = Unit {0}
   IsStep step arity None name arguments new (Err steps.BadArguments) = ⊥

@@ -2,7 +2,8 @@
 ghost use Rattle.std.specs.Prelude.{◌≡◌, ◌<◌, [], ◌∷◌, length, slice_index, false, IfOk, All};
 ghost use Rattle.gb_provider.specs.Answers.{value_of};
 ghost use Rattle.gb_provider.specs.Meanings.{meaning_of};
-ghost use Rattle.gb_provider.specs.Produced.{carry, carry_all, carry_property, carry_side, carrier, choose_tasks, chosen_tasks, constant_tasks, tasks_of};
+ghost use Rattle.gb_provider.specs.Produced.{carry, carry_all, carry_property, carry_side, carrier};
+ghost use Rattle.gb_provider.specs.Produced.{choose_tasks, chosen_tasks, constant_tasks, tasks_of};
 ghost use Rattle.gb_provider.specs.Rounds.{reading};
 ghost use Rattle.gb_provider.specs.Rules.{OperandsWithin, PlaceWithin, SettingWithin};
 ghost use Rattle.gb_provider.specs.Search.{AreBefore, IsPast, has_tasks, known, WaitsWithin};
@@ -119,7 +120,8 @@ fn past_tasks(states: &[State<Shared<Produced>>], operands: &[usize], from: usiz
     requires operands { All (λ operand. operand < length states.now) operands.now }
     requires before { AreBefore (λ operand. has_tasks (known states.now operand)) operands.now from }
     ensures before { AreBefore (λ operand. has_tasks (known states.now operand)) operands.now result }
-    ensures stops { result < length operands.now → has_tasks (known states.now (slice_index operands.now result)) ≡ false }
+    ensures stops { result < length operands.now
+        → has_tasks (known states.now (slice_index operands.now result)) ≡ false }
 {
     let mut at = from;
     while at < operands.len() && has_tasks(states, operands[at]) {
@@ -137,7 +139,8 @@ fn look_all(
 ) -> Result<Look<Shared<Produced>>, AllocError>
     requires operands { All (λ operand. operand < length states.now) operands.now }
     requires past { IsPast (known states.now) past (carry_all [] operands.now) }
-    ensures reads { IfOk result (λ found. found.reading ≡ reading (known states.now) (carry_all [] operands.now)) }
+    ensures reads { IfOk result (λ found.
+        found.reading ≡ reading (known states.now) (carry_all [] operands.now)) }
     ensures within { IfOk result (λ found. WaitsWithin (length states.now) found.reading) }
     ensures past { IfOk result (λ found. IsPast (known states.now) found.past (carry_all [] operands.now)) }
 {
@@ -159,7 +162,8 @@ fn carry_property(
 ) -> Result<Reading<Shared<Produced>>, AllocError>
     requires setting { SettingWithin (length states.now) property.now.setting }
     requires convention { PlaceWithin (length states.now) property.now.convention }
-    ensures reads { IfOk result (λ found. found ≡ reading (known states.now) (carry_property property.now.setting property.now.convention)) }
+    ensures reads { IfOk result (λ found.
+        found ≡ reading (known states.now) (carry_property property.now.setting property.now.convention)) }
     ensures within { IfOk result (λ found. WaitsWithin (length states.now) found) }
 {
     match &property.setting {
@@ -182,7 +186,8 @@ fn carry_side(
 ) -> Result<Reading<Shared<Produced>>, AllocError>
     requires left { left < length states.now }
     requires right { right < length states.now }
-    ensures reads { IfOk result (λ found. found ≡ reading (known states.now) (carry_side left right chooser)) }
+    ensures reads { IfOk result (λ found.
+        found ≡ reading (known states.now) (carry_side left right chooser)) }
     ensures within { IfOk result (λ found. WaitsWithin (length states.now) found) }
 {
     match &chooser {
@@ -201,7 +206,9 @@ fn apply<T: Transforms>(
     call: &Call<T::FlatMap>,
     value: &Value,
 ) -> Result<Produced, AllocError>
-    ensures { IfOk result (λ found. found ≡ chosen_tasks call.now.name (meaning_of T.meanings.flat_map call.now.function value.now call.now.arguments)) }
+    ensures { IfOk result (λ found.
+        found ≡ chosen_tasks call.now.name
+        (meaning_of T.meanings.flat_map call.now.function value.now call.now.arguments)) }
 {
     match T::flat_map(call.function, alloc, value, call.arguments.as_slice()) {
         Ok(Some(chosen)) => one_task(alloc, &chosen.task),
@@ -248,7 +255,8 @@ impl<'b, 'a, T: Transforms> Model for TaskReader<'b, 'a, T> {
 
     ghost view = { λ r. r.nodes.now };
 
-    ghost invariant = { λ r. AreWithin r.nodes.now × IsRemembered (rules T.meanings r.nodes.now) r.values.items × IsIndexed r.nodes.now r.outputs.now };
+    ghost invariant = { λ r. AreWithin r.nodes.now
+        × IsRemembered (rules T.meanings r.nodes.now) r.values.items × IsIndexed r.nodes.now r.outputs.now };
 }
 
 impl<'b, 'a, T: Transforms> TaskReader<'b, 'a, T> {
@@ -269,7 +277,9 @@ impl<'b, 'a, T: Transforms> TaskReader<'b, 'a, T> {
         call: &Call<'a, T::FlatMap>,
     ) -> Result<Reading<Shared<Produced>>, AllocError>
         requires { source < length self.old }
-        ensures reads { IfOk result (λ found. found ≡ Reading.Settles (choose_tasks T.meanings source call.now (value_of T.meanings self.old source))) }
+        ensures reads { IfOk result (λ found.
+            found ≡ Reading.Settles
+            (choose_tasks T.meanings source call.now (value_of T.meanings self.old source))) }
         ensures kept { self.new ≡ self.old }
     {
         let alloc = self.alloc;
@@ -287,7 +297,8 @@ impl<'b, 'a, T: Transforms> TaskReader<'b, 'a, T> {
         requires states { length states.now ≡ length self.old }
         requires left { left < length self.old }
         requires right { right < length self.old }
-        ensures reads { IfOk result (λ found. found ≡ reading (known states.now) (carry_side left right (value_of T.meanings self.old left))) }
+        ensures reads { IfOk result (λ found.
+            found ≡ reading (known states.now) (carry_side left right (value_of T.meanings self.old left))) }
         ensures within { IfOk result (λ found. WaitsWithin (length states.now) found) }
         ensures kept { self.new ≡ self.old }
     {
@@ -304,7 +315,8 @@ impl<'b, 'a, T: Transforms> TaskReader<'b, 'a, T> {
     ) -> Result<Reading<Shared<Produced>>, AllocError>
         requires states { length states.now ≡ length self.old }
         requires within { OperandsWithin (length self.old) node.now }
-        ensures reads { IfOk result (λ found. found ≡ reading (known states.now) (carrier T.meanings self.old node.now)) }
+        ensures reads { IfOk result (λ found.
+            found ≡ reading (known states.now) (carrier T.meanings self.old node.now)) }
         ensures within { IfOk result (λ found. WaitsWithin (length states.now) found) }
         ensures kept { self.new ≡ self.old }
     {
@@ -331,9 +343,11 @@ impl<'b, 'a, T: Transforms> TaskReader<'b, 'a, T> {
         requires states { length states.now ≡ length self.old }
         requires within { OperandsWithin (length self.old) node.now }
         requires past { IsPast (known states.now) past (carrier T.meanings self.old node.now) }
-        ensures reads { IfOk result (λ found. found.reading ≡ reading (known states.now) (carrier T.meanings self.old node.now)) }
+        ensures reads { IfOk result (λ found.
+            found.reading ≡ reading (known states.now) (carrier T.meanings self.old node.now)) }
         ensures within { IfOk result (λ found. WaitsWithin (length states.now) found.reading) }
-        ensures past { IfOk result (λ found. IsPast (known states.now) found.past (carrier T.meanings self.old node.now)) }
+        ensures past { IfOk result (λ found.
+            IsPast (known states.now) found.past (carrier T.meanings self.old node.now)) }
         ensures kept { self.new ≡ self.old }
     {
         match node {

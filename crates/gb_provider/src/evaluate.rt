@@ -4,7 +4,10 @@ ghost use Rattle.std.specs.Option.{option_copied};
 ghost use Rattle.gb_provider.specs.Indexed.{IsIndexed};
 ghost use Rattle.gb_provider.specs.Meanings.{meaning_of};
 ghost use Rattle.gb_provider.specs.Rounds.{reading, Reads};
-ghost use Rattle.gb_provider.specs.Rules.{PlaceWithin, OperandsWithin, rule, constant, follow, or_else, property_rule, SettingWithin, output_rule, mapped, zipped, chosen_rule, map_rule, flat_map_rule, zip_rule, list_rule, refused, RefusedAs};
+ghost use Rattle.gb_provider.specs.Rules.{PlaceWithin, OperandsWithin, rule, constant, follow, or_else};
+ghost use Rattle.gb_provider.specs.Rules.{property_rule, SettingWithin, output_rule, mapped, zipped};
+ghost use Rattle.gb_provider.specs.Rules.{chosen_rule, map_rule, flat_map_rule, zip_rule};
+ghost use Rattle.gb_provider.specs.Rules.{list_rule, refused, RefusedAs};
 ghost use Rattle.gb_provider.specs.Search.{AreBefore, IsPast, is_given, known, WaitsWithin};
 ghost use Rattle.gb_provider.specs.declared.fault.Refusal.TheVariants.{WrongValue};
 
@@ -101,7 +104,8 @@ fn read_property(
 ) -> Result<Reading<Shared<Outcome>>, AllocError>
     requires setting { SettingWithin (length states.now) property.now.setting }
     requires convention { PlaceWithin (length states.now) property.now.convention }
-    ensures reads { IfOk result (λ found. found ≡ reading (known states.now) (property_rule property.now.setting property.now.convention)) }
+    ensures reads { IfOk result (λ found.
+        found ≡ reading (known states.now) (property_rule property.now.setting property.now.convention)) }
     ensures within { IfOk result (λ found. WaitsWithin (length states.now) found) }
 {
     match &property.setting {
@@ -122,7 +126,8 @@ fn read_output(
     declared: Option<usize>,
 ) -> Result<Reading<Shared<Outcome>>, AllocError>
     requires { PlaceWithin (length states.now) declared }
-    ensures reads { IfOk result (λ found. found ≡ reading (known states.now) (output_rule chosen.now declared)) }
+    ensures reads { IfOk result (λ found.
+        found ≡ reading (known states.now) (output_rule chosen.now declared)) }
     ensures within { IfOk result (λ found. WaitsWithin (length states.now) found) }
 {
     match declared {
@@ -149,7 +154,9 @@ fn apply_map<T: Transforms>(
     call: &Call<T::Map>,
     value: &Value,
 ) -> Result<Outcome, AllocError>
-    ensures { IfOk result (λ outcome. outcome ≡ mapped call.now.name (meaning_of T.meanings.map call.now.function value.now call.now.arguments)) }
+    ensures { IfOk result (λ outcome.
+        outcome ≡ mapped call.now.name
+        (meaning_of T.meanings.map call.now.function value.now call.now.arguments)) }
 {
     match T::map(call.function, alloc, value, call.arguments.as_slice()) {
         Ok(Some(value)) => Ok(Outcome::Given(value)),
@@ -165,7 +172,8 @@ fn read_map<T: Transforms>(
     call: &Call<T::Map>,
 ) -> Result<Reading<Shared<Outcome>>, AllocError>
     requires { source < length states.now }
-    ensures reads { IfOk result (λ found. found ≡ reading (known states.now) (map_rule T.meanings source call.now)) }
+    ensures reads { IfOk result (λ found.
+        found ≡ reading (known states.now) (map_rule T.meanings source call.now)) }
     ensures within { IfOk result (λ found. WaitsWithin (length states.now) found) }
 {
     match known_at(states, source) {
@@ -181,7 +189,9 @@ fn apply_zip<T: Transforms>(
     left: &Value,
     right: &Value,
 ) -> Result<Outcome, AllocError>
-    ensures { IfOk result (λ outcome. outcome ≡ zipped call.now.name (meaning_of T.meanings.zip call.now.function left.now right.now call.now.arguments)) }
+    ensures { IfOk result (λ outcome.
+        outcome ≡ zipped call.now.name
+        (meaning_of T.meanings.zip call.now.function left.now right.now call.now.arguments)) }
 {
     match T::zip(call.function, alloc, left, right, call.arguments.as_slice()) {
         Ok(value) => Ok(Outcome::Given(value)),
@@ -198,7 +208,8 @@ fn read_zip<T: Transforms>(
 ) -> Result<Reading<Shared<Outcome>>, AllocError>
     requires left { left < length states.now }
     requires right { right < length states.now }
-    ensures reads { IfOk result (λ found. found ≡ reading (known states.now) (zip_rule T.meanings left right call.now)) }
+    ensures reads { IfOk result (λ found.
+        found ≡ reading (known states.now) (zip_rule T.meanings left right call.now)) }
     ensures within { IfOk result (λ found. WaitsWithin (length states.now) found) }
 {
     match known_at(states, left) {
@@ -224,7 +235,8 @@ fn read_chosen<M, F, Z>(
 ) -> Result<Reading<Shared<Outcome>>, AllocError>
     requires index { IsIndexed nodes.now outputs.now }
     requires states { length states.now ≡ length nodes.now }
-    ensures reads { IfOk result (λ found. found ≡ reading (known states.now) (chosen_rule nodes.now [] (Ok reply))) }
+    ensures reads { IfOk result (λ found.
+        found ≡ reading (known states.now) (chosen_rule nodes.now [] (Ok reply))) }
     ensures within { IfOk result (λ found. WaitsWithin (length states.now) found) }
 {
     match reply {
@@ -247,7 +259,10 @@ fn apply_flat_map<T: Transforms>(
 ) -> Result<Reading<Shared<Outcome>>, AllocError>
     requires index { IsIndexed nodes.now outputs.now }
     requires states { length states.now ≡ length nodes.now }
-    ensures reads { IfOk result (λ found. found ≡ reading (known states.now) (chosen_rule nodes.now call.now.name (meaning_of T.meanings.flat_map call.now.function value.now call.now.arguments))) }
+    ensures reads { IfOk result (λ found.
+        found ≡ reading (known states.now)
+        (chosen_rule nodes.now call.now.name
+        (meaning_of T.meanings.flat_map call.now.function value.now call.now.arguments))) }
     ensures within { IfOk result (λ found. WaitsWithin (length states.now) found) }
 {
     match T::flat_map(call.function, alloc, value, call.arguments.as_slice()) {
@@ -270,7 +285,8 @@ fn read_flat_map<T: Transforms>(
     requires index { IsIndexed nodes.now outputs.now }
     requires states { length states.now ≡ length nodes.now }
     requires source { source < length states.now }
-    ensures reads { IfOk result (λ found. found ≡ reading (known states.now) (flat_map_rule T.meanings nodes.now source call.now)) }
+    ensures reads { IfOk result (λ found.
+        found ≡ reading (known states.now) (flat_map_rule T.meanings nodes.now source call.now)) }
     ensures within { IfOk result (λ found. WaitsWithin (length states.now) found) }
 {
     match known_at(states, source) {
@@ -296,7 +312,8 @@ fn read_list(
     operands: &[usize],
 ) -> Result<Reading<Shared<Outcome>>, AllocError>
     requires { All (λ operand. operand < length states.now) operands.now }
-    ensures reads { IfOk result (λ found. found ≡ reading (known states.now) (list_rule false [] operands.now)) }
+    ensures reads { IfOk result (λ found.
+        found ≡ reading (known states.now) (list_rule false [] operands.now)) }
     ensures within { IfOk result (λ found. WaitsWithin (length states.now) found) }
 {
     let mut texts = Texts::new(alloc);
@@ -331,7 +348,8 @@ fn past_texts(states: &[State<Shared<Outcome>>], operands: &[usize], from: usize
     requires operands { All (λ operand. operand < length states.now) operands.now }
     requires before { AreBefore (λ operand. is_given (known states.now operand)) operands.now from }
     ensures before { AreBefore (λ operand. is_given (known states.now operand)) operands.now result }
-    ensures stops { result < length operands.now → is_given (known states.now (slice_index operands.now result)) ≡ false }
+    ensures stops { result < length operands.now
+        → is_given (known states.now (slice_index operands.now result)) ≡ false }
 {
     let mut at = from;
     while at < operands.len() && is_given(states, operands[at]) {
@@ -349,9 +367,11 @@ fn look_list(
 ) -> Result<Look<Shared<Outcome>>, AllocError>
     requires operands { All (λ operand. operand < length states.now) operands.now }
     requires past { IsPast (known states.now) past (list_rule false [] operands.now) }
-    ensures reads { IfOk result (λ found. found.reading ≡ reading (known states.now) (list_rule false [] operands.now)) }
+    ensures reads { IfOk result (λ found.
+        found.reading ≡ reading (known states.now) (list_rule false [] operands.now)) }
     ensures within { IfOk result (λ found. WaitsWithin (length states.now) found.reading) }
-    ensures past { IfOk result (λ found. IsPast (known states.now) found.past (list_rule false [] operands.now)) }
+    ensures past { IfOk result (λ found.
+        IsPast (known states.now) found.past (list_rule false [] operands.now)) }
 {
     let at = past_texts(states, operands, past);
     if at < operands.len() {
@@ -377,9 +397,11 @@ fn look_at<T: Transforms>(
     requires states { length states.now ≡ length nodes.now }
     requires within { OperandsWithin (length nodes.now) node.now }
     requires past { IsPast (known states.now) past (rule T.meanings nodes.now node.now) }
-    ensures reads { IfOk result (λ found. found.reading ≡ reading (known states.now) (rule T.meanings nodes.now node.now)) }
+    ensures reads { IfOk result (λ found.
+        found.reading ≡ reading (known states.now) (rule T.meanings nodes.now node.now)) }
     ensures within { IfOk result (λ found. WaitsWithin (length states.now) found.reading) }
-    ensures past { IfOk result (λ found. IsPast (known states.now) found.past (rule T.meanings nodes.now node.now)) }
+    ensures past { IfOk result (λ found.
+        IsPast (known states.now) found.past (rule T.meanings nodes.now node.now)) }
 {
     match node {
         Expression::Listed(operands) => look_list(alloc, states, operands.as_slice(), past),
@@ -437,7 +459,8 @@ fn read<T: Transforms>(
     requires index { IsIndexed nodes.now outputs.now }
     requires states { length states.now ≡ length nodes.now }
     requires within { OperandsWithin (length nodes.now) node.now }
-    ensures reads { IfOk result (λ found. found ≡ reading (known states.now) (rule T.meanings nodes.now node.now)) }
+    ensures reads { IfOk result (λ found.
+        found ≡ reading (known states.now) (rule T.meanings nodes.now node.now)) }
     ensures within { IfOk result (λ found. WaitsWithin (length states.now) found) }
 {
     match node {

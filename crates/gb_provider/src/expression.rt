@@ -33,7 +33,8 @@ impl<'a, S> Call<'a, S> {
         function: &'a S,
         arguments: Texts,
     ) -> Result<Call<'a, S>, AllocError>
-        ensures { IfOk result (λ call. call ≡ record { name = name.now; function = function.now; arguments = arguments }) }
+        ensures { IfOk result (λ call.
+            call ≡ record { name = name.now; function = function.now; arguments = arguments }) }
     {
         let name = Text::from_str(alloc, name)?;
         Ok(Call {

@@ -1,6 +1,7 @@
 //! All expressions by number, and where each output stands.
 ghost use Rattle.std.specs.BTreeMap.{get, is_at};
-ghost use Rattle.std.specs.Prelude.{◌≡◌, ◌<◌, ◌++◌, [], ◌∷◌, cond, length, None, Some, OnErr, OnOk, Ok, slice_get, slice_set, vec_capacity, vec_len};
+ghost use Rattle.std.specs.Prelude.{◌≡◌, ◌<◌, ◌++◌, [], ◌∷◌, cond, length, None, Some, OnErr, OnOk, Ok};
+ghost use Rattle.std.specs.Prelude.{slice_get, slice_set, vec_capacity, vec_len};
 ghost use Rattle.gb_provider.specs.Changes.{AreChanged};
 ghost use Rattle.gb_provider.specs.Indexed.{chosen_order, IsIndexed, IsNoOutput};
 ghost use Rattle.gb_provider.specs.Rules.{PlaceWithin, output_place};
@@ -31,8 +32,11 @@ pub(crate) fn place_of<M, F, Z>(
 
 // Tells where an output stands.
 fn index_output(outputs: &mut Outputs, chosen: &Chosen, number: usize) -> Result<(), AllocError>
-    ensures ok { OnOk result ((key : Chosen) → get chosen_order outputs.new key ≡ cond (is_at (chosen_order chosen.now) key) (Some number) (get chosen_order outputs.old key)) }
-    ensures err { OnErr result ((key : Chosen) → get chosen_order outputs.new key ≡ get chosen_order outputs.old key) }
+    ensures ok { OnOk result ((key : Chosen)
+        → get chosen_order outputs.new key
+        ≡ cond (is_at (chosen_order chosen.now) key) (Some number) (get chosen_order outputs.old key)) }
+    ensures err { OnErr result ((key : Chosen)
+        → get chosen_order outputs.new key ≡ get chosen_order outputs.old key) }
 {
     let key = chosen.copy()?;
     outputs.insert(key, number)?;
@@ -125,7 +129,8 @@ impl<'a, M: Drop, F: Drop, Z: Drop> Expressions<'a, M, F, Z> {
     /// Puts an output that does not stand yet behind the others.
     pub fn push_output(&mut self, chosen: Chosen, declared: Option<usize>) -> Result<(), AllocError>
         requires { output_place self.old chosen ≡ None }
-        ensures ok { OnOk result (self.new ≡ self.old ++ Expression.OfOutput (record { chosen = chosen; declared = declared }) ∷ []) }
+        ensures ok { OnOk result (self.new
+            ≡ self.old ++ Expression.OfOutput (record { chosen = chosen; declared = declared }) ∷ []) }
         ensures err { OnErr result (self.new ≡ self.old) }
     {
         let number = self.nodes.len();
@@ -142,7 +147,9 @@ impl<'a, M: Drop, F: Drop, Z: Drop> Expressions<'a, M, F, Z> {
     pub fn declare(&mut self, number: usize, chosen: &Chosen, source: usize)
         requires within { number < length self.old }
         requires stands { output_place self.old chosen.now ≡ Some number }
-        ensures { self.new ≡ slice_set self.old number (Expression.OfOutput (record { chosen = chosen.now; declared = Some source })) }
+        ensures { self.new
+            ≡ slice_set self.old number
+            (Expression.OfOutput (record { chosen = chosen.now; declared = Some source })) }
     {
         declare(&mut self.nodes[number], source);
     }

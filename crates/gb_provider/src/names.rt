@@ -1,5 +1,6 @@
 //! The names on a circle.
-ghost use Rattle.std.specs.Prelude.{◌≡◌, ◌+◌, ◌++◌, ◌<◌, ◌≤◌, ◌≢◌, IfOk, drop, length, slice_get, take, Some, ℕ};
+ghost use Rattle.std.specs.Prelude.{◌≡◌, ◌+◌, ◌++◌, ◌<◌, ◌≤◌, ◌≢◌, IfOk, drop, length, slice_get};
+ghost use Rattle.std.specs.Prelude.{take, Some, ℕ};
 ghost use Rattle.std.specs.declared.cmp.Ordering.TheVariants.{Less, Greater};
 ghost use Rattle.std.specs.Bool.{OnTrue, OnFalse};
 ghost use Rattle.gb_provider.specs.Names.{label, names_of, names_on, names_order, IsLeastRound};
@@ -79,8 +80,10 @@ fn names_on<M, F, Z>(
 fn is_before(names: &[Text], count: usize, place: usize, other: usize) -> bool
     requires place { place + count ≤ length names.now }
     requires other { other + count ≤ length names.now }
-    ensures before { OnTrue result (names_order (take count (drop place names.now)) (take count (drop other names.now)) ≡ Less) }
-    ensures not_before { OnFalse result (names_order (take count (drop other names.now)) (take count (drop place names.now)) ≢ Greater) }
+    ensures before { OnTrue result
+        (names_order (take count (drop place names.now)) (take count (drop other names.now)) ≡ Less) }
+    ensures not_before { OnFalse result
+        (names_order (take count (drop other names.now)) (take count (drop place names.now)) ≢ Greater) }
 {
     let round = &names[place..place + count];
     match round.cmp(&names[other..other + count]) {
@@ -94,7 +97,8 @@ fn is_before(names: &[Text], count: usize, place: usize, other: usize) -> bool
 fn least_place(names: &[Text], count: usize) -> usize
     requires { count + count ≡ length names.now }
     ensures within { result ≤ count }
-    ensures least { (k : ℕ) → k < count → names_order (take count (drop result names.now)) (take count (drop k names.now)) ≢ Greater }
+    ensures least { (k : ℕ) → k < count
+        → names_order (take count (drop result names.now)) (take count (drop k names.now)) ≢ Greater }
 {
     let mut least = 0;
     for i in 0..count {

@@ -1,5 +1,6 @@
 //! Providers.
-ghost use Rattle.std.specs.Prelude.{◌≡◌, ◌↔◌, ◌<◌, ◌++◌, [], ◌∷◌, length, All, IfOk, IsTrue, OnErr, None, Some, false};
+ghost use Rattle.std.specs.Prelude.{◌≡◌, ◌↔◌, ◌<◌, ◌++◌, [], ◌∷◌, length, All, IfOk, IsTrue, OnErr};
+ghost use Rattle.std.specs.Prelude.{None, Some, false};
 ghost use Rattle.gb_provider.specs.Answers.{IsAccepted, IsAsked, IsGot, IsRequired, IsTested, IsTestedBy};
 ghost use Rattle.gb_provider.specs.Meanings.{meaning_of};
 ghost use Rattle.gb_provider.specs.Produced.{AreProducers};
@@ -107,7 +108,16 @@ impl<'a, T: Transforms> Providers<'a, T> {
 
     /// A property of a project that nothing sets yet. On a circle it is told by this path and name.
     pub fn property(&mut self, project: ProjectPath, name: Name) -> Result<Node, AllocError>
-        ensures ok { IfOk result (λ node. IsAdded self.old (Expression.OfProperty (record { project = project; name = name; setting = None; convention = None; is_final = false })) self.new node) }
+        ensures ok { IfOk result (λ node.
+            IsAdded self.old
+            (Expression.OfProperty
+            (record {
+              project = project;
+              name = name;
+              setting = None;
+              convention = None;
+              is_final = false;
+            })) self.new node) }
         ensures err { OnErr result (self.new ≡ self.old) }
     {
         self.add(Expression::OfProperty(Property {
@@ -123,7 +133,8 @@ impl<'a, T: Transforms> Providers<'a, T> {
     /// where all are values, 34 if one is no text.
     pub fn list(&mut self, elements: &[Node]) -> Result<Node, AllocError>
         requires { All (λ element. element.number < length self.old.nodes) elements.now }
-        ensures ok { IfOk result (λ node. IsAdded self.old (Expression.Listed (numbers_of elements.now)) self.new node) }
+        ensures ok { IfOk result (λ node.
+            IsAdded self.old (Expression.Listed (numbers_of elements.now)) self.new node) }
         ensures err { OnErr result (self.new ≡ self.old) }
     {
         let operands = Operands::of(self.alloc, elements)?;
@@ -134,7 +145,8 @@ impl<'a, T: Transforms> Providers<'a, T> {
     pub fn or_else(&mut self, left: Node, right: Node) -> Result<Node, AllocError>
         requires left { left.number < length self.old.nodes }
         requires right { right.number < length self.old.nodes }
-        ensures ok { IfOk result (λ node. IsAdded self.old (Expression.OrElse left.number right.number) self.new node) }
+        ensures ok { IfOk result (λ node.
+            IsAdded self.old (Expression.OrElse left.number right.number) self.new node) }
         ensures err { OnErr result (self.new ≡ self.old) }
     {
         self.add(Expression::OrElse(left.number, right.number))
@@ -144,7 +156,9 @@ impl<'a, T: Transforms> Providers<'a, T> {
     fn add_output(&mut self, chosen: Chosen, declared: Option<usize>) -> Result<Node, AllocError>
         requires within { PlaceWithin (length self.old.nodes) declared }
         requires new { output_place self.old.nodes chosen ≡ None }
-        ensures ok { IfOk result (λ node. IsAdded self.old (Expression.OfOutput (record { chosen = chosen; declared = declared })) self.new node) }
+        ensures ok { IfOk result (λ node.
+            IsAdded self.old (Expression.OfOutput (record { chosen = chosen; declared = declared }))
+            self.new node) }
         ensures err { OnErr result (self.new ≡ self.old) }
     {
         let number = self.nodes.len();
@@ -156,7 +170,9 @@ impl<'a, T: Transforms> Providers<'a, T> {
 
     /// The output of a task, which stands once; 36 until it is declared.
     pub fn output(&mut self, task: TaskPath, name: Text) -> Result<Node, AllocError>
-        ensures ok { IfOk result (λ node. IsOutput self.old (record { task = task; output = name }) (output_place self.old.nodes (record { task = task; output = name })) self.new node) }
+        ensures ok { IfOk result (λ node.
+            IsOutput self.old (record { task = task; output = name })
+            (output_place self.old.nodes (record { task = task; output = name })) self.new node) }
         ensures err { OnErr result (self.new ≡ self.old) }
     {
         let chosen = Chosen { task, output: name };
@@ -174,7 +190,10 @@ impl<'a, T: Transforms> Providers<'a, T> {
         source: Node,
     ) -> Result<Node, AllocError>
         requires { source.number < length self.old.nodes }
-        ensures ok { IfOk result (λ node. IsDeclared self.old (record { task = task; output = name }) source.number (output_place self.old.nodes (record { task = task; output = name })) self.new node) }
+        ensures ok { IfOk result (λ node.
+            IsDeclared self.old (record { task = task; output = name })
+            source.number (output_place self.old.nodes (record { task = task; output = name }))
+            self.new node) }
         ensures err { OnErr result (self.new ≡ self.old) }
     {
         let chosen = Chosen { task, output: name };
@@ -192,7 +211,8 @@ impl<'a, T: Transforms> Providers<'a, T> {
     /// What a function of `map` makes of a value: absent where that is, or where it gives nothing.
     pub fn map(&mut self, source: Node, name: &str, arguments: Texts) -> Result<Node, StepFault>
         requires { source.number < length self.old.nodes }
-        ensures step { IsStep self.old (Expression.Mapped source.number) T.meanings.map.arity (map_named self.old.table name.now) name.now arguments self.new result }
+        ensures step { IsStep self.old (Expression.Mapped source.number)
+            T.meanings.map.arity (map_named self.old.table name.now) name.now arguments self.new result }
         ensures err { OnErr result (self.new ≡ self.old) }
     {
         let Some(function) = self.table.find_map(name) else {
@@ -214,7 +234,9 @@ impl<'a, T: Transforms> Providers<'a, T> {
         arguments: Texts,
     ) -> Result<Node, StepFault>
         requires { source.number < length self.old.nodes }
-        ensures step { IsStep self.old (Expression.FlatMapped source.number) T.meanings.flat_map.arity (flat_map_named self.old.table name.now) name.now arguments self.new result }
+        ensures step { IsStep self.old (Expression.FlatMapped source.number)
+            T.meanings.flat_map.arity (flat_map_named self.old.table name.now)
+            name.now arguments self.new result }
         ensures err { OnErr result (self.new ≡ self.old) }
     {
         let Some(function) = self.table.find_flat(name) else {
@@ -238,7 +260,8 @@ impl<'a, T: Transforms> Providers<'a, T> {
     ) -> Result<Node, StepFault>
         requires left { left.number < length self.old.nodes }
         requires right { right.number < length self.old.nodes }
-        ensures step { IsStep self.old (Expression.Zipped left.number right.number) T.meanings.zip.arity (zip_named self.old.table name.now) name.now arguments self.new result }
+        ensures step { IsStep self.old (Expression.Zipped left.number right.number)
+            T.meanings.zip.arity (zip_named self.old.table name.now) name.now arguments self.new result }
         ensures err { OnErr result (self.new ≡ self.old) }
     {
         let Some(function) = self.table.find_zip(name) else {
@@ -361,7 +384,8 @@ impl<'a, T: Transforms> Providers<'a, T> {
         arguments: &[Text],
     ) -> Result<bool, ProviderFault>
         requires { node.number < length self.old.nodes }
-        ensures tested { IsTested T.meanings self.old node.number name.now arguments.now (test_named self.old.table name.now) result }
+        ensures tested { IsTested T.meanings self.old node.number name.now arguments.now
+            (test_named self.old.table name.now) result }
         ensures kept { self.new ≡ self.old }
     {
         let table = self.table;

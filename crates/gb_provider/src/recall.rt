@@ -24,7 +24,8 @@ use std::alloc::{AllocError, Global};
 pub(crate) fn extend<A: Drop>(states: &mut Vec<State<A>>, count: usize) -> Result<(), AllocError>
     requires { length states.old.items ≤ count }
     ensures known { (e : ℕ) → known states.new.items e ≡ known states.old.items e }
-    ensures closed { (e : ℕ) → slice_get states.old.items e ≢ Some State.Open → slice_get states.new.items e ≢ Some State.Open }
+    ensures closed { (e : ℕ) → slice_get states.old.items e ≢ Some State.Open
+        → slice_get states.new.items e ≢ Some State.Open }
     ensures within { length states.new.items ≤ count }
     ensures all { OnOk result (length states.new.items ≡ count) }
 {

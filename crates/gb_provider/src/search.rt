@@ -1,5 +1,6 @@
 //! The search for the answer of one expression: a work list, so that no chain is too long.
-ghost use Rattle.std.specs.Prelude.{◌≡◌, ◌<◌, [], ◌∷◌, ◌++◌, ℕ, List, length, IfOk, OnOk, Some, None, drop, slice_index, slice_set, slice_get, ◌≢◌};
+ghost use Rattle.std.specs.Prelude.{◌≡◌, ◌<◌, [], ◌∷◌, ◌++◌, ℕ, List, length, IfOk, OnOk, Some, None, drop};
+ghost use Rattle.std.specs.Prelude.{slice_index, slice_set, slice_get, ◌≢◌};
 ghost use Rattle.std.specs.Bool.{OnTrue, OnFalse};
 ghost use Rattle.gb_provider.specs.Rounds.{Rule};
 ghost use Rattle.gb_provider.specs.Search.{IsLook, IsPastAt, IsSound, IsEvaluated, WaitsWithin, known};
@@ -32,7 +33,8 @@ pub(crate) trait Entries {
 // The end of a path, from an entry of it on.
 fn circle_from(alloc: Global, path: &[usize], operand: usize) -> Result<Vec<usize>, AllocError>
     requires { (k : ℕ) × (k < length path.now) × (slice_index path.now k ≡ operand) }
-    ensures { IfOk result (λ circle. (k : ℕ) × (k < length path.now) × (slice_index path.now k ≡ operand) × (circle.items ≡ drop k path.now)) }
+    ensures { IfOk result (λ circle. (k : ℕ) × (k < length path.now) × (slice_index path.now k ≡ operand)
+        × (circle.items ≡ drop k path.now)) }
 {
     for i in 0..path.len() {
         if path[i] == operand {

@@ -49,7 +49,8 @@ impl<M: Drop, F: Drop, Z: Drop, S: Drop> TransformTable<M, F, Z, S> {
     pub fn add_map(&mut self, name: &Name, stored: M) -> Result<(), TableFault>
         ensures ok { OnOk result (self.new ≡ self.old ++ (name.now, Transform.Map stored) ∷ []) }
         ensures absent { OnOk result (find byte_order name.now self.old ≡ None) }
-        ensures duplicate { IsErrOf result TableFault.DuplicateTransform ↔ IsSome (find byte_order name.now self.old) }
+        ensures duplicate { IsErrOf result TableFault.DuplicateTransform
+            ↔ IsSome (find byte_order name.now self.old) }
         ensures err { OnErr result (self.new ≡ self.old) }
     {
         self.add(name, Transform::Map(stored))
@@ -59,7 +60,8 @@ impl<M: Drop, F: Drop, Z: Drop, S: Drop> TransformTable<M, F, Z, S> {
     pub fn add_flat(&mut self, name: &Name, stored: F) -> Result<(), TableFault>
         ensures ok { OnOk result (self.new ≡ self.old ++ (name.now, Transform.FlatMap stored) ∷ []) }
         ensures absent { OnOk result (find byte_order name.now self.old ≡ None) }
-        ensures duplicate { IsErrOf result TableFault.DuplicateTransform ↔ IsSome (find byte_order name.now self.old) }
+        ensures duplicate { IsErrOf result TableFault.DuplicateTransform
+            ↔ IsSome (find byte_order name.now self.old) }
         ensures err { OnErr result (self.new ≡ self.old) }
     {
         self.add(name, Transform::FlatMap(stored))
@@ -69,7 +71,8 @@ impl<M: Drop, F: Drop, Z: Drop, S: Drop> TransformTable<M, F, Z, S> {
     pub fn add_zip(&mut self, name: &Name, stored: Z) -> Result<(), TableFault>
         ensures ok { OnOk result (self.new ≡ self.old ++ (name.now, Transform.Zip stored) ∷ []) }
         ensures absent { OnOk result (find byte_order name.now self.old ≡ None) }
-        ensures duplicate { IsErrOf result TableFault.DuplicateTransform ↔ IsSome (find byte_order name.now self.old) }
+        ensures duplicate { IsErrOf result TableFault.DuplicateTransform
+            ↔ IsSome (find byte_order name.now self.old) }
         ensures err { OnErr result (self.new ≡ self.old) }
     {
         self.add(name, Transform::Zip(stored))
@@ -79,7 +82,8 @@ impl<M: Drop, F: Drop, Z: Drop, S: Drop> TransformTable<M, F, Z, S> {
     pub fn add_test(&mut self, name: &Name, stored: S) -> Result<(), TableFault>
         ensures ok { OnOk result (self.new ≡ self.old ++ (name.now, Transform.Test stored) ∷ []) }
         ensures absent { OnOk result (find byte_order name.now self.old ≡ None) }
-        ensures duplicate { IsErrOf result TableFault.DuplicateTransform ↔ IsSome (find byte_order name.now self.old) }
+        ensures duplicate { IsErrOf result TableFault.DuplicateTransform
+            ↔ IsSome (find byte_order name.now self.old) }
         ensures err { OnErr result (self.new ≡ self.old) }
     {
         self.add(name, Transform::Test(stored))
@@ -88,7 +92,8 @@ impl<M: Drop, F: Drop, Z: Drop, S: Drop> TransformTable<M, F, Z, S> {
     fn add(&mut self, name: &Name, stored: Transform<M, F, Z, S>) -> Result<(), TableFault>
         ensures ok { OnOk result (self.new ≡ self.old ++ (name.now, stored) ∷ []) }
         ensures absent { OnOk result (find byte_order name.now self.old ≡ None) }
-        ensures duplicate { IsErrOf result TableFault.DuplicateTransform ↔ IsSome (find byte_order name.now self.old) }
+        ensures duplicate { IsErrOf result TableFault.DuplicateTransform
+            ↔ IsSome (find byte_order name.now self.old) }
         ensures err { OnErr result (self.new ≡ self.old) }
     {
         self.entries.add(name, stored)?;

@@ -1,5 +1,6 @@
 -- The number and the text of each fault.
-use Rattle.std.specs.Prelude.{ℕ, not, ◌||◌, ◌==◌, List, [], ◌∷◌, ◌++◌, map, take, if◌then◌else◌, codes, decimal, nat_lt, encode_utf8_all}
+use Rattle.std.specs.Prelude.{ℕ, not, ◌||◌, ◌==◌, List, [], ◌∷◌, ◌++◌, map, take, if◌then◌else◌, codes}
+use Rattle.std.specs.Prelude.{decimal, nat_lt, encode_utf8_all}
 use Rattle.std.specs.List.{flat_map}
 use Rattle.std.specs.Str.{chars}
 use Rattle.gb_report.specs.declared.fault.Fault.{Fault}
@@ -102,14 +103,18 @@ fault_text (faults.TaskNotFound text) = codes "52 task not found " ++ shown text
 fault_text (faults.DuplicateProperty name) = codes "53 duplicate property " ++ name
 fault_text (faults.UnknownProperty name) = codes "54 unknown property " ++ name
 fault_text (faults.BadShape task) = codes "55 bad shape " ++ task
-fault_text (faults.OutputOutsideBuild task place) = codes "56 output outside build " ++ task ++ codes " " ++ place
+fault_text (faults.OutputOutsideBuild task place) =
+    codes "56 output outside build " ++ task ++ codes " " ++ place
 fault_text (faults.BadProjectPlace project) = codes "57 bad project place " ++ project
 fault_text (faults.TooMany what) = codes "58 too many " ++ limited_text what
 fault_text (faults.UnknownOutput task text) = codes "59 unknown output " ++ task ++ codes " " ++ shown text
 fault_text (faults.Cycle tasks) = codes "60 cycle " ++ row_text tasks
-fault_text (faults.OverlappingOutputs task other place) = codes "61 overlapping outputs " ++ task ++ codes " " ++ other ++ codes " " ++ place
-fault_text (faults.UndeclaredDependency task producer place) = codes "62 undeclared dependency " ++ task ++ codes " " ++ producer ++ codes " " ++ place
-fault_text (faults.OwnOutputAsInput task place) = codes "63 own output as input " ++ task ++ codes " " ++ place
+fault_text (faults.OverlappingOutputs task other place) =
+    codes "61 overlapping outputs " ++ task ++ codes " " ++ other ++ codes " " ++ place
+fault_text (faults.UndeclaredDependency task producer place) =
+    codes "62 undeclared dependency " ++ task ++ codes " " ++ producer ++ codes " " ++ place
+fault_text (faults.OwnOutputAsInput task place) =
+    codes "63 own output as input " ++ task ++ codes " " ++ place
 fault_text faults.NoTasks = codes "64 no tasks"
 fault_text (faults.BadPattern text) = codes "70 bad pattern " ++ shown text
 fault_text (faults.DuplicateInput name path) = codes "71 duplicate input " ++ name ++ codes " " ++ path
@@ -122,4 +127,5 @@ fault_text faults.Usage = codes "96 usage"
 -- the text of a fault with a number from one on and below another, and nothing of any other
 abbrev pub text_within : ℕ → ℕ → Fault → List ℕ
 text_within from below fault =
-    if nat_lt (fault_number fault) from || not (nat_lt (fault_number fault) below) then [] else fault_text fault
+    if nat_lt (fault_number fault) from || not (nat_lt (fault_number fault) below) then []
+    else fault_text fault

@@ -56,4 +56,5 @@ is_actionable task = counts_as_executed task || counts_as_up_to_date task
 
 -- no task failed, and no listener refused
 abbrev pub is_successful : Report → Bool
-is_successful report = not report.listener_refused && not (list_any (λ task. is_failed task.outcome) report.tasks)
+is_successful report =
+    not report.listener_refused && not (list_any (λ task. is_failed task.outcome) report.tasks)

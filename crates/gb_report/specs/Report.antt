@@ -6,7 +6,8 @@ use Rattle.gb_report.specs.declared.report.Outcome.TheVariants as outcomes
 use Rattle.gb_report.specs.declared.report.TaskReport.{TaskReport}
 use Rattle.gb_report.specs.declared.report.Report.{Report}
 use Rattle.gb_report.specs.Fault.{fault_text}
-use Rattle.gb_report.specs.Outcome.{is_started, is_actionable, is_successful, counts_as_executed, counts_as_up_to_date}
+use Rattle.gb_report.specs.Outcome.{is_started, is_actionable, is_successful, counts_as_executed}
+use Rattle.gb_report.specs.Outcome.{counts_as_up_to_date}
 
 -- a text and a line feed
 abbrev pub line : List ℕ → List ℕ
@@ -23,7 +24,9 @@ label outcomes.NotRun = []
 
 -- the head line of a started task, then what it printed
 abbrev pub task_text : TaskReport → List ℕ
-task_text task = if is_started task.outcome then line (codes "> Task " ++ task.path ++ label task.outcome) ++ flat_map line task.lines else []
+task_text task =
+    if is_started task.outcome
+    then line (codes "> Task " ++ task.path ++ label task.outcome) ++ flat_map line task.lines else []
 
 -- the line of a failed task
 abbrev pub failure_text : List ℕ → Outcome → List ℕ
@@ -48,17 +51,21 @@ part count word = if count == 0 then [] else (decimal count ++ codes " " ++ word
 
 -- the parts that are not zero, with a comma between
 abbrev pub parts : ℕ → ℕ → List ℕ
-parts executed up_to_date = join_by (λ text. text) (codes ", ") (part executed (codes "executed") ++ part up_to_date (codes "up-to-date"))
+parts executed up_to_date =
+    join_by (λ text. text) (codes ", ")
+    (part executed (codes "executed") ++ part up_to_date (codes "up-to-date"))
 
 -- how many tasks are actionable
 abbrev pub actionable : ℕ → List ℕ
-actionable count = decimal count ++ (if count == 1 then codes " actionable task: " else codes " actionable tasks: ")
+actionable count =
+    decimal count ++ (if count == 1 then codes " actionable task: " else codes " actionable tasks: ")
 
 -- the last line, where some task is actionable
 abbrev pub summary : List TaskReport → List ℕ
 summary tasks =
     if count_by is_actionable tasks == 0 then []
-    else line (actionable (count_by is_actionable tasks) ++ parts (count_by counts_as_executed tasks) (count_by counts_as_up_to_date tasks))
+    else line (actionable (count_by is_actionable tasks)
+    ++ parts (count_by counts_as_executed tasks) (count_by counts_as_up_to_date tasks))
 
 -- the text of a dry run: no task runs, and none fails
 abbrev pub dry_text : List TaskReport → List ℕ

@@ -3,7 +3,8 @@ ghost use Rattle.std.specs.Prelude.{◌≡◌, ◌++◌, IfOk, OnOk, string_byte
 ghost use Rattle.std.specs.List.{count_by, flat_map};
 ghost use Rattle.gb_report.specs.Fault.{fault_text};
 ghost use Rattle.gb_report.specs.Outcome.{counts_as_executed, counts_as_up_to_date, is_actionable};
-ghost use Rattle.gb_report.specs.Report.{label, line, task_text, failure_text, refusal_text, result_text, parts, actionable, summary, dry_text, run_text, report_text};
+ghost use Rattle.gb_report.specs.Report.{label, line, task_text, failure_text, refusal_text, result_text};
+ghost use Rattle.gb_report.specs.Report.{parts, actionable, summary, dry_text, run_text, report_text};
 
 use crate::fault::Fault;
 use crate::report::{Outcome, Report, TaskReport};

@@ -10,7 +10,7 @@ use std::alloc::{AllocError, Global};
 use std::marker::Model;
 
 /// What became of a task.
-#[derive(Debug, Drop)]
+#[derive(Drop)]
 pub enum Outcome {
     /// Its actions ran to their end.
     Executed,
@@ -87,7 +87,7 @@ pub struct Options {
 }
 
 /// What became of one task, and the lines that it printed.
-#[derive(Debug, Drop)]
+#[derive(Drop)]
 pub struct TaskReport {
     pub path: TaskPath,
     pub outcome: Outcome,
@@ -123,7 +123,7 @@ impl TaskReport {
 }
 
 /// The tasks of a build, in the order of their turns.
-#[derive(Debug, Drop)]
+#[derive(Drop)]
 pub struct TaskReports {
     tasks: Vec<TaskReport>,
 }
@@ -161,7 +161,7 @@ impl TaskReports {
 }
 
 /// What a build answers.
-#[derive(Debug, Drop)]
+#[derive(Drop)]
 pub struct Report {
     pub tasks: TaskReports,
     /// Nothing ran: the tasks are those that would.

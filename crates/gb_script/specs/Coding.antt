@@ -3,7 +3,9 @@ use Rattle.std.specs.Prelude.{◌≡◌, ℕ, true, false, List, [], ◌∷◌, 
 use Rattle.std.specs.Coded.{Coded, code_by, coded×, coded_ℕ, coded_list}
 use Rattle.std.proofs.Common.{ap, ◌∙◌}
 use Rattle.gb_script.specs.declared.function.Function.{Function}
-use Rattle.gb_script.specs.Tree.{Tree, Chain, Root, TextOf, FlagOf, ListOf, PropertyOf, DirOf, FileOf, TheBuildDir, GradlePropertyOf, TaskOf, Link, MapBy, FlatMapBy, ZipBy, Else, Trees, NoTree, AndTree, Links, NoLink, AndLink}
+use Rattle.gb_script.specs.Tree.{Tree, Chain, Root, TextOf, FlagOf, ListOf, PropertyOf, DirOf, FileOf}
+use Rattle.gb_script.specs.Tree.{TheBuildDir, GradlePropertyOf, TaskOf, Link, MapBy, FlatMapBy, ZipBy, Else}
+use Rattle.gb_script.specs.Tree.{Trees, NoTree, AndTree, Links, NoLink, AndLink}
 
 -- which form stands here, its text, and the arguments of its function
 abbrev pub Cell : Type 0
@@ -112,7 +114,8 @@ found (c ∷ cs) = put c (found cs)
 
 mutual
   pub tree_found : (tree : Tree) (k : List Cell) → found (tree_cells tree k) ≡ ATree tree (found k)
-  tree_found (Chain root links) k = ap chained (root_found root (links_cells links k) ∙ ap (ARoot root) (links_found links k))
+  tree_found (Chain root links) k =
+      ap chained (root_found root (links_cells links k) ∙ ap (ARoot root) (links_found links k))
 
   pub root_found : (root : Root) (k : List Cell) → found (root_cells root k) ≡ ARoot root (found k)
   root_found (TextOf t) k = refl
@@ -134,11 +137,13 @@ mutual
 
   pub trees_found : (trees : Trees) (k : List Cell) → found (trees_cells trees k) ≡ SomeTrees trees (found k)
   trees_found NoTree k = refl
-  trees_found (AndTree tree trees) k = ap and_tree (tree_found tree (trees_cells trees k) ∙ ap (ATree tree) (trees_found trees k))
+  trees_found (AndTree tree trees) k =
+      ap and_tree (tree_found tree (trees_cells trees k) ∙ ap (ATree tree) (trees_found trees k))
 
   pub links_found : (links : Links) (k : List Cell) → found (links_cells links k) ≡ SomeLinks links (found k)
   links_found NoLink k = refl
-  links_found (AndLink link links) k = ap and_link (link_found link (links_cells links k) ∙ ap (ALink link) (links_found links k))
+  links_found (AndLink link links) k =
+      ap and_link (link_found link (links_cells links k) ∙ ap (ALink link) (links_found links k))
 
 abbrev pub first_tree : Found → Tree
 first_tree (ATree tree more) = tree
@@ -149,4 +154,5 @@ cell_code = coded× coded_ℕ (coded× (coded_list coded_ℕ) (coded_list (coded
 
 abbrev pub tree_code : Coded Tree
 tree_code =
-    code_by (List Cell) (coded_list cell_code) (λ tree. tree_cells tree []) (λ cells. first_tree (found cells)) (λ tree. ap first_tree (tree_found tree []))
+    code_by (List Cell) (coded_list cell_code) (λ tree. tree_cells tree [])
+    (λ cells. first_tree (found cells)) (λ tree. ap first_tree (tree_found tree []))

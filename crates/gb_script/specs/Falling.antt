@@ -8,7 +8,8 @@ use Rattle.gb_script.specs.declared.expression.Source.{Source}
 use Rattle.gb_script.specs.declared.expression.Source.TheVariants as sources
 use Rattle.gb_script.specs.declared.expression.Step.{Step}
 use Rattle.gb_script.specs.declared.expression.Step.TheVariants as steps
-use Rattle.gb_script.specs.Tree.{Tree, trees_of, links_of, tree_size, root_size, trees_size, link_size, links_size}
+use Rattle.gb_script.specs.Tree.{Tree, trees_of, links_of, tree_size, root_size}
+use Rattle.gb_script.specs.Tree.{trees_size, link_size, links_size}
 use Rattle.gb_script.specs.View.{tree_of, root_of, link_of}
 
 trees_fall : (trees : List Tree) → most (λ t. tree_size t + 1) trees ≤ trees_size (trees_of trees) + 1

@@ -1,7 +1,8 @@
 -- The numbers under which faults are told to users.
 use Rattle.std.specs.Prelude.{ℕ}
 use Rattle.gb_script.specs.declared.fault.ScriptFault.{ScriptFault}
-use Rattle.gb_script.specs.declared.fault.ScriptFault.TheVariants.{OutOfMemory, Syntax, TooLong, TooDeep, NotUtf8}
+use Rattle.gb_script.specs.declared.fault.ScriptFault.TheVariants.{OutOfMemory, Syntax, TooLong, TooDeep}
+use Rattle.gb_script.specs.declared.fault.ScriptFault.TheVariants.{NotUtf8}
 
 abbrev pub script_fault_number : ScriptFault → ℕ
 script_fault_number OutOfMemory = 3

@@ -4,7 +4,9 @@ use Rattle.std.specs.Prelude.{◌≡◌, ℕ, false, IsTrue, List, [], ◌∷◌
 use Rattle.std.specs.List.{AllByRecursion}
 use Rattle.gb_core.specs.Name.{is_name}
 use Rattle.gb_script.specs.declared.function.Function.{Function}
-use Rattle.gb_script.specs.Tree.{Tree, Chain, Root, TextOf, FlagOf, ListOf, PropertyOf, DirOf, FileOf, TheBuildDir, GradlePropertyOf, TaskOf, Link, MapBy, FlatMapBy, ZipBy, Else, Trees, NoTree, AndTree, Links, NoLink, AndLink}
+use Rattle.gb_script.specs.Tree.{Tree, Chain, Root, TextOf, FlagOf, ListOf, PropertyOf, DirOf, FileOf}
+use Rattle.gb_script.specs.Tree.{TheBuildDir, GradlePropertyOf, TaskOf, Link, MapBy, FlatMapBy, ZipBy, Else}
+use Rattle.gb_script.specs.Tree.{Trees, NoTree, AndTree, Links, NoLink, AndLink}
 use Rattle.gb_script.specs.declared.script.Call.{Call}
 use Rattle.gb_script.specs.declared.script.Assignment.{Assignment}
 use Rattle.gb_script.specs.declared.script.Condition.{Condition}

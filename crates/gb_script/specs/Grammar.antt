@@ -3,11 +3,15 @@
 use Rattle.std.specs.Prelude.{ℕ, ◌+◌, Bool, true, false, List, [], ◌∷◌, ◌++◌, codes, map, Option, None, Some}
 use Rattle.std.specs.List.{flat_map}
 use Rattle.gb_script.specs.declared.token.Sign.{Sign}
-use Rattle.gb_script.specs.declared.token.Sign.TheVariants.{OpenBrace, CloseBrace, OpenParen, CloseParen, OpenBracket, CloseBracket, Comma, Dot, Colon, Equals}
+use Rattle.gb_script.specs.declared.token.Sign.TheVariants.{OpenBrace, CloseBrace, OpenParen, CloseParen}
+use Rattle.gb_script.specs.declared.token.Sign.TheVariants.{OpenBracket, CloseBracket, Comma}
+use Rattle.gb_script.specs.declared.token.Sign.TheVariants.{Dot, Colon, Equals}
 use Rattle.gb_script.specs.declared.token.Token.{Token}
 use Rattle.gb_script.specs.declared.token.Token.TheVariants.{Word, Text, Mark}
 use Rattle.gb_script.specs.declared.function.Function.{Function}
-use Rattle.gb_script.specs.Tree.{Tree, Chain, Root, TextOf, FlagOf, ListOf, PropertyOf, DirOf, FileOf, TheBuildDir, GradlePropertyOf, TaskOf, Link, MapBy, FlatMapBy, ZipBy, Else, Trees, NoTree, AndTree, Links, NoLink, AndLink}
+use Rattle.gb_script.specs.Tree.{Tree, Chain, Root, TextOf, FlagOf, ListOf, PropertyOf, DirOf, FileOf}
+use Rattle.gb_script.specs.Tree.{TheBuildDir, GradlePropertyOf, TaskOf, Link, MapBy, FlatMapBy, ZipBy, Else}
+use Rattle.gb_script.specs.Tree.{Trees, NoTree, AndTree, Links, NoLink, AndLink}
 use Rattle.gb_script.specs.declared.script.Call.{Call}
 use Rattle.gb_script.specs.declared.script.Assignment.{Assignment}
 use Rattle.gb_script.specs.declared.script.Condition.{Condition}
@@ -98,13 +102,19 @@ abbrev mutual
   -- the steps from the n-th on, each behind its dot
   pub links_spelled : ℕ → ℕ → Links → List Leveled
   links_spelled d n NoLink = []
-  links_spelled d n (AndLink link links) = (Mark Dot, n) ∷ link_spelled d link ++ links_spelled d (n + 1) links
+  links_spelled d n (AndLink link links) =
+      (Mark Dot, n) ∷ link_spelled d link ++ links_spelled d (n + 1) links
 
   pub link_spelled : ℕ → Link → List Leveled
-  link_spelled d (MapBy f) = word (codes "map") ∷ opened OpenParen d ∷ function_spelled (d + 1) f ++ sign CloseParen ∷ []
-  link_spelled d (FlatMapBy f) = word (codes "flatMap") ∷ opened OpenParen d ∷ function_spelled (d + 1) f ++ sign CloseParen ∷ []
-  link_spelled d (ZipBy tree f) = word (codes "zip") ∷ opened OpenParen d ∷ tree_spelled (d + 1) tree ++ sign Comma ∷ function_spelled (d + 1) f ++ sign CloseParen ∷ []
-  link_spelled d (Else tree) = word (codes "orElse") ∷ opened OpenParen d ∷ tree_spelled (d + 1) tree ++ sign CloseParen ∷ []
+  link_spelled d (MapBy f) =
+      word (codes "map") ∷ opened OpenParen d ∷ function_spelled (d + 1) f ++ sign CloseParen ∷ []
+  link_spelled d (FlatMapBy f) =
+      word (codes "flatMap") ∷ opened OpenParen d ∷ function_spelled (d + 1) f ++ sign CloseParen ∷ []
+  link_spelled d (ZipBy tree f) =
+      word (codes "zip") ∷ opened OpenParen d ∷ tree_spelled (d + 1) tree ++ sign Comma
+      ∷ function_spelled (d + 1) f ++ sign CloseParen ∷ []
+  link_spelled d (Else tree) =
+      word (codes "orElse") ∷ opened OpenParen d ∷ tree_spelled (d + 1) tree ++ sign CloseParen ∷ []
 
 -- EXPR ("," EXPR)*
 abbrev pub values_spelled : ℕ → List Tree → List Leveled

@@ -1,9 +1,12 @@
 -- What a text is made of: pieces one after another, which are blanks, comments and tokens.
-use Rattle.std.specs.Prelude.{◌≡◌, ℕ, ◌+◌, Bool, false, not, ◌||◌, ◌==◌, nat_le, IsTrue, List, [], ◌∷◌, ◌++◌, if◌then◌else◌, count_by}
+use Rattle.std.specs.Prelude.{◌≡◌, ℕ, ◌+◌, Bool, false, not, ◌||◌, ◌==◌, nat_le, IsTrue, List, [], ◌∷◌}
+use Rattle.std.specs.Prelude.{◌++◌, if◌then◌else◌, count_by}
 use Rattle.std.specs.List.{flat_map, list_all}
 use Rattle.gb_core.specs.Name.{is_name, is_name_byte}
 use Rattle.gb_script.specs.declared.token.Sign.{Sign}
-use Rattle.gb_script.specs.declared.token.Sign.TheVariants.{OpenBrace, CloseBrace, OpenParen, CloseParen, OpenBracket, CloseBracket, Comma, Dot, Colon, Equals}
+use Rattle.gb_script.specs.declared.token.Sign.TheVariants.{OpenBrace, CloseBrace, OpenParen, CloseParen}
+use Rattle.gb_script.specs.declared.token.Sign.TheVariants.{OpenBracket, CloseBracket, Comma}
+use Rattle.gb_script.specs.declared.token.Sign.TheVariants.{Dot, Colon, Equals}
 use Rattle.gb_script.specs.declared.token.Token.{Token}
 use Rattle.gb_script.specs.declared.token.Token.TheVariants.{Word, Text, Mark, Wrong}
 
@@ -61,10 +64,12 @@ written (Single (Text t)) = 34 ∷ flat_map escaped t ++ 34 ∷ []
 written (Single (Mark s)) = sign_byte s ∷ []
 written (Single Wrong) = []
 
--- The piece may stand where this follows it. A comment goes up to a newline or the end; a word is all of its run.
+-- The piece may stand where this follows it. A comment goes up to a newline or the end;
+-- a word is all of its run.
 abbrev pub Stands : Piece → List ℕ → Type 0
 Stands (Blank b) rest = IsTrue (is_blank b)
-Stands (Comment c) rest = IsTrue (list_all (λ b. not (is_newline b)) c) × (begins (λ b. not (is_newline b)) rest ≡ false)
+Stands (Comment c) rest =
+    IsTrue (list_all (λ b. not (is_newline b)) c) × (begins (λ b. not (is_newline b)) rest ≡ false)
 Stands (Single (Word w)) rest = IsTrue (is_name w) × (begins is_name_byte rest ≡ false)
 Stands (Single (Text t)) rest = IsTrue (list_all is_writable t)
 Stands (Single (Mark s)) rest = Unit {0}
@@ -73,7 +78,8 @@ Stands (Single Wrong) rest = ⊥
 -- the text is these pieces, one after another, and then the rest
 abbrev pub IsCut : List ℕ → List Piece → List ℕ → Type 0
 IsCut text [] rest = text ≡ rest
-IsCut text (p ∷ ps) rest = (after : List ℕ) × (text ≡ written p ++ after) × Stands p after × IsCut after ps rest
+IsCut text (p ∷ ps) rest =
+    (after : List ℕ) × (text ≡ written p ++ after) × Stands p after × IsCut after ps rest
 
 -- No piece stands at the front: the text ends, or what follows is an open text, a word of more than 64 bytes,
 -- or whatever else begins nothing.
@@ -95,7 +101,8 @@ placed line (Blank b ∷ ps) rest = placed (line + newlines (b ∷ [])) ps rest
 placed line (Comment c ∷ ps) rest = placed line ps rest
 placed line (Single t ∷ ps) rest = (t, line) ∷ placed line ps rest
 
--- The tokens of the text, each with its line: 1 and the newlines before it. Nothing matters behind a place where no piece stands.
+-- The tokens of the text, each with its line: 1 and the newlines before it. Nothing matters behind a
+-- place where no piece stands.
 pub record HasTokens (text : List ℕ) (tokens : List Placed) : Type 0 where
   pub pieces : List Piece
   pub rest : List ℕ

@@ -1,8 +1,10 @@
 -- How a text spells something of a notation, or fails to. A notation is what it has, and how that is spelled.
-use Rattle.std.specs.Prelude.{◌≡◌, ℕ, ◌+◌, ◌<◌, ◌≤◌, List, [], ◌∷◌, ◌++◌, length, map, Result, Ok, Err, IsUtf8}
+use Rattle.std.specs.Prelude.{◌≡◌, ℕ, ◌+◌, ◌<◌, ◌≤◌, List, [], ◌∷◌, ◌++◌, length, map, Result}
+use Rattle.std.specs.Prelude.{Ok, Err, IsUtf8}
 use Rattle.gb_script.specs.declared.token.Token.{Token}
 use Rattle.gb_script.specs.declared.fault.ScriptFault.{ScriptFault}
-use Rattle.gb_script.specs.declared.fault.ScriptFault.TheVariants.{OutOfMemory, Syntax, TooLong, TooDeep, NotUtf8}
+use Rattle.gb_script.specs.declared.fault.ScriptFault.TheVariants.{OutOfMemory, Syntax, TooLong, TooDeep}
+use Rattle.gb_script.specs.declared.fault.ScriptFault.TheVariants.{NotUtf8}
 use Rattle.gb_script.specs.Lexing.{Placed, HasTokens, newlines}
 use Rattle.gb_script.specs.Grammar.{Leveled, tokens_of}
 use Rattle.gb_script.specs.Verdict.{AllWithin, IsFirstStray, IsFirstDeep}
@@ -30,7 +32,8 @@ module _ {A : Type 0} (Is : A → Type 0) (spelled : A → List Leveled) where
     pub within : AllWithin (spelled said)
     pub is : Is said
 
-  -- the line of the first token that nothing has after the tokens before it, or the last line where the text ends too early
+  -- the line of the first token that nothing has after the tokens before it, or the last line
+  -- where the text ends too early
   pub record IsSyntaxFault (bytes : List ℕ) (line : ℕ) : Type 0 where
     pub before : List Placed
     pub bad : List Placed

@@ -1,6 +1,9 @@
 -- The readers of the notation.
-use Rattle.std.specs.Prelude.{ℕ, zero, suc, Bool, true, false, not, List, [], ◌∷◌, length, Option, Some, None, Ok, codes}
-use Rattle.gb_script.specs.declared.token.Sign.TheVariants.{OpenBrace, CloseBrace, OpenParen, CloseParen, OpenBracket, CloseBracket, Comma, Dot, Colon, Equals}
+use Rattle.std.specs.Prelude.{ℕ, zero, suc, Bool, true, false, not, List, [], ◌∷◌, length, Option, Some}
+use Rattle.std.specs.Prelude.{None, Ok, codes}
+use Rattle.gb_script.specs.declared.token.Sign.TheVariants.{OpenBrace, CloseBrace, OpenParen, CloseParen}
+use Rattle.gb_script.specs.declared.token.Sign.TheVariants.{OpenBracket, CloseBracket, Comma}
+use Rattle.gb_script.specs.declared.token.Sign.TheVariants.{Dot, Colon, Equals}
 use Rattle.gb_script.specs.declared.token.Token.{Token}
 use Rattle.gb_script.specs.declared.token.Token.TheVariants.{Word, Text, Mark, Wrong}
 use Rattle.gb_script.specs.declared.words.SourceWord.{SourceWord}
@@ -28,9 +31,13 @@ use Rattle.gb_script.specs.declared.script.Registration.{Registration}
 use Rattle.gb_script.specs.declared.script.Configuration.{Configuration}
 use Rattle.gb_script.specs.declared.script.Statement.{Statement}
 use Rattle.gb_script.specs.declared.script.Statement.TheVariants as statements
-use Rattle.gb_script.specs.Tree.{Tree, Chain, Root, TextOf, FlagOf, ListOf, PropertyOf, DirOf, FileOf, TheBuildDir, GradlePropertyOf, TaskOf, Link, MapBy, FlatMapBy, ZipBy, Else, trees_of, links_of}
+use Rattle.gb_script.specs.Tree.{Tree, Chain, Root, TextOf, FlagOf, ListOf, PropertyOf, DirOf, FileOf}
+use Rattle.gb_script.specs.Tree.{TheBuildDir, GradlePropertyOf, TaskOf, Link, MapBy, FlatMapBy, ZipBy}
+use Rattle.gb_script.specs.Tree.{Else, trees_of, links_of}
 use Rattle.gb_script.specs.Words.{source_words, step_words, clause_words, statement_words, meaning_in}
-use Rattle.gb_script.specs.Reading.{Reader, ◌>>=◌, stray, is_sign, is_word, is_any, skip_at, name_at, property_at, text_at, meaning_at, maybe_at, many_at, no_matter, past_at, list_at, pair_at, made_at, closed_at, opened_at, said_at}
+use Rattle.gb_script.specs.Reading.{Reader, ◌>>=◌, stray, is_sign, is_word, is_any, skip_at, name_at}
+use Rattle.gb_script.specs.Reading.{property_at, text_at, meaning_at, maybe_at, many_at, no_matter, past_at}
+use Rattle.gb_script.specs.Reading.{list_at, pair_at, made_at, closed_at, opened_at, said_at}
 
 -- a text in brackets
 unfoldable pub bracketed_text_at : ℕ → Reader (List ℕ)
@@ -38,13 +45,16 @@ bracketed_text_at room ts = opened_at OpenParen room (λ inner. closed_at (is_si
 
 -- texts in brackets
 unfoldable pub bracketed_texts_at : ℕ → Reader (List (List ℕ))
-bracketed_texts_at room ts = opened_at OpenParen room (λ inner. closed_at (is_sign CloseParen) (list_at text_at)) ts
+bracketed_texts_at room ts =
+    opened_at OpenParen room (λ inner. closed_at (is_sign CloseParen) (list_at text_at)) ts
 
 abbrev pub function_from : List ℕ × List (List ℕ) → Function
 function_from x = record { name = x.0; arguments = x.1 }
 
 unfoldable pub function_at : ℕ → Reader Function
-function_at room ts = made_at function_from (pair_at name_at (λ ts. maybe_at (is_sign OpenParen) (bracketed_texts_at room) [] ts)) ts
+function_at room ts =
+    made_at function_from
+    (pair_at name_at (λ ts. maybe_at (is_sign OpenParen) (bracketed_texts_at room) [] ts)) ts
 
 -- ---- expressions
 
@@ -67,7 +77,9 @@ list_from trees = ListOf (trees_of trees)
 -- a list, of values that are read so
 unfoldable pub list_root_at : ℕ → Reader Tree → Reader Root
 list_root_at room inside ts =
-    opened_at OpenBracket room (λ inner. closed_at (is_sign CloseBracket) (made_at list_from (λ ts. maybe_at in_list (list_at inside) [] ts))) ts
+    opened_at OpenBracket room
+    (λ inner. closed_at (is_sign CloseBracket)
+    (made_at list_from (λ ts. maybe_at in_list (list_at inside) [] ts))) ts
 
 -- what the first word is found to be: the word of a source, or else a property
 unfoldable pub word_root_at : ℕ → Option SourceWord → List Token → Reader Root
@@ -86,11 +98,17 @@ zip_from x = ZipBy x.0 x.1
 
 -- what stands behind the word of a step
 unfoldable pub link_of_at : ℕ → Reader Tree → StepWord → Reader Link
-link_of_at room inside steps.Map ts = opened_at OpenParen room (λ inner. closed_at (is_sign CloseParen) (made_at MapBy (function_at inner))) ts
-link_of_at room inside steps.FlatMap ts = opened_at OpenParen room (λ inner. closed_at (is_sign CloseParen) (made_at FlatMapBy (function_at inner))) ts
+link_of_at room inside steps.Map ts =
+    opened_at OpenParen room (λ inner. closed_at (is_sign CloseParen) (made_at MapBy (function_at inner))) ts
+link_of_at room inside steps.FlatMap ts =
+    opened_at OpenParen room (λ inner. closed_at (is_sign CloseParen) (made_at FlatMapBy (function_at inner)))
+    ts
 link_of_at room inside steps.Zip ts =
-    opened_at OpenParen room (λ inner. closed_at (is_sign CloseParen) (made_at zip_from (pair_at inside (λ ts. past_at (is_sign Comma) (function_at inner) ts)))) ts
-link_of_at room inside steps.OrElse ts = opened_at OpenParen room (λ inner. closed_at (is_sign CloseParen) (made_at Else inside)) ts
+    opened_at OpenParen room
+    (λ inner. closed_at (is_sign CloseParen)
+    (made_at zip_from (pair_at inside (λ ts. past_at (is_sign Comma) (function_at inner) ts)))) ts
+link_of_at room inside steps.OrElse ts =
+    opened_at OpenParen room (λ inner. closed_at (is_sign CloseParen) (made_at Else inside)) ts
 
 -- a step, behind its dot
 unfoldable pub link_at : ℕ → Reader Tree → Reader Link
@@ -104,7 +122,10 @@ chain_from x = Chain x.0 (links_of x.1)
 
 -- a source, and at most 64 steps
 unfoldable pub chain_at : ℕ → Reader Tree → Reader Tree
-chain_at room inside ts = made_at chain_from (pair_at (root_at room inside) (λ ts. many_at (is_sign Dot) no_matter (λ s. link_at room inside) 64 tt ts)) ts
+chain_at room inside ts =
+    made_at chain_from
+    (pair_at (root_at room inside)
+    (λ ts. many_at (is_sign Dot) no_matter (λ s. link_at room inside) 64 tt ts)) ts
 
 -- a value behind a bracket for which there was this much room
 unfoldable pub inside_at : ℕ → Reader Tree
@@ -119,26 +140,32 @@ tree_at room = inside_at (suc room)
 
 -- values in brackets
 unfoldable pub bracketed_values_at : ℕ → Reader (List Tree)
-bracketed_values_at room ts = opened_at OpenParen room (λ inner. closed_at (is_sign CloseParen) (list_at (tree_at inner))) ts
+bracketed_values_at room ts =
+    opened_at OpenParen room (λ inner. closed_at (is_sign CloseParen) (list_at (tree_at inner))) ts
 
 abbrev pub call_from : List ℕ × List Tree → Call
 call_from x = record { name = x.0; arguments = x.1 }
 
 unfoldable pub call_at : ℕ → Reader Call
-call_at room ts = made_at call_from (pair_at name_at (λ ts. maybe_at (is_sign OpenParen) (bracketed_values_at room) [] ts)) ts
+call_at room ts =
+    made_at call_from (pair_at name_at (λ ts. maybe_at (is_sign OpenParen) (bracketed_values_at room) [] ts))
+    ts
 
 abbrev pub assignment_from : List ℕ × Tree → Assignment
 assignment_from x = record { name = x.0; value = x.1 }
 
 -- a name that is read so, and the value that it gets
 unfoldable pub assignment_at : Reader (List ℕ) → ℕ → Reader Assignment
-assignment_at named room ts = made_at assignment_from (pair_at named (λ ts. past_at (is_sign Equals) (tree_at room) ts)) ts
+assignment_at named room ts =
+    made_at assignment_from (pair_at named (λ ts. past_at (is_sign Equals) (tree_at room) ts)) ts
 
 abbrev pub condition_from : Tree × Function → Condition
 condition_from x = record { value = x.0; test = x.1 }
 
 unfoldable pub condition_at : ℕ → Reader Condition
-condition_at room ts = made_at condition_from (pair_at (tree_at room) (λ ts. past_at (is_word (codes "is")) (function_at room) ts)) ts
+condition_at room ts =
+    made_at condition_from
+    (pair_at (tree_at room) (λ ts. past_at (is_word (codes "is")) (function_at room) ts)) ts
 
 -- texts behind the word, or none
 unfoldable pub patterns_at : List ℕ → Reader (List (List ℕ))
@@ -151,10 +178,14 @@ abbrev pub Roots : Type 0
 Roots = List Tree × (List (List ℕ) × List (List ℕ))
 
 unfoldable pub flags_at : Reader Flags
-flags_at ts = pair_at (said_at (codes "incremental")) (pair_at (said_at (codes "skipWhenEmpty")) (said_at (codes "nameOnly"))) ts
+flags_at ts =
+    pair_at (said_at (codes "incremental"))
+    (pair_at (said_at (codes "skipWhenEmpty")) (said_at (codes "nameOnly"))) ts
 
 unfoldable pub roots_at : ℕ → Reader Roots
-roots_at room ts = pair_at (list_at (tree_at room)) (pair_at (patterns_at (codes "include")) (patterns_at (codes "exclude"))) ts
+roots_at room ts =
+    pair_at (list_at (tree_at room))
+    (pair_at (patterns_at (codes "include")) (patterns_at (codes "exclude"))) ts
 
 abbrev pub input_files_from : List ℕ × (Flags × Roots) → InputFiles
 input_files_from x = record {
@@ -168,7 +199,9 @@ input_files_from x = record {
 }
 
 unfoldable pub input_files_at : ℕ → Reader InputFiles
-input_files_at room ts = made_at input_files_from (pair_at name_at (pair_at flags_at (λ ts. past_at (is_word (codes "from")) (roots_at room) ts))) ts
+input_files_at room ts =
+    made_at input_files_from
+    (pair_at name_at (pair_at flags_at (λ ts. past_at (is_word (codes "from")) (roots_at room) ts))) ts
 
 -- what stands behind a word that sets a task before or after others
 unfoldable pub order_of_at : OrderWord → Reader Clause
@@ -212,13 +245,15 @@ block_at room ts = do
 
 -- a call behind a colon, or none
 unfoldable pub action_at : ℕ → Reader (Option Call)
-action_at room ts = maybe_at (is_sign Colon) (λ ts. past_at (is_sign Colon) (made_at Some (call_at room)) ts) None ts
+action_at room ts =
+    maybe_at (is_sign Colon) (λ ts. past_at (is_sign Colon) (made_at Some (call_at room)) ts) None ts
 
 abbrev pub registration_from : List ℕ × (Option Call × List Clause) → Registration
 registration_from x = record { name = x.0; action = x.1.0; block = x.1.1 }
 
 unfoldable pub registration_at : ℕ → Reader Registration
-registration_at room ts = made_at registration_from (pair_at name_at (pair_at (action_at room) (block_at room))) ts
+registration_at room ts =
+    made_at registration_from (pair_at name_at (pair_at (action_at room) (block_at room))) ts
 
 abbrev pub configuration_from : List ℕ × List Clause → Configuration
 configuration_from x = record { name = x.0; block = x.1 }
@@ -230,7 +265,8 @@ configuration_at room ts = made_at configuration_from (pair_at name_at (block_at
 unfoldable pub property_of_at : ℕ → PropertyWord → Reader Statement
 property_of_at room properties.Declare ts = made_at statements.Property property_at ts
 property_of_at room properties.Set ts = made_at statements.Set (assignment_at property_at room) ts
-property_of_at room properties.Convention ts = made_at statements.Convention (assignment_at property_at room) ts
+property_of_at room properties.Convention ts =
+    made_at statements.Convention (assignment_at property_at room) ts
 property_of_at room properties.Unset ts = made_at statements.Unset property_at ts
 property_of_at room properties.DisallowChanges ts = made_at statements.DisallowChanges property_at ts
 

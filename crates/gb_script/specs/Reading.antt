@@ -1,5 +1,6 @@
 -- Reading tokens from left to right, up to the first fault, and how readers are put together.
-use Rattle.std.specs.Prelude.{◌≡◌, ℕ, zero, suc, ◌-◌, Bool, true, false, not, ◌&&◌, List, [], ◌∷◌, length, drop, Option, Some, None, Result, Ok, Err, nat_eq, ◌==◌, if◌then◌else◌}
+use Rattle.std.specs.Prelude.{◌≡◌, ℕ, zero, suc, ◌-◌, Bool, true, false, not, ◌&&◌, List, [], ◌∷◌, length}
+use Rattle.std.specs.Prelude.{drop, Option, Some, None, Result, Ok, Err, nat_eq, ◌==◌, if◌then◌else◌}
 use Rattle.std.specs.Str.{bytes_eq}
 use Rattle.gb_core.specs.Name.{is_name}
 use Rattle.gb_script.specs.declared.token.Sign.{Sign}
@@ -105,7 +106,8 @@ unfoldable pub maybe_at : {A : Type 0} → (Token → Bool) → Reader A → A �
 maybe_at test r none ts = if begins test ts then r ts else Ok (none, ts)
 
 -- Each one that begins so, at most n of them. What was read before decides what may come.
-unfoldable pub many_at : {S A : Type 0} → (Token → Bool) → (S → A → S) → (S → Reader A) → ℕ → S → Reader (List A)
+unfoldable pub many_at : {S A : Type 0} → (Token → Bool) → (S → A → S) → (S → Reader A) → ℕ → S
+    → Reader (List A)
 many_at test next r zero s ts = if begins test ts then deep ts else Ok ([], ts)
 many_at test next r (suc n) s ts =
     if begins test ts then (do

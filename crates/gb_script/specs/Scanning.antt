@@ -1,9 +1,12 @@
 -- Cutting a text from the left, a part at a time.
-use Rattle.std.specs.Prelude.{ℕ, zero, suc, ◌+◌, Bool, not, ◌==◌, List, [], ◌∷◌, ◌++◌, drop, length, Option, None, Some, if◌then◌else◌, take_while, nat_le, ◌&&◌}
+use Rattle.std.specs.Prelude.{ℕ, zero, suc, ◌+◌, Bool, not, ◌==◌, List, [], ◌∷◌, ◌++◌, drop, length, Option}
+use Rattle.std.specs.Prelude.{None, Some, if◌then◌else◌, take_while, nat_le, ◌&&◌}
 use Rattle.std.specs.List.{prefix_len}
 use Rattle.gb_core.specs.Name.{is_name, is_name_byte}
 use Rattle.gb_script.specs.declared.token.Sign.{Sign}
-use Rattle.gb_script.specs.declared.token.Sign.TheVariants.{OpenBrace, CloseBrace, OpenParen, CloseParen, OpenBracket, CloseBracket, Comma, Dot, Colon, Equals}
+use Rattle.gb_script.specs.declared.token.Sign.TheVariants.{OpenBrace, CloseBrace, OpenParen, CloseParen}
+use Rattle.gb_script.specs.declared.token.Sign.TheVariants.{OpenBracket, CloseBracket, Comma}
+use Rattle.gb_script.specs.declared.token.Sign.TheVariants.{Dot, Colon, Equals}
 use Rattle.gb_script.specs.declared.token.Token.TheVariants.{Word, Text, Mark, Wrong}
 use Rattle.gb_script.specs.declared.lexing.Part.{Part}
 use Rattle.gb_script.specs.declared.lexing.Part.TheVariants.{Newline, Gap, Found}
@@ -82,7 +85,8 @@ text_of (Some x) = (Found (Text x.0), x.1)
 -- a word, all of its run
 unfoldable pub word_at : List ℕ → Part × List ℕ
 word_at text =
-    if is_name (take_while is_name_byte text) then (Found (Word (take_while is_name_byte text)), past_run is_name_byte text)
+    if is_name (take_while is_name_byte text)
+    then (Found (Word (take_while is_name_byte text)), past_run is_name_byte text)
     else lost
 
 -- a comment up to its newline, of what follows its first slash

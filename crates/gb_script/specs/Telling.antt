@@ -1,7 +1,8 @@
 -- The fault that is told of bytes: they are no text, or reading the tokens of the text stopped.
 use Rattle.std.specs.Prelude.{ℕ, ◌+◌, ◌-◌, ◌<◌, ◌≤◌, List, length, slice_index_or, IsUtf8}
 use Rattle.gb_script.specs.declared.fault.ScriptFault.{ScriptFault}
-use Rattle.gb_script.specs.declared.fault.ScriptFault.TheVariants.{OutOfMemory, Syntax, TooLong, TooDeep, NotUtf8}
+use Rattle.gb_script.specs.declared.fault.ScriptFault.TheVariants.{OutOfMemory, Syntax, TooLong, TooDeep}
+use Rattle.gb_script.specs.declared.fault.ScriptFault.TheVariants.{NotUtf8}
 use Rattle.gb_script.specs.declared.stop.Fault.TheVariants.{Stray, Deep}
 use Rattle.gb_script.specs.declared.stop.Stop.{Stop}
 use Rattle.gb_script.specs.declared.stop.Stop.TheVariants as stops
@@ -15,7 +16,8 @@ IsTextFault bytes TooLong = 1048576 < length bytes
 IsTextFault bytes (TooDeep line) = ⊥
 IsTextFault bytes NotUtf8 = (length bytes ≤ 1048576) × ¬ (IsUtf8 bytes)
 
--- of a text and the lines of its tokens: the line of the token with this many left from it on, or the last line where none is
+-- of a text and the lines of its tokens: the line of the token with this many left from it on, or
+-- the last line where none is
 abbrev pub line_left : List ℕ → List ℕ → ℕ → ℕ
 line_left text lines left = slice_index_or lines (length lines - left) (1 + newlines text)
 

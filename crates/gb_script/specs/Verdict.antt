@@ -15,7 +15,8 @@ abbrev pub AllWithin : List Leveled → Type 0
 AllWithin ms = AllByRecursion IsWithin ms
 
 -- The tokens begin something, and pass no limit.
-pub record Begins {A : Type 0} (Is : A → Type 0) (spelled : A → List Leveled) (before : List Token) : Type 0 where
+pub record Begins {A : Type 0} (Is : A → Type 0) (spelled : A → List Leveled)
+    (before : List Token) : Type 0 where
   pub value : A
   pub is : Is value
   pub front : List Leveled
@@ -26,16 +27,20 @@ pub record Begins {A : Type 0} (Is : A → Type 0) (spelled : A → List Leveled
 
 -- After the tokens before, the bad ones begin with the first that nothing has there, limits aside; where
 -- there are none, the end comes too early.
-pub record IsFirstStray {A : Type 0} (Is : A → Type 0) (spelled : A → List Leveled) (before bad : List Token) : Type 0 where
+pub record IsFirstStray {A : Type 0} (Is : A → Type 0) (spelled : A → List Leveled)
+    (before bad : List Token) : Type 0 where
   -- the tokens before it begin something
   pub begun : Begins Is spelled before
   -- nothing begins with them and it
-  pub none : (b : Token) (rest : List Token) → bad ≡ b ∷ rest → (a : A) (other : List Token) → Is a → tokens_of (spelled a) ≢ before ++ b ∷ other
+  pub none : (b : Token) (rest : List Token) → bad ≡ b ∷ rest → (a : A) (other : List Token) → Is a
+      → tokens_of (spelled a) ≢ before ++ b ∷ other
   -- nothing is spelled by all the tokens
   pub short : bad ≡ [] → (a : A) → Is a → tokens_of (spelled a) ≢ before
 
--- After the tokens before, which pass no limit, the bad ones begin with one past a limit; something has it there, limits aside.
-pub record IsFirstDeep {A : Type 0} (Is : A → Type 0) (spelled : A → List Leveled) (before bad : List Token) : Type 0 where
+-- After the tokens before, which pass no limit, the bad ones begin with one past a limit; something
+-- has it there, limits aside.
+pub record IsFirstDeep {A : Type 0} (Is : A → Type 0) (spelled : A → List Leveled)
+    (before bad : List Token) : Type 0 where
   pub value : A
   pub is : Is value
   pub front : List Leveled

@@ -4,7 +4,9 @@ use Rattle.gb_script.specs.declared.expression.Source.{Source}
 use Rattle.gb_script.specs.declared.expression.Source.TheVariants as sources
 use Rattle.gb_script.specs.declared.expression.Step.{Step}
 use Rattle.gb_script.specs.declared.expression.Step.TheVariants.{Map, FlatMap, Zip, OrElse}
-use Rattle.gb_script.specs.Tree.{Tree, Chain, Root, TextOf, FlagOf, ListOf, PropertyOf, DirOf, FileOf, TheBuildDir, GradlePropertyOf, TaskOf, Link, MapBy, FlatMapBy, ZipBy, Else, trees_of, links_of}
+use Rattle.gb_script.specs.Tree.{Tree, Chain, Root, TextOf, FlagOf, ListOf, PropertyOf, DirOf, FileOf}
+use Rattle.gb_script.specs.Tree.{TheBuildDir, GradlePropertyOf, TaskOf, Link, MapBy, FlatMapBy, ZipBy}
+use Rattle.gb_script.specs.Tree.{Else, trees_of, links_of}
 
 abbrev pub root_of : Source → Root
 root_of (sources.Text t) = TextOf t

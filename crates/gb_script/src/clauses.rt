@@ -2,8 +2,12 @@
 ghost use Rattle.std.specs.Prelude.{◌≡◌, ◌<◌, ◌≤◌, length, IfOk, Ok, [], codes};
 ghost use Rattle.gb_script.specs.Lexing.{begins};
 ghost use Rattle.gb_script.specs.Words.{clause_words};
-ghost use Rattle.gb_script.specs.Reading.{Gives, is_sign, is_word, no_matter, name_at, property_at, meaning_at, maybe_at, many_at, past_at, pair_at};
-ghost use Rattle.gb_script.specs.Readers.{in_block, tree_at, bracketed_values_at, call_at, assignment_at, function_at, condition_at, patterns_at, flags_at, roots_at, input_files_at, order_of_at, run_of_at, clause_of_at, clause_at, block_at};
+ghost use Rattle.gb_script.specs.Reading.{Gives, is_sign, is_word, no_matter, name_at, property_at};
+ghost use Rattle.gb_script.specs.Reading.{meaning_at, maybe_at, many_at, past_at, pair_at};
+ghost use Rattle.gb_script.specs.Readers.{in_block, tree_at, bracketed_values_at, call_at, assignment_at};
+ghost use Rattle.gb_script.specs.Readers.{function_at, condition_at, patterns_at, flags_at, roots_at};
+ghost use Rattle.gb_script.specs.Readers.{input_files_at, order_of_at, run_of_at};
+ghost use Rattle.gb_script.specs.Readers.{clause_of_at, clause_at, block_at};
 
 use crate::expression::{Expression, Expressions};
 use crate::function::Function;
@@ -37,7 +41,8 @@ fn bracketed_values(
 /// Values in brackets, or none where no bracket is.
 #[tactic(auto, unfolding(crate::specs::Reading::maybe_at))]
 fn values(alloc: Global, tokens: &[Token], room: u32) -> Result<(Expressions, &[Token]), Stop>
-    ensures exact { Gives (λ x. (x.0, x.1.now)) result (maybe_at (is_sign Sign.OpenParen) (bracketed_values_at room) [] tokens.now) }
+    ensures exact { Gives (λ x. (x.0, x.1.now))
+        result (maybe_at (is_sign Sign.OpenParen) (bracketed_values_at room) [] tokens.now) }
     ensures shorter { IfOk result (λ x. length x.1.now ≤ length tokens.now) }
 {
     if begins(tokens, Sign::OpenParen) {
@@ -60,7 +65,8 @@ pub fn call(alloc: Global, tokens: &[Token], room: u32) -> Result<(Call, &[Token
 /// A value behind a sign of equality.
 #[tactic(auto, unfolding(crate::specs::Reading::past_at))]
 fn assigned(alloc: Global, tokens: &[Token], room: u32) -> Result<(Expression, &[Token]), Stop>
-    ensures exact { Gives (λ x. (x.0, x.1.now)) result (past_at (is_sign Sign.Equals) (tree_at room) tokens.now) }
+    ensures exact { Gives (λ x. (x.0, x.1.now))
+        result (past_at (is_sign Sign.Equals) (tree_at room) tokens.now) }
     ensures shorter { IfOk result (λ x. length x.1.now < length tokens.now) }
 {
     expression(alloc, skip(tokens, Sign::Equals)?, room)
@@ -318,7 +324,8 @@ fn is_in_block(tokens: &[Token]) -> bool
 
 /// The clauses up to the end of a block.
 fn clauses(alloc: Global, tokens: &[Token], room: u32) -> Result<(Vec<Clause>, &[Token]), Stop>
-    ensures exact { Gives (λ x. (x.0.items, x.1.now)) result (many_at in_block no_matter (λ s. clause_at room) (length tokens.now) tt tokens.now) }
+    ensures exact { Gives (λ x. (x.0.items, x.1.now))
+        result (many_at in_block no_matter (λ s. clause_at room) (length tokens.now) tt tokens.now) }
     ensures shorter { IfOk result (λ x. length x.1.now ≤ length tokens.now) }
 {
     let mut clauses = Vec::new(alloc);

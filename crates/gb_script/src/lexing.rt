@@ -2,11 +2,13 @@
 //!
 //! The text is taken apart from the left, a part at a time, up to the first place where nothing
 //! begins. There a token stands that no script has, so what follows does not matter.
-ghost use Rattle.std.specs.Prelude.{◌≡◌, ℕ, ◌<◌, ◌≤◌, not, ◌==◌, nat_lt, true, slice_index, length, drop, map, take_while, Some, option_map, IfOk, IfSome, string_bytes};
+ghost use Rattle.std.specs.Prelude.{◌≡◌, ℕ, ◌<◌, ◌≤◌, not, ◌==◌, nat_lt, true, slice_index, length, drop};
+ghost use Rattle.std.specs.Prelude.{map, take_while, Some, option_map, IfOk, IfSome, string_bytes};
 ghost use Rattle.std.specs.List.{prefix_len};
 ghost use Rattle.gb_core.specs.Name.{is_name_byte};
 ghost use Rattle.gb_script.specs.Lexing.{begins, is_newline, newlines};
-ghost use Rattle.gb_script.specs.Scanning.{is_plain, sign_of, unescaped, past_run, escape_at, content_at, text_of, word_at, comment_at, mark_of, part_at, scan};
+ghost use Rattle.gb_script.specs.Scanning.{is_plain, sign_of, unescaped, past_run, escape_at, content_at};
+ghost use Rattle.gb_script.specs.Scanning.{text_of, word_at, comment_at, mark_of, part_at, scan};
 
 use crate::token::{Sign, Token};
 use gb_core::name::{Name, NameFault};
@@ -252,7 +254,9 @@ impl Lexed {
     /// The line of the token with this many left from it on, or the last line of the text where none is.
     pub fn line_of(&self, text: &str, left: usize) -> u64
         requires { length text.now ≤ 1048576 }
-        ensures { result ≡ slice_index_or self.now.lines.items (length self.now.lines.items - left) (1 + newlines text.now) }
+        ensures { result
+            ≡ slice_index_or self.now.lines.items (length self.now.lines.items - left)
+            (1 + newlines text.now) }
     {
         match self.lines.get(self.lines.len().saturating_sub(left)) {
             Some(line) => *line,

@@ -9,8 +9,8 @@
 //!
 //! Two phases: `lexing` cuts the text into tokens with their lines; `reading`, `values`, `clauses` and
 //! `statements` have a function for each part of the notation. Set aside: tokens that borrow from the text,
-//! since contracts would then speak of where they lie; reading characters without tokens, since a fault is told by its token; going on
-//! after a fault, since only the first one counts.
+//! since contracts would then speak of where they lie; reading characters without tokens, since a fault is
+//! told by its token; going on after a fault, since only the first one counts.
 #![tactic(auto)]
 
 mod clauses;

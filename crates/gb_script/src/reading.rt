@@ -5,7 +5,8 @@
 //! `specs/Readers.antt` gives.
 ghost use Rattle.std.specs.Prelude.{◌≡◌, ◌+◌, ◌<◌, ◌≤◌, length, IfOk, Ok, []};
 ghost use Rattle.gb_script.specs.Lexing.{begins};
-ghost use Rattle.gb_script.specs.Reading.{Gives, is_sign, is_word, skip_at, open_at, name_at, property_at, text_at, maybe_at, past_at, list_at, said_at};
+ghost use Rattle.gb_script.specs.Reading.{Gives, is_sign, is_word, skip_at, open_at, name_at, property_at};
+ghost use Rattle.gb_script.specs.Reading.{text_at, maybe_at, past_at, list_at, said_at};
 ghost use Rattle.gb_script.specs.Readers.{bracketed_text_at, bracketed_texts_at, function_at, patterns_at};
 
 use crate::function::Function;
@@ -175,7 +176,8 @@ pub fn bracketed_texts(
 /// Texts in brackets, or none where no bracket is.
 #[tactic(auto, unfolding(crate::specs::Reading::maybe_at))]
 pub fn arguments(alloc: Global, tokens: &[Token], room: u32) -> Result<(Texts, &[Token]), Stop>
-    ensures exact { Gives (λ x. (x.0, x.1.now)) result (maybe_at (is_sign Sign.OpenParen) (bracketed_texts_at room) [] tokens.now) }
+    ensures exact { Gives (λ x. (x.0, x.1.now))
+        result (maybe_at (is_sign Sign.OpenParen) (bracketed_texts_at room) [] tokens.now) }
     ensures shorter { IfOk result (λ x. length x.1.now ≤ length tokens.now) }
 {
     if begins(tokens, Sign::OpenParen) {

@@ -1,5 +1,6 @@
 //! Bytes to scripts and settings.
-ghost use Rattle.std.specs.Prelude.{◌≡◌, ℕ, ◌<◌, ◌≤◌, ◌↔◌, ◌⊎◌, List, length, Result, Err, IfOk, IfErr, IsErrOf, IsUtf8};
+ghost use Rattle.std.specs.Prelude.{◌≡◌, ℕ, ◌<◌, ◌≤◌, ◌↔◌, ◌⊎◌, List, length, Result, Err, IfOk};
+ghost use Rattle.std.specs.Prelude.{IfErr, IsErrOf, IsUtf8};
 ghost use Rattle.gb_script.specs.Grammar.{script_spelled, settings_spelled};
 ghost use Rattle.gb_script.specs.Fits.{IsScript, IsSettings};
 ghost use Rattle.gb_script.specs.Notation.{IsSyntaxFault, IsDepthFault};
@@ -56,9 +57,12 @@ pub fn read_script(alloc: Global, bytes: &[u8]) -> Result<Script, ScriptFault>
         → (result ≡ said) ⊎ (result ≡ Err ScriptFault.OutOfMemory) }
 
     ensures too_long { IsErrOf result ScriptFault.TooLong ↔ (1048576 < length bytes.now) }
-    ensures not_utf8 { IsErrOf result ScriptFault.NotUtf8 ↔ ((length bytes.now ≤ 1048576) × ¬ (IsUtf8 bytes.now)) }
-    ensures syntax { (line : ℕ) → result ≡ Err (ScriptFault.Syntax line) → IsSyntaxFault IsScript script_spelled bytes.now line }
-    ensures too_deep { (line : ℕ) → result ≡ Err (ScriptFault.TooDeep line) → IsDepthFault IsScript script_spelled bytes.now line }
+    ensures not_utf8 { IsErrOf result ScriptFault.NotUtf8
+        ↔ ((length bytes.now ≤ 1048576) × ¬ (IsUtf8 bytes.now)) }
+    ensures syntax { (line : ℕ) → result ≡ Err (ScriptFault.Syntax line)
+        → IsSyntaxFault IsScript script_spelled bytes.now line }
+    ensures too_deep { (line : ℕ) → result ≡ Err (ScriptFault.TooDeep line)
+        → IsDepthFault IsScript script_spelled bytes.now line }
 {
     let text = text_of(bytes)?;
     let lexed = lex(alloc, text)?;
@@ -77,9 +81,12 @@ pub fn read_settings(alloc: Global, bytes: &[u8]) -> Result<Settings, ScriptFaul
         → (result ≡ said) ⊎ (result ≡ Err ScriptFault.OutOfMemory) }
 
     ensures too_long { IsErrOf result ScriptFault.TooLong ↔ (1048576 < length bytes.now) }
-    ensures not_utf8 { IsErrOf result ScriptFault.NotUtf8 ↔ ((length bytes.now ≤ 1048576) × ¬ (IsUtf8 bytes.now)) }
-    ensures syntax { (line : ℕ) → result ≡ Err (ScriptFault.Syntax line) → IsSyntaxFault IsSettings settings_spelled bytes.now line }
-    ensures too_deep { (line : ℕ) → result ≡ Err (ScriptFault.TooDeep line) → IsDepthFault IsSettings settings_spelled bytes.now line }
+    ensures not_utf8 { IsErrOf result ScriptFault.NotUtf8
+        ↔ ((length bytes.now ≤ 1048576) × ¬ (IsUtf8 bytes.now)) }
+    ensures syntax { (line : ℕ) → result ≡ Err (ScriptFault.Syntax line)
+        → IsSyntaxFault IsSettings settings_spelled bytes.now line }
+    ensures too_deep { (line : ℕ) → result ≡ Err (ScriptFault.TooDeep line)
+        → IsDepthFault IsSettings settings_spelled bytes.now line }
 {
     let text = text_of(bytes)?;
     let lexed = lex(alloc, text)?;

@@ -3,7 +3,8 @@ ghost use Rattle.std.specs.Prelude.{◌≡◌, ◌<◌, ◌≤◌, length, IfOk,
 ghost use Rattle.gb_script.specs.Lexing.{begins};
 ghost use Rattle.gb_script.specs.Words.{statement_words};
 ghost use Rattle.gb_script.specs.Reading.{Gives, is_any, meaning_at, all_at};
-ghost use Rattle.gb_script.specs.Readers.{action_at, registration_at, configuration_at, property_of_at, statement_of_at, statement_at, script_at, include_at, settings_at};
+ghost use Rattle.gb_script.specs.Readers.{action_at, registration_at, configuration_at, property_of_at};
+ghost use Rattle.gb_script.specs.Readers.{statement_of_at, statement_at, script_at, include_at, settings_at};
 
 use crate::clauses::{block, call, property_assignment};
 use crate::reading::{begins, name, property, skip, skip_word, stray, texts};

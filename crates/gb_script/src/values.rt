@@ -3,8 +3,10 @@ ghost use Rattle.std.specs.Prelude.{◌≡◌, ◌<◌, ◌≤◌, length, map, 
 ghost use Rattle.gb_script.specs.Lexing.{begins};
 ghost use Rattle.gb_script.specs.View.{root_of, link_of};
 ghost use Rattle.gb_script.specs.Words.{step_words};
-ghost use Rattle.gb_script.specs.Reading.{Gives, is_sign, no_matter, meaning_at, maybe_at, many_at, past_at, list_at, closed_at, opened_at};
-ghost use Rattle.gb_script.specs.Readers.{function_at, in_list, root_of_at, list_root_at, root_at, link_of_at, link_at, inside_at, tree_at};
+ghost use Rattle.gb_script.specs.Reading.{Gives, is_sign, no_matter, meaning_at, maybe_at, many_at, past_at};
+ghost use Rattle.gb_script.specs.Reading.{list_at, closed_at, opened_at};
+ghost use Rattle.gb_script.specs.Readers.{function_at, in_list, root_of_at, list_root_at, root_at};
+ghost use Rattle.gb_script.specs.Readers.{link_of_at, link_at, inside_at, tree_at};
 
 use crate::expression::{Expression, Source, Step};
 use crate::function::Function;
@@ -66,7 +68,9 @@ fn bracketed_function(
     tokens: &[Token],
     room: u32,
 ) -> Result<(Function, &[Token]), Stop>
-    ensures exact { Gives (λ x. (x.0, x.1.now)) result (opened_at Sign.OpenParen room (λ inner. closed_at (is_sign Sign.CloseParen) (function_at inner)) tokens.now) }
+    ensures exact { Gives (λ x. (x.0, x.1.now))
+        result (opened_at Sign.OpenParen room
+        (λ inner. closed_at (is_sign Sign.CloseParen) (function_at inner)) tokens.now) }
     ensures shorter { IfOk result (λ x. length x.1.now < length tokens.now) }
 {
     let (inner, rest) = open(tokens, Sign::OpenParen, room)?;
@@ -120,7 +124,8 @@ fn source(alloc: Global, tokens: &[Token], room: u32) -> Result<(Source, &[Token
 #[cycle(reader)]
 #[tactic(auto, unfolding(crate::specs::Readers::list_root_at))]
 fn list(alloc: Global, tokens: &[Token], room: u32) -> Result<(Source, &[Token]), Stop>
-    ensures exact { Gives (λ x. (root_of x.0, x.1.now)) result (list_root_at room (inside_at room) tokens.now) }
+    ensures exact { Gives (λ x. (root_of x.0, x.1.now))
+        result (list_root_at room (inside_at room) tokens.now) }
     ensures shorter { IfOk result (λ x. length x.1.now < length tokens.now) }
 {
     let (inner, rest) = open(tokens, Sign::OpenBracket, room)?;
@@ -133,7 +138,8 @@ fn list(alloc: Global, tokens: &[Token], room: u32) -> Result<(Source, &[Token])
 #[cycle(reader)]
 #[tactic(auto, unfolding(crate::specs::Reading::maybe_at))]
 fn elements(alloc: Global, tokens: &[Token], room: u32) -> Result<(Vec<Expression>, &[Token]), Stop>
-    ensures exact { Gives (λ x. (x.0.items, x.1.now)) result (maybe_at in_list (list_at (tree_at room)) [] tokens.now) }
+    ensures exact { Gives (λ x. (x.0.items, x.1.now))
+        result (maybe_at in_list (list_at (tree_at room)) [] tokens.now) }
     ensures shorter { IfOk result (λ x. length x.1.now ≤ length tokens.now) }
 {
     if is_in_list(tokens) {
@@ -151,7 +157,8 @@ fn further_expression(
     tokens: &[Token],
     room: u32,
 ) -> Result<(Expression, &[Token]), Stop>
-    ensures exact { Gives (λ x. (x.0, x.1.now)) result (past_at (is_sign Sign.Comma) (tree_at room) tokens.now) }
+    ensures exact { Gives (λ x. (x.0, x.1.now))
+        result (past_at (is_sign Sign.Comma) (tree_at room) tokens.now) }
     ensures shorter { IfOk result (λ x. length x.1.now < length tokens.now) }
 {
     expression(alloc, skip(tokens, Sign::Comma)?, room)
@@ -181,7 +188,8 @@ pub fn expressions(
 /// The steps behind a source.
 #[cycle(reader)]
 fn steps(alloc: Global, tokens: &[Token], room: u32) -> Result<(Vec<Step>, &[Token]), Stop>
-    ensures exact { Gives (λ x. (map link_of x.0.items, x.1.now)) result (many_at (is_sign Sign.Dot) no_matter (λ s. link_at room (inside_at room)) 64 tt tokens.now) }
+    ensures exact { Gives (λ x. (map link_of x.0.items, x.1.now))
+        result (many_at (is_sign Sign.Dot) no_matter (λ s. link_at room (inside_at room)) 64 tt tokens.now) }
     ensures shorter { IfOk result (λ x. length x.1.now ≤ length tokens.now) }
 {
     let mut steps = Vec::new(alloc);
@@ -218,7 +226,8 @@ fn step_of(
     tokens: &[Token],
     room: u32,
 ) -> Result<(Step, &[Token]), Stop>
-    ensures exact { Gives (λ x. (link_of x.0, x.1.now)) result (link_of_at room (inside_at room) word tokens.now) }
+    ensures exact { Gives (λ x. (link_of x.0, x.1.now))
+        result (link_of_at room (inside_at room) word tokens.now) }
     ensures shorter { IfOk result (λ x. length x.1.now < length tokens.now) }
 {
     match word {
@@ -251,7 +260,8 @@ fn last_function(alloc: Global, tokens: &[Token], room: u32) -> Result<(Function
 #[cycle(reader)]
 #[tactic(auto, unfolding(crate::specs::Readers::link_of_at))]
 fn zip(alloc: Global, tokens: &[Token], room: u32) -> Result<(Step, &[Token]), Stop>
-    ensures exact { Gives (λ x. (link_of x.0, x.1.now)) result (link_of_at room (inside_at room) StepWord.Zip tokens.now) }
+    ensures exact { Gives (λ x. (link_of x.0, x.1.now))
+        result (link_of_at room (inside_at room) StepWord.Zip tokens.now) }
     ensures shorter { IfOk result (λ x. length x.1.now < length tokens.now) }
 {
     let (inner, rest) = open(tokens, Sign::OpenParen, room)?;
@@ -263,7 +273,8 @@ fn zip(alloc: Global, tokens: &[Token], room: u32) -> Result<(Step, &[Token]), S
 #[cycle(reader)]
 #[tactic(auto, unfolding(crate::specs::Readers::link_of_at))]
 fn or_else(alloc: Global, tokens: &[Token], room: u32) -> Result<(Step, &[Token]), Stop>
-    ensures exact { Gives (λ x. (link_of x.0, x.1.now)) result (link_of_at room (inside_at room) StepWord.OrElse tokens.now) }
+    ensures exact { Gives (λ x. (link_of x.0, x.1.now))
+        result (link_of_at room (inside_at room) StepWord.OrElse tokens.now) }
     ensures shorter { IfOk result (λ x. length x.1.now < length tokens.now) }
 {
     let (inner, rest) = open(tokens, Sign::OpenParen, room)?;

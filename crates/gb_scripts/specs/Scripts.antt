@@ -1,5 +1,6 @@
 -- What the scripts of a folder say.
-use Rattle.std.specs.Prelude.{ℕ, ◌≡◌, Bool, ◌==◌, ◌||◌, List, ◌∷◌, ◌++◌, map, Option, Result, Ok, Err, bytes_eq, codes}
+use Rattle.std.specs.Prelude.{ℕ, ◌≡◌, Bool, ◌==◌, ◌||◌, List, ◌∷◌, ◌++◌, map, Option, Result, Ok}
+use Rattle.std.specs.Prelude.{Err, bytes_eq, codes}
 use Rattle.std.specs.List.{AllZip, after_last}
 use Rattle.gb_core.specs.Place.{joined}
 use Rattle.gb_folder.specs.Files.{Place, Files}

@@ -1,5 +1,6 @@
 -- What the text of a file says in a notation, as that of scripts or that of settings.
-use Rattle.std.specs.Prelude.{ℕ, ◌≡◌, ◌⊎◌, true, false, List, [], Option, None, Some, Result, Ok, Err, MatchResult}
+use Rattle.std.specs.Prelude.{ℕ, ◌≡◌, ◌⊎◌, true, false, List, [], Option, None, Some, Result}
+use Rattle.std.specs.Prelude.{Ok, Err, MatchResult}
 use Rattle.gb_folder.specs.Files.{Place, Bytes, Files, file_at, is_blocked}
 use Rattle.gb_folder.specs.declared.folder.FolderFault.{FolderFault}
 use Rattle.gb_folder.specs.declared.folder.FolderFault.TheVariants as folders

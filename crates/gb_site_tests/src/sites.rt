@@ -25,7 +25,8 @@ register all : index(\"All\") {
     outputDir out = dir(\"build/all\")
 }
 register site : copyFiles {
-    inputFiles src incremental from task(\"laidOut\").flatMap(output(\"out\")), task(\"all\").flatMap(output(\"out\"))
+    inputFiles src incremental from task(\"laidOut\").flatMap(output(\"out\")), \
+    task(\"all\").flatMap(output(\"out\"))
     outputDir out = dir(\"build/site\")
 }
 ";

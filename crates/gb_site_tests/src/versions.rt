@@ -29,7 +29,8 @@ fn offered(alloc: Global, version: u32) -> Result<Handed<Kind, Builtin>, Fail>
 const SITE: [Step<'static>; 2] = [
     Step::Put(
         "build.gb",
-        b"register html : markdown { inputFiles src incremental from dir(\"pages\") outputDir out = dir(\"build/o\") }",
+        b"register html : markdown { inputFiles src incremental from dir(\"pages\") \
+            outputDir out = dir(\"build/o\") }",
     ),
     Step::Put("pages/a.md", b"# A\n"),
 ];

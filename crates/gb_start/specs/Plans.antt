@@ -1,5 +1,6 @@
 -- The tasks of a plan by number, and that they start by number as they start by path.
-use Rattle.std.specs.Prelude.{ℕ, ◌≡◌, ◌<◌, ◌≤◌, ◌↔◌, ◌⊎◌, true, List, [], length, Contains, IsTrue, Some, slice_get, slice_index_or}
+use Rattle.std.specs.Prelude.{ℕ, ◌≡◌, ◌<◌, ◌≤◌, ◌↔◌, ◌⊎◌, true, List, [], length, Contains, IsTrue}
+use Rattle.std.specs.Prelude.{Some, slice_get, slice_index_or}
 use Rattle.gb_report.specs.Outcome.{is_executed}
 use Rattle.gb_report.specs.declared.report.Outcome.{Outcome}
 use Rattle.gb_report.specs.declared.report.Options.{Options}

@@ -1,5 +1,6 @@
 -- Which tasks start. They are numbered 0, 1, .. in the order of their turns.
-use Rattle.std.specs.Prelude.{ℕ, ◌≡◌, ◌<◌, [], Bool, true, false, not, ◌&&◌, ◌⊎◌, ◌↔◌, List, map, length, Contains, IsTrue, Vec, slice_index_or}
+use Rattle.std.specs.Prelude.{ℕ, ◌≡◌, ◌<◌, [], Bool, true, false, not, ◌&&◌, ◌⊎◌, ◌↔◌, List, map, length}
+use Rattle.std.specs.Prelude.{Contains, IsTrue, Vec, slice_index_or}
 use Rattle.std.specs.List.{list_any}
 use Rattle.std.specs.Global.{Global}
 use Rattle.gb_report.specs.declared.report.Outcome.{Outcome}

@@ -1,5 +1,6 @@
 //! The tasks of a plan, numbered as they stand in it.
-ghost use Rattle.std.specs.Prelude.{◌≡◌, ◌<◌, ◌⊎◌, ◌↔◌, [], ℕ, true, map, length, replicate, Contains, IfOk, vec_len};
+ghost use Rattle.std.specs.Prelude.{◌≡◌, ◌<◌, ◌⊎◌, ◌↔◌, [], ℕ, true, map, length, replicate};
+ghost use Rattle.std.specs.Prelude.{Contains, IfOk, vec_len};
 ghost use Rattle.gb_plan.specs.Graph.{no_repeats, order, stuck};
 ghost use Rattle.gb_order.specs.Ranked.{numbers_in};
 ghost use Rattle.gb_start.specs.Plans.{AreOfPlan};

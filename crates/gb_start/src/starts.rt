@@ -1,8 +1,10 @@
 //! Which task starts when its turn comes.
-ghost use Rattle.std.specs.Prelude.{◌≡◌, ◌<◌, ◌⊎◌, ◌↔◌, ℕ, true, false, length, Contains, IsTrue, IfOk, map, slice_set, vec_len};
+ghost use Rattle.std.specs.Prelude.{◌≡◌, ◌<◌, ◌⊎◌, ◌↔◌, ℕ, true, false, length, Contains, IsTrue, IfOk};
+ghost use Rattle.std.specs.Prelude.{map, slice_set, vec_len};
 ghost use Rattle.std.specs.List.{list_any};
 ghost use Rattle.gb_report.specs.Outcome.{is_failed, is_started};
-ghost use Rattle.gb_start.specs.Starts.{DoesStart, IsWired, Spreads, ended_badly, ending_in, has_executed, mark_at, row, rows};
+ghost use Rattle.gb_start.specs.Starts.{DoesStart, IsWired, Spreads, ended_badly, ending_in, has_executed};
+ghost use Rattle.gb_start.specs.Starts.{mark_at, row, rows};
 
 use gb_report::report::Outcome;
 use std::alloc::{AllocError, Global};
@@ -158,7 +160,8 @@ impl Model for Starts {
 
 impl Starts {
     ghost use Rattle.std.specs.Prelude.{replicate};
-    ghost use Rattle.gb_start.specs.Starts.{IsCalled, Serves, ending_in, ending_of, has_executed_need, is_stopping, lacks_need};
+    ghost use Rattle.gb_start.specs.Starts.{IsCalled, Serves, ending_in, ending_of};
+    ghost use Rattle.gb_start.specs.Starts.{has_executed_need, is_stopping, lacks_need};
     ghost use Rattle.gb_start.specs.declared.starts.Ending.TheVariants.{ToCome};
 
     /// Before the first turn. Of each task the numbers of those that it needs, all less than its own, and of

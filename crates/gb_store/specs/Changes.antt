@@ -2,7 +2,8 @@
 use Rattle.std.specs.Prelude.{◌≡◌, ◌⊎◌, ◌++◌, Bool, List, ◌∷◌, map, Option, None, bytes_eq, fold}
 use Rattle.std.specs.Borrow.{Bor}
 use Rattle.std.specs.List.{list_any}
-use Rattle.gb_folder.specs.Files.{Place, Bytes, Files, Contents, DiffersOnlyAt, Tearing, file_at, with_left, without}
+use Rattle.gb_folder.specs.Files.{Place, Bytes, Files, Contents, DiffersOnlyAt, Tearing}
+use Rattle.gb_folder.specs.Files.{file_at, with_left, without}
 use Rattle.gb_report.specs.declared.fault.Fault.{Fault}
 use Rattle.gb_report.specs.declared.fault.Fault.TheVariants as faults
 
@@ -26,15 +27,20 @@ without_all folder places = record folder { files = fold without folder.files pl
 -- A write or a removal was stopped at a place: there stands what the device may leave.
 abbrev pub IsTorn : Tearing → Place → Option Bytes → Contents → Contents → Type 0
 IsTorn may_leave place next old new =
-    (left : Option Bytes) × may_leave place (file_at old.files place) next left × (new ≡ record old { files = with_left old.files place left })
+    (left : Option Bytes) × may_leave place (file_at old.files place) next left
+    × (new ≡ record old { files = with_left old.files place left })
 
--- A write or a removal at a place came to nothing: memory ran out and nothing changed, or the device stopped it.
+-- A write or a removal at a place came to nothing: memory ran out and nothing changed,
+-- or the device stopped it.
 abbrev pub IsHindered : Tearing → Place → Option Bytes → Contents → Fault → Contents → Type 0
 IsHindered may_leave place next old fault new =
-    ((fault ≡ faults.OutOfMemory) × (new ≡ old)) ⊎ ((fault ≡ faults.Device place) × IsTorn may_leave place next old new)
+    ((fault ≡ faults.OutOfMemory) × (new ≡ old))
+    ⊎ ((fault ≡ faults.Device place) × IsTorn may_leave place next old new)
 
--- The removal of these places was cut short: the files at some first ones are gone, and it was hindered at the next.
-pub record IsCutShort (may_leave : Tearing) (places : List Place) (old : Contents) (fault : Fault) (new : Contents) : Type 0 where
+-- The removal of these places was cut short: the files at some first ones are gone, and it
+-- was hindered at the next.
+pub record IsCutShort (may_leave : Tearing) (places : List Place) (old : Contents) (fault : Fault)
+    (new : Contents) : Type 0 where
   pub gone : List Place
   pub place : Place
   pub left : List Place

@@ -17,7 +17,8 @@ told_at place folders.BadFileName = faults.BadFileName place
 
 -- memory ran out, or the device failed between these counts
 abbrev pub IsOfMachine : ℕ → ℕ → Fault → Type 0
-IsOfMachine before after fault = (fault ≡ faults.OutOfMemory) ⊎ ((place : Place) × (fault ≡ faults.Device place) × HasRisen before after)
+IsOfMachine before after fault =
+    (fault ≡ faults.OutOfMemory) ⊎ ((place : Place) × (fault ≡ faults.Device place) × HasRisen before after)
 
 -- the device is blamed only where it failed between these counts
 abbrev pub Blames : {T : Type 0} → Result T Fault → ℕ → ℕ → Type 0

@@ -16,11 +16,15 @@ pub fn remove_all<F: Folder>(folder: &mut F, places: &[Place]) -> Result<(), Fau
         folder.new }
     ensures blame { Blames result (F.failures folder.old) (F.failures folder.new) }
     ensures blamed { BlamesOnly (is_among places.now) result }
-    ensures ok { IsTrue F.tells → OnOk result (F.contents folder.new ≡ without_all (F.contents folder.old) places.now) }
-    ensures err { IsTrue F.tells → IfErr result (IsOfMachine (F.failures folder.old) (F.failures folder.new)) }
+    ensures ok { IsTrue F.tells
+        → OnOk result (F.contents folder.new ≡ without_all (F.contents folder.old) places.now) }
+    ensures err { IsTrue F.tells
+        → IfErr result (IsOfMachine (F.failures folder.old) (F.failures folder.new)) }
     ensures cut { IsTrue F.tells → IfErr result
-        (λ fault. IsCutShort (F.may_leave folder.old) places.now (F.contents folder.old) fault (F.contents folder.new)) }
-    ensures changes { IsTrue F.tells → (test : List ℕ → Bool) → AllByRecursion (λ place. test place ≡ true) places.now
+        (λ fault. IsCutShort (F.may_leave folder.old) places.now (F.contents folder.old)
+        fault (F.contents folder.new)) }
+    ensures changes { IsTrue F.tells → (test : List ℕ → Bool)
+        → AllByRecursion (λ place. test place ≡ true) places.now
         → ChangesOnly test (F.contents folder.old) (F.contents folder.new) }
 {
     for place in places.iter() {
@@ -29,16 +33,19 @@ pub fn remove_all<F: Folder>(folder: &mut F, places: &[Place]) -> Result<(), Fau
     Ok(())
 }
 
-/// Takes the file at a place away, if one stands there. The place is copied first, so that a failure of the device
-/// is told at it whatever memory is left.
+/// Takes the file at a place away, if one stands there. The place is copied first, so that a failure of the
+/// device is told at it whatever memory is left.
 fn remove_at<F: Folder>(folder: &mut F, place: &Place) -> Result<(), Fault>
     ensures asks { Asks F.failures F.may_leave F.asked (taken_at place.now) folder.old folder.new }
     ensures blame { Blames result (F.failures folder.old) (F.failures folder.new) }
     ensures blamed { BlamesOnly (is_at place.now) result }
-    ensures ok { IsTrue F.tells → OnOk result (F.contents folder.new ≡ without_all (F.contents folder.old) (place.now ∷ [])) }
-    ensures err { IsTrue F.tells → IfErr result (IsOfMachine (F.failures folder.old) (F.failures folder.new)) }
+    ensures ok { IsTrue F.tells
+        → OnOk result (F.contents folder.new ≡ without_all (F.contents folder.old) (place.now ∷ [])) }
+    ensures err { IsTrue F.tells
+        → IfErr result (IsOfMachine (F.failures folder.old) (F.failures folder.new)) }
     ensures hindered { IsTrue F.tells → IfErr result
-        (λ fault. IsHindered (F.may_leave folder.old) place.now None (F.contents folder.old) fault (F.contents folder.new)) }
+        (λ fault. IsHindered (F.may_leave folder.old) place.now None (F.contents folder.old)
+        fault (F.contents folder.new)) }
     ensures changes { IsTrue F.tells → (test : List ℕ → Bool) → test place.now ≡ true
         → ChangesOnly test (F.contents folder.old) (F.contents folder.new) }
 {
@@ -52,7 +59,8 @@ fn remove_at<F: Folder>(folder: &mut F, place: &Place) -> Result<(), Fault>
 /// A fault in a removal, unless it says that there is no file to remove.
 fn unless_absent(fault: FolderFault, place: Place) -> Result<(), Fault>
     ensures ok { OnOk result ((fault ≡ FolderFault.Missing) ⊎ (fault ≡ FolderFault.Blocked)) }
-    ensures err { IfErr result (λ told. (fault ≢ FolderFault.Missing) × (fault ≢ FolderFault.Blocked) × (told ≡ told_at place fault)) }
+    ensures err { IfErr result (λ told. (fault ≢ FolderFault.Missing) × (fault ≢ FolderFault.Blocked)
+        × (told ≡ told_at place fault)) }
 {
     match fault {
         FolderFault::Missing | FolderFault::Blocked => Ok(()),

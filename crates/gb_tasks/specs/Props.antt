@@ -26,7 +26,8 @@ module _ (registry : Registry) where
   abbrev IsEntry : Path × Result TaskDeclaration Fault → Type 0
   IsEntry entry = IfOk entry.1 (IsDeclared registry entry.0)
 
-  if_declared-prop : (path : Path) (declared : Result TaskDeclaration Fault) → IsProp (IsEntry (path, declared))
+  if_declared-prop : (path : Path) (declared : Result TaskDeclaration Fault)
+      → IsProp (IsEntry (path, declared))
   if_declared-prop path (Ok task) = declared-prop path task
   if_declared-prop path (Err fault) = Unit-prop
 

@@ -24,7 +24,8 @@ module _ {A B : Type 0} (first : Meanings A) (second : Meanings B)
     (second_own : (kind : ℕ) → WritesItsOutput second kind) where
   own_by : (w : Whose) (arguments : List Value) (values : Values) (trees : Trees) (written : List Written)
       → both_makes first second w arguments values trees ≡ Ok written
-      → list_all (λ (file : Written). bytes_eq file.output target && is_some (both_shape first second w).out) written
+      → list_all (λ (file : Written). bytes_eq file.output target && is_some (both_shape first second w).out)
+      written
       ≡ true
   own_by (OfFirst n) = first_own n
   own_by (OfSecond n) = second_own n

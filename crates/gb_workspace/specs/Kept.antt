@@ -18,8 +18,8 @@ use Rattle.gb_workspace.specs.Stage.{AreAllGood, Entry, Stage, begun, with_scrip
 
 module _ {M F Z S A : Type 0} (tables : Tables M F Z S A) (source : Source) where
   module _ (number : ℕ → ℕ) (nodes : List (Expression M F Z)) where
-    -- What is kept of a task is what it declares: the folder of what its project builds, and its expressions in
-    -- a row, each by its number in the whole table; and its patterns are some.
+    -- What is kept of a task is what it declares: the folder of what its project builds, and its expressions
+    -- in a row, each by its number in the whole table; and its patterns are some.
     pub record IsKept (at : Registered) (entry : Entry) : Type 0 where
       pub is_declared : declared tables source.names source.said at ≡ Ok entry.task
       pub build : entry.build ≡ build_folder at.project

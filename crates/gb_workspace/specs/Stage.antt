@@ -1,5 +1,6 @@
 -- Tasks declared one after another, with the nodes of their expressions.
-use Rattle.std.specs.Prelude.{◌≡◌, ℕ, List, [], ◌∷◌, ◌++◌, ◌+◌, drop, take, filter_map, fold, length, Option, Some, None, Result, Ok, Err, slice_set}
+use Rattle.std.specs.Prelude.{◌≡◌, ℕ, List, [], ◌∷◌, ◌++◌, ◌+◌, drop, take, filter_map, fold, length, Option}
+use Rattle.std.specs.Prelude.{Some, None, Result, Ok, Err, slice_set}
 use Rattle.std.specs.List.{AllByRecursion, flat_map}
 use Rattle.std.specs.Option.{option_to_list}
 use Rattle.gb_provider.specs.Rules.{output_place}
@@ -84,7 +85,10 @@ module _ {M F Z S : Type 0} (functions : Table M F Z S) (site : Site) where
   abbrev pub task_made : Path → List (Expression M F Z) → Joined → These M F Z (List ℕ)
   task_made path nodes task =
       let made = row_made nodes task in
-      record { nodes = with_outputs path made.nodes task.outputs (output_row task made.place); place = made.place }
+      record {
+        nodes = with_outputs path made.nodes task.outputs (output_row task made.place);
+        place = made.place;
+      }
 
   -- one task more, which is declared or at fault
   abbrev pub with_declared : Path → Stage M F Z → Result Joined Fault → Stage M F Z

@@ -6,8 +6,8 @@ ghost use Rattle.gb_registry.specs.Tables.{Tables};
 use gb_action::actions::Actions;
 use gb_provider::transforms::Transforms;
 
-/// Where no statement is at fault, the tasks that are declared one after another are all tasks of the scripts,
-/// and all that they declare stands in the whole table.
+/// Where no statement is at fault, the tasks that are declared one after another are all tasks of the
+/// scripts, and all that they declare stands in the whole table.
 pub fn tasks_stand<A: Actions, T: Transforms>()
     ensures { (tables : Tables T.Map T.FlatMap T.Zip T.Test A.Stored) (source : Source)
         → TasksStand tables source }

@@ -11,7 +11,8 @@ ghost use Rattle.gb_nodes.specs.Standing.{scripts_faults, scripts_made, sites_ma
 ghost use Rattle.gb_nodes.specs.Statements.{IsRun};
 ghost use Rattle.gb_workspace.specs.Indexed.{IsIndexed};
 ghost use Rattle.gb_workspace.specs.Stage.{AreAllGood, AreGood, begun, with_script, with_scripts};
-ghost use Rattle.gb_workspace.specs.Steps.{Begins, IsAnyGood, IsNext, IsStaged, laid_sites, task_paths, with_any};
+ghost use Rattle.gb_workspace.specs.Steps.{Begins, IsAnyGood, IsNext, IsStaged};
+ghost use Rattle.gb_workspace.specs.Steps.{laid_sites, task_paths, with_any};
 ghost use Rattle.gb_workspace.specs.Tasks.{registered_in, script_tasks};
 ghost use Rattle.gb_workspace.specs.Views.{stage_of};
 
@@ -163,7 +164,8 @@ fn declare_each<'a, A: Actions, T: Transforms>(
     requires table { providers.old.table ≡ tables.now.transforms }
     requires project { site.now.project.now ≡ script.now.scripted.now.project }
     requires indexed { IsIndexed script.now }
-    requires next { Begins (task_paths (script_tasks (script.now.scripted.now.project, script.now.scripted.now.script)))
+    requires next { Begins
+        (task_paths (script_tasks (script.now.scripted.now.project, script.now.scripted.now.script)))
         (drop (length declared.old.faults.items) script.now.paths.now) }
     requires good { AreGood (tables_of T.meanings A.meanings tables.now) names.now (site_of site.now)
         (script.now.scripted.now.project, script.now.scripted.now.script) }
@@ -181,7 +183,7 @@ fn declare_each<'a, A: Actions, T: Transforms>(
 }
 
 /// Declares all tasks of a script, whose paths are the next ones.
-pub fn declare_script<'a, A: Actions, T: Transforms>(
+pub(crate) fn declare_script<'a, A: Actions, T: Transforms>(
     alloc: Global,
     tables: &Handed<A, T>,
     names: &Names<'_>,
@@ -207,7 +209,7 @@ pub fn declare_script<'a, A: Actions, T: Transforms>(
 }
 
 /// Declares all tasks of scripts that are laid, one script after another.
-pub fn declare_scripts<'a, A: Actions, T: Transforms>(
+pub(crate) fn declare_scripts<'a, A: Actions, T: Transforms>(
     alloc: Global,
     tables: &Handed<A, T>,
     names: &Names<'_>,
@@ -259,7 +261,7 @@ pub fn declare_scripts<'a, A: Actions, T: Transforms>(
 }
 
 /// Adds the nodes of scripts, one script after another. Refused as in `add_script`.
-pub fn lay_scripts<T: Transforms>(
+pub(crate) fn lay_scripts<T: Transforms>(
     alloc: Global,
     providers: &mut Providers<'_, T>,
     scripts: &[Scripted],

@@ -128,7 +128,7 @@ fn add_fault(declared: &mut Declared<'_>, fault: Fault) -> Result<(), AllocError
 }
 
 /// Declares a task, or keeps its first fault.
-pub fn declare_task<'a, A: Actions, T: Transforms>(
+pub(crate) fn declare_task<'a, A: Actions, T: Transforms>(
     alloc: Global,
     tables: &Handed<A, T>,
     names: &Names<'_>,

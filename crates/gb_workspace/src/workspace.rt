@@ -43,7 +43,8 @@ use std::alloc::{AllocError, Global};
 use std::collections::BTreeMap;
 use std::marker::Model;
 
-/// What scripts register, and what their tasks declare. Contracts see what is handed in with what scripts say.
+/// What scripts register, and what their tasks declare. Contracts see what is handed
+/// in with what scripts say.
 #[derive(Drop)]
 pub struct Workspace<'a, A: Actions, T: Transforms> {
     tables: &'a Tables<A::Stored, T::Map, T::FlatMap, T::Zip, T::Test>,
@@ -244,8 +245,8 @@ impl<'a, A: Actions, T: Transforms> Workspace<'a, A, T> {
     }
 
     /// What the task at a path declares, its expressions evaluated; or its first fault: of what stands in the
-    /// script first, then of its values. A path under which no task is registered is 50 or 52. What was read of
-    /// values is remembered, and the workspace stays as it is seen.
+    /// script first, then of its values. A path under which no task is registered is 50 or 52. What was read
+    /// of values is remembered, and the workspace stays as it is seen.
     pub fn realise(&mut self, alloc: Global, path: &TaskPath) -> Result<TaskDeclaration, Fault>
         ensures told { let tables = tables_of T.meanings A.meanings self.old.tables in
             Tells tables self.old.source (realised tables self.old.source path.now) result }
