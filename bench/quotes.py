@@ -7,7 +7,9 @@
 - A block ```quote FILE stands in FILE, line by line and in one piece.
 - A link to a file of the repository leads to one, and one with `#` to a heading of it.
 - The block ```theorem of docs/PROOF.md has the files that the theorem's clause reaches, import by import.
-- docs/CRATES.md has a section for each crate, in the order of crates.txt, and README.md a line for each.
+- docs/CRATES.md has a section for each crate, in the order of crates.txt.
+- That page has a table for each group of crates.txt with its crates, and the table of README.md a row for
+  each group, in the order of crates.txt.
 - A file of a crate's src/ that is named in the tables of docs/CRATES.md is there, and each one is named.
 - Files and definitions in that page's table of rules are there.
 - No line of a document is longer than 110 columns.
@@ -16,6 +18,8 @@ import os
 import re
 import sys
 import textwrap
+
+from pictures import groups
 
 ROOT = os.path.dirname(os.path.dirname(os.path.abspath(__file__)))
 DOCS = ["README.md"] + [f"docs/{name}" for name in sorted(os.listdir(f"{ROOT}/docs")) if name.endswith(".md")]
@@ -133,12 +137,25 @@ def check_crates():
         first = next((pair for pair in zip(sections, listed) if pair[0] != pair[1]), (sections, listed))
         faults.append(f"docs/CRATES.md: its sections are not those of crates.txt in their order: {first}")
         return
-    readme = "\n".join(lines_of("README.md"))
-    for name in crates():
-        if not re.search(rf"\b{name}\b", readme):
-            faults.append(f"README.md: no line has {name}")
+    check_groups(page)
     for name, text in zip(sections, re.split(r"(?m)^## .*$", page[page.find(f"\n## {sections[0]}\n") :])[1:]):
         check_files(name, text)
+
+
+def check_groups(page):
+    """The groups, each under a heading that begins as its title does, up to a colon."""
+    glance = page.partition("## At a glance\n")[2].partition("\n## ")[0]
+    tables = [
+        (title, re.findall(r"(?m)^\| \[?`?(gb\w*)\b", text))
+        for title, text in re.findall(r"(?ms)^### ([^\n]*)\n(.*?)(?=^### |\Z)", glance)
+    ]
+    wanted = [(title[0].upper() + title.partition(":")[0][1:], names) for title, names in groups()]
+    if tables != wanted:
+        faults.append("docs/CRATES.md: the tables at a glance are not the groups of crates.txt")
+    row = r"(?m)^\| \[([^\]]*)\]\(docs/CRATES.md#([\w-]*)\) \|"
+    linked = re.findall(row, "\n".join(lines_of("README.md")))
+    if linked != [(title, anchor(title)) for title, _ in wanted]:
+        faults.append("README.md: the rows of crates are not the groups of crates.txt")
 
 
 def check_files(name, text):
