@@ -1,0 +1,129 @@
+-- What is told before a task, pair by pair.
+use Rattle.std.specs.Prelude.{ℕ, zero, suc, ◌≡◌, ◌<◌, ◌≤◌, ◌+◌, ◌-◌, ◌||◌, Bool, true, false, List, [], ◌∷◌, ◌++◌, map, length, take, get_or, Option, None, Some, find}
+use Rattle.std.specs.List.{AllByRecursion, AllZip, flat_map, list_any, zip}
+use Rattle.std.proofs.Common.{refl, sym, ap, subst, ◌∙◌, arith, cond, append_assoc}
+use Rattle.std.proofs.lemmas.List.{map-append, take_all, take_more}
+use Rattle.std.proofs.lemmas.List.Folds.{list_any-append}
+use Rattle.gb_meaning.proofs.Common.{none_some}
+use Rattle.gb_plan.specs.declared.plan.Planned.{Planned}
+use Rattle.gb_foretell.specs.Marks.{AreMarkedAfter, mark}
+use Rattle.gb_foretell.specs.declared.coming.Foretold.{Foretold}
+
+-- a test of what elements give, given in a row
+pub any_flat : {X Y : Type 0} (t : Y → Bool) (f : X → List Y) (xs : List X)
+    → list_any (λ x. list_any t (f x)) xs ≡ list_any t (flat_map f xs)
+any_flat t f [] = refl
+any_flat t f (x ∷ xs) = ap (λ b. list_any t (f x) || b) (any_flat t f xs) ∙ sym (list_any-append t (f x) (flat_map f xs))
+
+-- tests that agree on each element
+pub any_alike : {X : Type 0} (t s : X → Bool) → ((x : X) → t x ≡ s x) → (xs : List X) → list_any t xs ≡ list_any s xs
+any_alike t s same [] = refl
+any_alike t s same (x ∷ xs) = ap (λ b. b || list_any t xs) (same x) ∙ ap (λ b. s x || b) (any_alike t s same xs)
+
+one_later : (n : ℕ) → suc n + 1 ≡ suc (n + 1)
+one_later n = omega arith
+
+behind : {X : Type 0} (t : X → Bool) (x : X) (xs : List X) → find t (x ∷ xs) ≡ None → (t x ≡ false) × (find t xs ≡ None)
+behind t x xs none = by (t x) none
+  where
+    by : (b : Bool) → cond b (Some x) (find t xs) ≡ None → (b ≡ false) × (find t xs ≡ None)
+    by true e = none_some (sym e)
+    by false e = (refl, e)
+
+-- no pair before is the one, nor is this
+pub none_more : {X Y : Type 0} (t : X × Y → Bool) (xs : List X) (ys : List Y) (i : ℕ) (x : X) (y : Y) → i < length xs → i < length ys
+    → x ≡ get_or xs i x → y ≡ get_or ys i y → find t (take i (zip xs ys)) ≡ None → t (x, y) ≡ false
+    → find t (take (i + 1) (zip xs ys)) ≡ None
+none_more t [] ys i x y less short is at none fails = absurd (omega (arith, less))
+none_more t (w ∷ xs) [] i x y less short is at none fails = absurd (omega (arith, short))
+none_more t (w ∷ xs) (v ∷ ys) zero x y less short is at none fails =
+    ap (λ b. cond b (Some (w, v)) None) (ap (λ z. t (z, v)) (sym is) ∙ ap (λ z. t (x, z)) (sym at) ∙ fails)
+none_more t (w ∷ xs) (v ∷ ys) (suc i) x y less short is at none fails =
+    let parts = behind t (w, v) (take i (zip xs ys)) none in
+    ap (λ n. find t (take n ((w, v) ∷ zip xs ys))) (one_later i)
+    ∙ ap (λ b. cond b (Some (w, v)) (find t (take (i + 1) (zip xs ys)))) parts.0
+    ∙ none_more t xs ys i x y (omega (arith, less)) (omega (arith, short)) is at parts.1 fails
+
+-- no pair before is the one, and this is
+pub found_here : {X Y : Type 0} (t : X × Y → Bool) (xs : List X) (ys : List Y) (i : ℕ) (x : X) (y : Y) → i < length xs → i < length ys
+    → x ≡ get_or xs i x → y ≡ get_or ys i y → find t (take i (zip xs ys)) ≡ None → t (x, y) ≡ true
+    → find t (zip xs ys) ≡ Some (x, y)
+found_here t [] ys i x y less short is at none passes = absurd (omega (arith, less))
+found_here t (w ∷ xs) [] i x y less short is at none passes = absurd (omega (arith, short))
+found_here t (w ∷ xs) (v ∷ ys) zero x y less short is at none passes =
+    ap (λ b. cond b (Some (w, v)) (find t (zip xs ys))) (ap (λ z. t (z, v)) (sym is) ∙ ap (λ z. t (x, z)) (sym at) ∙ passes)
+    ∙ ap (λ z. Some (z, v)) (sym is) ∙ ap (λ z. Some (x, z)) (sym at)
+found_here t (w ∷ xs) (v ∷ ys) (suc i) x y less short is at none passes =
+    let parts = behind t (w, v) (take i (zip xs ys)) none in
+    ap (λ b. cond b (Some (w, v)) (find t (zip xs ys))) parts.0
+    ∙ found_here t xs ys i x y (omega (arith, less)) (omega (arith, short)) is at parts.1 passes
+
+-- one pair more
+pub zip_more : {X Y : Type 0} (xs : List X) (ys : List Y) (i : ℕ) (x : X) (y : Y) → i < length xs → length ys ≡ i → x ≡ get_or xs i x
+    → zip (take (i + 1) xs) (ys ++ y ∷ []) ≡ zip (take i xs) ys ++ (x, y) ∷ []
+zip_more [] ys i x y less long is = absurd (omega (arith, less))
+zip_more (w ∷ xs) [] zero x y less long is = ap (λ z. (z, y) ∷ []) (sym is)
+zip_more (w ∷ xs) (v ∷ ys) zero x y less long is = absurd (omega (arith, long))
+zip_more (w ∷ xs) [] (suc i) x y less long is = absurd (omega (arith, long))
+zip_more (w ∷ xs) (v ∷ ys) (suc i) x y less long is =
+    ap (λ n. zip (take n (w ∷ xs)) ((v ∷ ys) ++ y ∷ [])) (one_later i)
+    ∙ ap (λ ps. (w, v) ∷ ps) (zip_more xs ys i x y (omega (arith, less)) (omega (arith, long)) is)
+
+marked_push : (before pairs : List (Planned × Foretold)) (pair : Planned × Foretold) → AreMarkedAfter before pairs
+    → pair.1.after ≡ mark (before ++ pairs) pair.0.task pair.1.coming → AreMarkedAfter before (pairs ++ pair ∷ [])
+marked_push before [] pair all is = (is ∙ ap (λ ps. mark ps pair.0.task pair.1.coming) (append_nil before), tt)
+  where
+    append_nil : (ps : List (Planned × Foretold)) → ps ++ [] ≡ ps
+    append_nil [] = refl
+    append_nil (p ∷ ps) = ap (λ l. p ∷ l) (append_nil ps)
+marked_push before (p ∷ pairs) pair all is =
+    (all.0, marked_push (before ++ p ∷ []) pairs pair all.1 (is ∙ ap (λ ps. mark ps pair.0.task pair.1.coming) (sym (append_assoc before (p ∷ []) pairs))))
+
+-- one task more is marked
+pub marked_more : (plan : List Planned) (told : List Foretold) (i : ℕ) (planned : Planned) (one : Foretold) → i < length plan → length told ≡ i
+    → planned ≡ get_or plan i planned → AreMarkedAfter [] (zip (take i plan) told) → one.after ≡ mark (zip (take i plan) told) planned.task one.coming
+    → AreMarkedAfter [] (zip (take (i + 1) plan) (told ++ one ∷ []))
+marked_more plan told i planned one less long is all here =
+    subst (AreMarkedAfter []) (sym (zip_more plan told i planned one less long is)) (marked_push [] (zip (take i plan) told) (planned, one) all here)
+
+front_long : {X : Type 0} (xs : List X) (i : ℕ) → i < length xs → length (take i xs) ≡ i
+front_long [] i less = absurd (omega (arith, less))
+front_long (x ∷ xs) zero less = refl
+front_long (x ∷ xs) (suc i) less = ap suc (front_long xs i (omega (arith, less)))
+
+-- as many as in the front
+pub front_each : {X Y : Type 0} (xs : List X) (ys : List Y) (i : ℕ) → i < length xs → length ys ≡ i → length ys ≡ length (take i xs)
+front_each xs ys i less long = long ∙ sym (front_long xs i less)
+
+-- what holds of each holds of one more
+pub all_more : {X : Type 0} (P : X → Type 0) (xs : List X) (x : X) → AllByRecursion P xs → P x → AllByRecursion P (xs ++ x ∷ [])
+all_more P [] x all here = (here, tt)
+all_more P (y ∷ xs) x all here = (all.0, all_more P xs x all.1 here)
+
+-- one pair's third more
+pub related_more : {X Y Z : Type 0} (R : X × Y → Z → Type 0) (xs : List X) (ys : List Y) (zs : List Z) (i : ℕ) (x : X) (y : Y) (z : Z)
+    → i < length xs → i < length ys → x ≡ get_or xs i x → y ≡ get_or ys i y → AllZip R (take i (zip xs ys)) zs → R (x, y) z
+    → AllZip R (take (i + 1) (zip xs ys)) (zs ++ z ∷ [])
+related_more R [] ys zs i x y z less short is at all here = absurd (omega (arith, less))
+related_more R (w ∷ xs) [] zs i x y z less short is at all here = absurd (omega (arith, short))
+related_more R (w ∷ xs) (v ∷ ys) [] zero x y z less short is at all here =
+    (subst (λ a. R (a, v) z) is (subst (λ b. R (x, b) z) at here), tt)
+related_more R (w ∷ xs) (v ∷ ys) (u ∷ zs) zero x y z less short is at all here = absurd all
+related_more R (w ∷ xs) (v ∷ ys) [] (suc i) x y z less short is at all here = absurd all
+related_more R (w ∷ xs) (v ∷ ys) (u ∷ zs) (suc i) x y z less short is at all here =
+    subst (λ n. AllZip R (take n ((w, v) ∷ zip xs ys)) ((u ∷ zs) ++ z ∷ [])) (sym (one_later i))
+    (all.0, related_more R xs ys zs i x y z (omega (arith, less)) (omega (arith, short)) is at all.1 here)
+
+-- the path of one task more
+pub path_more : {X : Type 0} (f : X → List ℕ) (xs : List X) (paths more : List (List ℕ)) (i : ℕ) (x : X) → i < length xs → x ≡ get_or xs i x
+    → paths ≡ map f (take i xs) → more ≡ paths ++ f x ∷ [] → more ≡ map f (take (i + 1) xs)
+path_more f xs paths more i x less is so then =
+    then ∙ ap (λ ps. ps ++ f x ∷ []) so
+    ∙ sym (ap (map f) (take_more xs i x less ∙ ap (λ z. take i xs ++ z ∷ []) (sym is)) ∙ map-append f (take i xs) (x ∷ []))
+
+-- all pairs
+pub all_pairs : {X Y : Type 0} (xs : List X) (ys : List Y) (i : ℕ) → length xs ≤ i → take i (zip xs ys) ≡ zip xs ys
+all_pairs [] ys i all = take_all i [] (omega arith)
+all_pairs (x ∷ xs) [] i all = take_all i [] (omega arith)
+all_pairs (x ∷ xs) (y ∷ ys) zero all = absurd (omega (arith, all))
+all_pairs (x ∷ xs) (y ∷ ys) (suc i) all = ap (λ ps. (x, y) ∷ ps) (all_pairs xs ys i (omega (arith, all)))

@@ -1,0 +1,84 @@
+use Rattle.std.proofs.Common.{◌≡◌, ◌+◌, ◌-◌, ℕ, Option, List, ◌∷◌, [], ◌++◌, arith, sym, ap, subst, refl, length, length-append, map, option_copied, take, ◌∙◌}
+use Rattle.std.specs.List.{AllByRecursion, AllZip, zip}
+use Rattle.std.proofs.lemmas.List.{map-append, take_all}
+use Rattle.gb_folder.specs.Files.{Contents}
+use Rattle.gb_folder.proofs.Asked.{asks_then}
+use Rattle.gb_history.specs.Remembered.{Remembered}
+use Rattle.gb_plan.specs.Graph.{order}
+use Rattle.gb_plan.specs.declared.plan.Planned.{Planned}
+use Rattle.gb_store.proofs.Loops.{all_at}
+use Rattle.gb_foretell.specs.Foretold.{IsForetold, IsReasoned}
+use Rattle.gb_foretell.specs.Marks.{AreMarkedAfter, mark}
+use Rattle.gb_foretell.specs.declared.coming.Foretold.{Foretold}
+use Rattle.gb_foretell.proofs.Marking.{all_more, all_pairs, front_each, marked_more, path_more, related_more}
+use Rattle.gb_foretell.proofs.Telling.{all_related, foretold_wider}
+use Rattle.gb_foretell.proofs.foretell.foretell.Goals as goal
+
+pub foretold-requires-clause-ready : goal.foretold-requires-clause-ready
+foretold-requires-clause-ready g c = all_at _ c.args.plan.now c.loop-at.at c.index-plan-at.result c.loop-at-test.true c.index-plan-at.is c.requires.ready
+
+pub foretold-requires-clause-in_order : goal.foretold-requires-clause-in_order
+foretold-requires-clause-in_order g c = all_at _ c.args.plan.now c.loop-at.at c.index-plan-at.result c.loop-at-test.true c.index-plan-at.is c.requires.in_order
+
+pub foretold-requires-clause-not_own : goal.foretold-requires-clause-not_own
+foretold-requires-clause-not_own g c = all_at _ c.args.plan.now c.loop-at.at c.index-plan-at.result c.loop-at-test.true c.index-plan-at.is c.requires.not_own
+
+pub foretold-requires-clause-each : goal.foretold-requires-clause-each
+foretold-requires-clause-each g c =
+    ap length c.as_slice.ensures.value ∙ front_each c.args.plan.now c.loop-at.told.items c.loop-at.at c.loop-at-test.true c.loop-at.invariant.count
+
+pub loop-at-preserved : goal.loop-at-preserved
+loop-at-preserved g c =
+    let F = g.F.Folder in
+    let inv = c.loop-at.invariant in
+    let plan = c.args.plan.now in
+    let records = c.args.records.now in
+    let at = c.loop-at.at in
+    let told : List Foretold = c.loop-at.told.items in
+    let one : Foretold = c.in_ok-one.one in
+    let planned : Planned = c.index-plan-at.result in
+    let last : Option Remembered = c.index-records-at.result in
+    let old : Contents = F.contents c.args.folder.now in
+    let begun = F.failures c.args.folder.now in
+    let mid = F.failures c.loop-at.folder in
+    let new = F.failures c.foretold.new.folder in
+    let more = c.in_ok-push.ensures.items in
+    let here =
+    subst (λ (ones : List Foretold). one.after ≡ mark (zip (take at plan) ones) planned.task one.coming) c.as_slice.ensures.value
+    c.in_ok-one.ensures.marked in
+    record {
+      asks = asks_then inv.asks c.foretold.ensures.asks;
+      same = λ tells. c.foretold.ensures.same tells ∙ inv.same tells;
+      count = ap length more ∙ length-append told (one ∷ []) ∙ ap (λ n. n + 1) inv.count;
+      paths =
+          path_more (λ (p : Planned). p.task.path) plan (map (λ (f : Foretold). f.path) told) _ at planned c.loop-at-test.true c.index-plan-at.is inv.paths
+          (ap (map (λ (f : Foretold). f.path)) more ∙ map-append (λ (f : Foretold). f.path) told (one ∷ []) ∙ ap (λ path. map (λ (f : Foretold). f.path) told ++ path ∷ []) c.in_ok-one.ensures.path);
+      reasoned = subst (AllByRecursion (λ (f : Foretold). IsReasoned f.coming)) (sym more) (all_more (λ (f : Foretold). IsReasoned f.coming) told one inv.reasoned c.in_ok-one.ensures.reasoned);
+      marked =
+          subst (λ (l : List Foretold). AreMarkedAfter [] (zip (take (at + 1) plan) l)) (sym more)
+          (marked_more plan told at planned one c.loop-at-test.true inv.count c.index-plan-at.is inv.marked here);
+      foretold = λ tells kinds agrees.
+          let Is : ℕ → Planned × Option Remembered → Foretold → Type 0 = λ until pair f. IsForetold kinds c.args.options pair.0.task old pair.1 begun until f.coming in
+          subst (AllZip (Is new) (take (at + 1) (zip plan records))) (sym more)
+          (related_more (Is new) plan records told at planned last one c.loop-at-test.true (omega (arith, c.loop-at-test.true, c.requires.each)) c.index-plan-at.is c.index-records-at.is
+          (all_related (Is mid) (Is new)
+          (λ pair f is. foretold_wider kinds c.args.options pair.0.task old pair.1 begun begun mid new f.coming (omega arith) inv.asks.count c.foretold.ensures.asks.count is)
+          (take at (zip plan records)) told (inv.foretold tells kinds agrees))
+          (foretold_wider kinds c.args.options planned.task old last begun mid new new one.coming inv.asks.count c.foretold.ensures.asks.count (omega arith)
+          (subst (λ (read : Option Remembered). IsForetold kinds c.args.options planned.task old read mid new one.coming) c.as_ref-last.ensures.value
+          (subst (λ (folder : Contents). IsForetold kinds c.args.options planned.task folder (option_copied c.as_ref-last.result) mid new one.coming) (inv.same tells)
+          (c.in_ok-one.ensures.foretold tells kinds agrees)))));
+    }
+
+pub returns-clause-paths : goal.returns-clause-paths
+returns-clause-paths g c = c.loop-at.invariant.paths ∙ ap order (take_all c.loop-at.at c.args.plan.now c.loop-at-test.false)
+
+pub returns-clause-marked : goal.returns-clause-marked
+returns-clause-marked g c =
+    subst (λ (plan : List Planned). AreMarkedAfter [] (zip plan c.loop-at.told.items)) (take_all c.loop-at.at c.args.plan.now c.loop-at-test.false) c.loop-at.invariant.marked
+
+pub returns-clause-foretold : goal.returns-clause-foretold
+returns-clause-foretold g c = λ tells kinds agrees.
+    let F = g.F.Folder in
+    subst (λ (pairs : List (Planned × Option Remembered)). AllZip (λ pair (f : Foretold). IsForetold kinds c.args.options pair.0.task (F.contents c.args.folder.now) pair.1 (F.failures c.args.folder.now) (F.failures c.loop-at.folder) f.coming) pairs c.loop-at.told.items)
+    (all_pairs c.args.plan.now c.args.records.now c.loop-at.at c.loop-at-test.false) (c.loop-at.invariant.foretold tells kinds agrees)

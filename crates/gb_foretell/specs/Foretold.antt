@@ -1,0 +1,92 @@
+-- What a task's turn comes to on a folder as it stands, in the words of builds.
+use Rattle.std.specs.Prelude.{ℕ, ◌≡◌, ◌≢◌, Bool, false, true, List, []}
+use Rattle.std.specs.Prelude.{◌∷◌, map, Option, Some, None, Result, Ok, Err, ⊤}
+use Rattle.std.specs.List.{AllZip, flat_map, zip}
+use Rattle.gb_case.specs.Turns.{goes_by_changes}
+use Rattle.gb_folder.specs.Files.{Contents, is_empty}
+use Rattle.gb_history.specs.Remembered.{Remembered}
+use Rattle.gb_history.specs.declared.decide.Decision.{Decision}
+use Rattle.gb_history.specs.declared.decide.Decision.TheVariants as decisions
+use Rattle.gb_history.specs.declared.decide.Present.{Present}
+use Rattle.gb_label.specs.Deciding.{IsDecided, IsPresentOf}
+use Rattle.gb_label.specs.Looking.{IsHindered}
+use Rattle.gb_meaning.specs.Kinds.{Kinds}
+use Rattle.gb_meaning.specs.Label.{HasNoActions, HasNoSource, Skips, early_case}
+use Rattle.gb_meaning.specs.Tree.{trees_of}
+use Rattle.gb_plan.specs.Graph.{Plan}
+use Rattle.gb_plan.specs.declared.task.TaskDeclaration.{TaskDeclaration as Task}
+use Rattle.gb_reason.specs.Reasons.{reasons_of}
+use Rattle.gb_reason.specs.declared.reason.Reason.{Reason}
+use Rattle.gb_report.specs.declared.fault.Fault.{Fault}
+use Rattle.gb_report.specs.declared.fault.Fault.TheVariants as faults
+use Rattle.gb_report.specs.declared.report.Options.{Options}
+use Rattle.gb_turn.specs.Reading.{digests_in, print_faults, recorded_of}
+use Rattle.gb_foretell.specs.declared.coming.Coming.{Coming}
+use Rattle.gb_foretell.specs.declared.coming.Coming.TheVariants as comings
+use Rattle.gb_foretell.specs.declared.coming.Foretold.{Foretold}
+
+-- the reasons are those of what the task has now
+abbrev pub AreReasons : Options → Task → Contents → Option Remembered → List Reason → Type 0
+AreReasons options task folder old reasons =
+    (present : Present) → IsPresentOf options task (digests_in (trees_of task folder.files))
+    (map (recorded_of folder.files) task.outputs) present → reasons ≡ reasons_of old present
+
+-- It is decided that the task runs, by changes or in full, and these are the reasons.
+pub record IsRun (kinds : Kinds) (options : Options) (task : Task) (folder : Contents)
+    (old : Option Remembered) (goes_on : Bool) (told : List Reason) : Type 0 where
+  pub decision : Decision
+  pub decided : IsDecided options task folder old decision
+  pub due : decision ≢ decisions.UpToDate
+  pub by_changes : goes_by_changes kinds task decision ≡ goes_on
+  pub reasons : AreReasons options task folder old told
+
+-- What is found of a task that has a source.
+abbrev pub IsFound : Kinds → Options → Task → Contents → Option Remembered → Coming → Type 0
+IsFound kinds options task folder old comings.UpToDate = IsDecided options task folder old decisions.UpToDate
+IsFound kinds options task folder old comings.HasGrown =
+    IsDecided options task folder old decisions.Full
+    × (is_empty (flat_map (print_faults folder) task.outputs) ≡ false)
+IsFound kinds options task folder old (comings.Runs by_changes reasons) =
+    IsRun kinds options task folder old by_changes reasons.items
+IsFound kinds options task folder old other = ⊥
+
+-- It is what the turn of the task, of which this is remembered, comes to on the folder; the machine fails
+-- between these counts.
+abbrev pub IsForetold : Kinds → Options → Task → Contents → Option Remembered → ℕ → ℕ → Coming → Type 0
+IsForetold kinds options task folder old before after comings.Skips = early_case task folder ≡ Some Skips
+IsForetold kinds options task folder old before after comings.HasNoActions =
+    early_case task folder ≡ Some HasNoActions
+IsForetold kinds options task folder old before after comings.HasNoSource =
+    early_case task folder ≡ Some HasNoSource
+IsForetold kinds options task folder old before after (comings.CannotRead fault) =
+    IsHindered task folder before after fault
+IsForetold kinds options task folder old before after other =
+    (early_case task folder ≡ None) × IsFound kinds options task folder old other
+
+-- it runs in full for this reason alone
+abbrev pub RunsFor : Reason → Coming → Type 0
+RunsFor reason (comings.Runs by_changes reasons) = (by_changes ≡ false) × (reasons.items ≡ reason ∷ [])
+RunsFor reason other = ⊥
+
+-- the fault is the machine's
+abbrev pub is_of_machine : Fault → Bool
+is_of_machine faults.OutOfMemory = true
+is_of_machine (faults.Device place) = true
+is_of_machine other = false
+
+-- there is a reason where the task runs for reasons
+abbrev pub IsReasoned : Coming → Type 0
+IsReasoned (comings.Runs by_changes reasons) = reasons.items ≢ []
+IsReasoned other = ⊤
+
+-- what is told of a task that was to be read
+abbrev pub told_of : Result Coming Fault → Coming
+told_of (Ok coming) = coming
+told_of (Err fault) = comings.CannotRead fault
+
+-- Each of these tasks, with what was read of its record, is told so.
+abbrev pub AreForetold : Kinds → Options → Contents → ℕ → ℕ → Plan → List (Option Remembered) → List Foretold
+    → Type 0
+AreForetold kinds options folder before after plan records told =
+    AllZip (λ pair one. IsForetold kinds options pair.0.task folder pair.1 before after one.coming)
+    (zip plan records) told

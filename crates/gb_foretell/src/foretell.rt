@@ -1,0 +1,101 @@
+//! What the tasks of a plan come to.
+ghost use Rattle.std.specs.Prelude.{◌≡◌, false, IfOk, IsTrue, length, map, option_copied};
+ghost use Rattle.std.specs.List.{AllByRecursion, list_any, zip};
+ghost use Rattle.gb_folder.specs.Calls.{Asks, no_change};
+ghost use Rattle.gb_folder.specs.Files.{is_own};
+ghost use Rattle.gb_foretell.specs.Foretold.{AreForetold, IsForetold, IsReasoned};
+ghost use Rattle.gb_foretell.specs.Marks.{AreMarked, mark};
+ghost use Rattle.gb_label.specs.Deciding.{HasNamesInOrder};
+ghost use Rattle.gb_meaning.specs.Headline.{Agrees};
+ghost use Rattle.gb_meaning.specs.Kinds.{Kinds};
+ghost use Rattle.gb_plan.specs.Graph.{order};
+ghost use Rattle.gb_plan.specs.Ready.{IsReady};
+
+use crate::coming::Foretold;
+use crate::marks::mark;
+use crate::task::coming_of;
+use gb_action::actions::Actions;
+use gb_action::table::ActionTable;
+use gb_folder::folder::Folder;
+use gb_history::record::Record;
+use gb_plan::plan::Planned;
+use gb_report::report::Options;
+use std::alloc::{AllocError, Global};
+
+/// What each task of a plan would come to if its turn started on the folder as it stands, in the order of the
+/// plan. `records` has what was read of their records, in that order. Nothing is changed.
+pub fn foretell<A: Actions, F: Folder>(
+    alloc: Global,
+    folder: &mut F,
+    plan: &[Planned],
+    table: &ActionTable<A::Stored>,
+    options: Options,
+    records: &[Option<Record>],
+) -> Result<Vec<Foretold>, AllocError>
+    requires ready { AllByRecursion (λ planned. IsReady A.meanings table.now planned.task) plan.now }
+    requires in_order { AllByRecursion (λ planned. HasNamesInOrder planned.task) plan.now }
+    requires not_own { AllByRecursion (λ planned.
+        list_any (λ output. is_own output.place) planned.task.outputs ≡ false) plan.now }
+    requires each { length records.now ≡ length plan.now }
+    ensures asks { Asks F.failures F.may_leave F.asked no_change folder.old folder.new }
+    ensures same { IsTrue F.tells → F.contents folder.new ≡ F.contents folder.old }
+    ensures paths { IfOk result (λ told. map (λ one. one.path) told.items ≡ order plan.now) }
+    // Over any folder there is a reason where a task runs for reasons.
+    ensures reasoned { IfOk result (λ told. AllByRecursion (λ one. IsReasoned one.coming) told.items) }
+    ensures marked { IfOk result (λ told. AreMarked plan.now told.items) }
+    ensures foretold { IsTrue F.tells → (kinds : Kinds) → Agrees A.meanings table.now kinds
+        → IfOk result (λ told. AreForetold kinds options (F.contents folder.old) (F.failures folder.old)
+        (F.failures folder.new) plan.now records.now told.items) }
+{
+    let mut told = Vec::new(alloc);
+    for (at, planned) in plan.iter().enumerate() {
+        let last = records[at].as_ref();
+        let before = &plan[..at];
+        let one = foretold::<A, F>(
+            alloc,
+            folder,
+            before,
+            told.as_slice(),
+            planned,
+            table,
+            options,
+            last,
+        )?;
+        told.push(one)?;
+    }
+    Ok(told)
+}
+
+/// What is told of a task, of which those before it are told so.
+fn foretold<A: Actions, F: Folder>(
+    alloc: Global,
+    folder: &mut F,
+    before: &[Planned],
+    told: &[Foretold],
+    planned: &Planned,
+    table: &ActionTable<A::Stored>,
+    options: Options,
+    last: Option<&Record>,
+) -> Result<Foretold, AllocError>
+    requires ready { IsReady A.meanings table.now planned.now.task }
+    requires in_order { HasNamesInOrder planned.now.task }
+    requires not_own { list_any (λ output. is_own output.place) planned.now.task.outputs ≡ false }
+    requires each { length told.now ≡ length before.now }
+    ensures asks { Asks F.failures F.may_leave F.asked no_change folder.old folder.new }
+    ensures same { IsTrue F.tells → F.contents folder.new ≡ F.contents folder.old }
+    ensures path { IfOk result (λ one. one.path ≡ planned.now.task.path) }
+    ensures reasoned { IfOk result (λ one. IsReasoned one.coming) }
+    ensures marked { IfOk result (λ one.
+        one.after ≡ mark (zip before.now told.now) planned.now.task one.coming) }
+    ensures foretold { IsTrue F.tells → (kinds : Kinds) → Agrees A.meanings table.now kinds
+        → IfOk result (λ one. IsForetold kinds options planned.now.task (F.contents folder.old)
+        (option_copied last.entry) (F.failures folder.old) (F.failures folder.new) one.coming) }
+{
+    let coming = coming_of::<A, F>(alloc, folder, &planned.task, table, options, last);
+    let after = mark(before, told, &planned.task, &coming)?;
+    Ok(Foretold {
+        path: planned.task.path.copy()?,
+        coming,
+        after,
+    })
+}

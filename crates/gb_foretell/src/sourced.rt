@@ -1,0 +1,97 @@
+//! A task that has a source.
+ghost use Rattle.std.specs.Prelude.{◌≡◌, ◌∷◌, [], IfErr, IfOk, IsTrue, OnOk, false, option_copied};
+ghost use Rattle.std.specs.List.{list_any};
+ghost use Rattle.gb_folder.specs.Calls.{Asks, no_change};
+ghost use Rattle.gb_folder.specs.Files.{is_own};
+ghost use Rattle.gb_foretell.specs.Foretold.{IsFound, IsReasoned, RunsFor};
+ghost use Rattle.gb_label.specs.Deciding.{HasNamesInOrder};
+ghost use Rattle.gb_meaning.specs.Headline.{Agrees};
+ghost use Rattle.gb_meaning.specs.Kinds.{Kinds};
+ghost use Rattle.gb_meaning.specs.Tree.{listing_faults, trees_of};
+ghost use Rattle.gb_plan.specs.Ready.{IsReady};
+ghost use Rattle.gb_turn.specs.Reading.{AreInputs, CannotRead, digests_in, prints_read};
+
+use crate::coming::Coming;
+use crate::compared::compared;
+use gb_action::actions::Actions;
+use gb_action::table::ActionTable;
+use gb_folder::folder::Folder;
+use gb_history::record::Record;
+use gb_plan::task::TaskDeclaration;
+use gb_reason::reason::Reason;
+use gb_report::fault::Fault;
+use gb_report::report::Options;
+use gb_run::emptying::listed_outputs;
+use gb_tree::kept::Reading;
+use std::alloc::Global;
+
+/// What a task that has a source comes to, by its record and by what it has now.
+pub(crate) fn sourced<A: Actions, F: Folder>(
+    alloc: Global,
+    folder: &mut F,
+    task: &TaskDeclaration,
+    table: &ActionTable<A::Stored>,
+    options: Options,
+    old: Option<&Record>,
+    inputs: &[Reading],
+) -> Result<Coming, Fault>
+    requires ready { IsReady A.meanings table.now task.now }
+    requires in_order { HasNamesInOrder task.now }
+    requires not_own { list_any (λ output. is_own output.place) task.now.outputs ≡ false }
+    requires read { AreInputs task.now inputs.now }
+    ensures asks { Asks F.failures F.may_leave F.asked no_change folder.old folder.new }
+    ensures same { IsTrue F.tells → F.contents folder.new ≡ F.contents folder.old }
+    ensures reasoned { IfOk result IsReasoned }
+    ensures none_odd { IsTrue F.tells → OnOk result (listing_faults task.now (F.contents folder.old) ≡ []) }
+    ensures found { IsTrue F.tells
+        → prints_read inputs.now ≡ digests_in (trees_of task.now (F.contents folder.old).files)
+        → (kinds : Kinds) → Agrees A.meanings table.now kinds
+        → IfOk result (IsFound kinds options task.now (F.contents folder.old) (option_copied old.entry)) }
+    ensures err { IsTrue F.tells → IfErr result (CannotRead (F.failures folder.old) (F.failures folder.new)
+        (listing_faults task.now (F.contents folder.old))) }
+{
+    let Some(run) = old else {
+        return anew(alloc, folder, task, Reason::NoRecord);
+    };
+    if options.rerun {
+        return anew(alloc, folder, task, Reason::Rerun);
+    }
+    if task.is_stale {
+        return anew(alloc, folder, task, Reason::Stale);
+    }
+    compared::<A, F>(alloc, folder, task, table, options, run, inputs)
+}
+
+/// That it runs in full for this one reason, whatever it has.
+fn anew<F: Folder>(
+    alloc: Global,
+    folder: &mut F,
+    task: &TaskDeclaration,
+    reason: Reason,
+) -> Result<Coming, Fault>
+    ensures asks { Asks F.failures F.may_leave F.asked no_change folder.old folder.new }
+    ensures same { IsTrue F.tells → F.contents folder.new ≡ F.contents folder.old }
+    ensures runs { IfOk result (RunsFor reason) }
+    ensures none_odd { IsTrue F.tells → OnOk result (listing_faults task.now (F.contents folder.old) ≡ []) }
+    ensures err { IsTrue F.tells → IfErr result (CannotRead (F.failures folder.old) (F.failures folder.new)
+        (listing_faults task.now (F.contents folder.old))) }
+{
+    listed(alloc, folder, task)?;
+    Ok(Coming::Runs(false, vec![in alloc; reason]?))
+}
+
+/// Lists the outputs of a task. An error is the first odd thing there, or the machine's.
+pub(crate) fn listed<F: Folder>(
+    alloc: Global,
+    folder: &mut F,
+    task: &TaskDeclaration,
+) -> Result<(), Fault>
+    ensures asks { Asks F.failures F.may_leave F.asked no_change folder.old folder.new }
+    ensures same { IsTrue F.tells → F.contents folder.new ≡ F.contents folder.old }
+    ensures none_odd { IsTrue F.tells → OnOk result (listing_faults task.now (F.contents folder.old) ≡ []) }
+    ensures err { IsTrue F.tells → IfErr result (CannotRead (F.failures folder.old) (F.failures folder.new)
+        (listing_faults task.now (F.contents folder.old))) }
+{
+    listed_outputs(alloc, folder, task.outputs.as_slice())?;
+    Ok(())
+}

@@ -1,0 +1,72 @@
+//! What one task comes to.
+ghost use Rattle.std.specs.Prelude.{◌≡◌, IsTrue, false, option_copied};
+ghost use Rattle.std.specs.List.{list_any};
+ghost use Rattle.gb_folder.specs.Calls.{Asks, no_change};
+ghost use Rattle.gb_folder.specs.Files.{is_own};
+ghost use Rattle.gb_foretell.specs.Foretold.{IsForetold, IsReasoned, told_of};
+ghost use Rattle.gb_label.specs.Deciding.{HasNamesInOrder};
+ghost use Rattle.gb_meaning.specs.Headline.{Agrees};
+ghost use Rattle.gb_meaning.specs.Kinds.{Kinds};
+ghost use Rattle.gb_plan.specs.Ready.{IsReady};
+
+use crate::coming::Coming;
+use crate::sourced::sourced;
+use gb_action::actions::Actions;
+use gb_action::table::ActionTable;
+use gb_folder::folder::Folder;
+use gb_history::record::Record;
+use gb_label::look::{Look, looked_at};
+use gb_plan::task::TaskDeclaration;
+use gb_report::fault::Fault;
+use gb_report::report::Options;
+use std::alloc::Global;
+
+/// What the turn of a task comes to on the folder as it stands. `old` is the record that was read of it.
+pub(crate) fn coming_of<A: Actions, F: Folder>(
+    alloc: Global,
+    folder: &mut F,
+    task: &TaskDeclaration,
+    table: &ActionTable<A::Stored>,
+    options: Options,
+    old: Option<&Record>,
+) -> Coming
+    requires ready { IsReady A.meanings table.now task.now }
+    requires in_order { HasNamesInOrder task.now }
+    requires not_own { list_any (λ output. is_own output.place) task.now.outputs ≡ false }
+    ensures asks { Asks F.failures F.may_leave F.asked no_change folder.old folder.new }
+    ensures same { IsTrue F.tells → F.contents folder.new ≡ F.contents folder.old }
+    // Over any folder there is a reason where it runs for reasons.
+    ensures reasoned { IsReasoned result }
+    ensures foretold { IsTrue F.tells → (kinds : Kinds) → Agrees A.meanings table.now kinds
+        → IsForetold kinds options task.now (F.contents folder.old) (option_copied old.entry)
+        (F.failures folder.old) (F.failures folder.new) result }
+{
+    match looked_at(alloc, folder, task, 0) {
+        Ok(Look::Skips) => Coming::Skips,
+        Ok(Look::HasNoActions) => Coming::HasNoActions,
+        Ok(Look::HasNoSource) => Coming::HasNoSource,
+        Ok(Look::Goes(inputs)) => {
+            let found = sourced::<A, F>(
+                alloc,
+                folder,
+                task,
+                table,
+                options,
+                old,
+                inputs.as_slice(),
+            );
+            told(found)
+        }
+        Err(fault) => Coming::CannotRead(fault),
+    }
+}
+
+/// What is told of a task that was to be read.
+fn told(found: Result<Coming, Fault>) -> Coming
+    ensures { result ≡ told_of found }
+{
+    match found {
+        Ok(coming) => coming,
+        Err(fault) => Coming::CannotRead(fault),
+    }
+}
