@@ -5,27 +5,31 @@ use std::alloc::{AllocError, Global};
 use std::cmp::Ordering;
 use std::fmt;
 use std::marker::Model;
+use std::rc::RcStr;
 
-/// A text in UTF-8. Contracts see its bytes, and its order is theirs.
+/// A text in UTF-8. Contracts see its bytes, and its order is theirs. Copies share them.
 #[derive(Debug, Drop)]
 pub struct Text {
-    text: String,
+    text: RcStr,
 }
 
 impl Model for Text {
-    ghost use Rattle.std.specs.Prelude.{List, ℕ, string_bytes};
+    ghost use Rattle.std.specs.Prelude.{List, ℕ};
+    ghost use Rattle.std.specs.Rc.{rc_str_bytes};
 
     ghost Value = { List ℕ };
 
-    ghost view = { λ t. string_bytes t.text };
+    ghost view = { λ t. rc_str_bytes t.text };
 }
 
 impl Text {
     /// The text that a string holds.
-    pub fn new(text: String) -> Text
-        ensures { result ≡ string_bytes text }
+    pub fn new(text: String) -> Result<Text, AllocError>
+        ensures { IfOk result (λ made. made ≡ string_bytes text) }
     {
-        Text { text }
+        Ok(Text {
+            text: RcStr::from_string(text)?,
+        })
     }
 
     /// A text of these characters.
@@ -33,11 +37,11 @@ impl Text {
         ensures { IfOk result (λ made. made ≡ text.now) }
     {
         Ok(Text {
-            text: String::from_str(alloc, text)?,
+            text: RcStr::from_str(alloc, text)?,
         })
     }
 
-    /// An equal text.
+    /// An equal text, which shares its bytes.
     pub fn copy(&self) -> Result<Text, AllocError>
         ensures { IfOk result (λ copied. copied ≡ self.now) }
     {

@@ -69,7 +69,7 @@ pub fn upper(
         (Value::Text(text), []) => {
             let mut raised = String::from_str(alloc, text.as_str())?;
             raised.make_ascii_uppercase();
-            Ok(Some(Value::Text(Text::new(raised))))
+            Ok(Some(Value::Text(Text::new(raised)?)))
         }
         (Value::Text(_), _) => Err(TransformFault::Refused(Refusal::BadArguments)),
         _ => Err(TransformFault::Refused(Refusal::WrongValue)),
@@ -88,7 +88,7 @@ pub fn append(
         (Value::Text(text), [end]) => {
             let mut longer = String::from_str(alloc, text.as_str())?;
             longer.push_str(end.as_str())?;
-            Ok(Some(Value::Text(Text::new(longer))))
+            Ok(Some(Value::Text(Text::new(longer)?)))
         }
         (Value::Text(_), _) => Err(TransformFault::Refused(Refusal::BadArguments)),
         _ => Err(TransformFault::Refused(Refusal::WrongValue)),
@@ -138,7 +138,7 @@ pub fn join(
     match (value, arguments) {
         (Value::List(texts), [separator]) => {
             let joined = join_texts(alloc, texts.as_slice(), separator.as_str())?;
-            Ok(Some(Value::Text(Text::new(joined))))
+            Ok(Some(Value::Text(Text::new(joined)?)))
         }
         (Value::List(_), _) => Err(TransformFault::Refused(Refusal::BadArguments)),
         _ => Err(TransformFault::Refused(Refusal::WrongValue)),
@@ -242,7 +242,7 @@ pub fn concat(
         (Value::Text(front), Value::Text(back), []) => {
             let mut text = String::from_str(alloc, front.as_str())?;
             text.push_str(back.as_str())?;
-            Ok(Value::Text(Text::new(text)))
+            Ok(Value::Text(Text::new(text)?))
         }
         (Value::Text(_), Value::Text(_), _) => {
             Err(TransformFault::Refused(Refusal::BadArguments))

@@ -73,5 +73,5 @@ fn joined(alloc: Global, word: &str, path: &RelPath) -> Result<Text, AllocError>
 {
     let mut line = String::from_str(alloc, word)?;
     line.push_str(path.as_str())?;
-    Ok(Text::new(line))
+    Text::new(line)
 }

@@ -60,7 +60,7 @@ fn wrong_at(alloc: Global, path: &RelPath, bytes: &[u8]) -> Result<Option<Text>,
     ensures { IfOk result (λ found. found ≡ wrong_at path.now bytes.now) }
 {
     match wrong(alloc, bytes)? {
-        Some(text) => Ok(Some(Text::new(format!(in alloc; "{path}:{text}")?))),
+        Some(text) => Ok(Some(Text::new(format!(in alloc; "{path}:{text}")?)?)),
         None => Ok(None),
     }
 }
@@ -89,7 +89,7 @@ fn wrong_text(alloc: Global, bytes: &[u8]) -> Result<Option<Text>, AllocError>
 fn no_text(alloc: Global, line: usize) -> Result<Option<Text>, AllocError>
     ensures { IfOk result (λ found. found ≡ Some (no_text line)) }
 {
-    Ok(Some(Text::new(format!(in alloc; "{line}: not UTF-8")?)))
+    Ok(Some(Text::new(format!(in alloc; "{line}: not UTF-8")?)?))
 }
 
 /// The line on which the byte at an index stands, counted from 1.

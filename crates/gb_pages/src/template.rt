@@ -171,7 +171,7 @@ fn all_pages(
         let Some(page) = page_path(alloc, stem(path.as_str().as_bytes()))? else {
             return Err(ActionFault::ActionFailed(Text::new(format!(in alloc;
                 "{path}: no path of a page"
-            )?)));
+            )?)?));
         };
         let made = layout.replace(alloc, sign, bytes.as_slice())?;
         pages.push((page, Bytes::new(made)))?;

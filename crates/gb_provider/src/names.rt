@@ -16,7 +16,7 @@ fn label(alloc: Global, owner: &str, name: &str) -> Result<Text, AllocError>
     let mut text = String::from_str(alloc, owner)?;
     text.push_str("#")?;
     text.push_str(name)?;
-    Ok(Text::new(text))
+    Text::new(text)
 }
 
 // Puts the name of a property or an output behind the others.

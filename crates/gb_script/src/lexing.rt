@@ -156,7 +156,7 @@ fn content(alloc: Global, text: &str) -> Result<Option<(Text, &str)>, AllocError
         let (run, after) = plain_run(rest);
         content.push_str(run)?;
         if begins(after, b'"') {
-            return Ok(Some((Text::new(content), past_first(after))));
+            return Ok(Some((Text::new(content)?, past_first(after))));
         }
         let Some((found, behind)) = escape(after) else {
             return Ok(None);
