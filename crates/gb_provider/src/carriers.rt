@@ -24,14 +24,14 @@ use gb_core::value::Value;
 use std::alloc::{AllocError, Global};
 use std::marker::Model;
 
-// That an expression has these.
+/// That an expression has these.
 fn settle(alloc: Global, found: Produced) -> Result<Reading<Shared<Produced>>, AllocError>
     ensures { IfOk result (λ settled. settled ≡ Reading.Settles found) }
 {
     Ok(Reading::Settles(Shared::new(alloc, found)?))
 }
 
-// One task alone.
+/// One task alone.
 fn one_task(alloc: Global, task: &TaskPath) -> Result<Produced, AllocError>
     ensures { IfOk result (λ found. found ≡ Produced.Tasks (task.now ∷ [])) }
 {
@@ -49,7 +49,7 @@ fn tasks_of(alloc: Global, value: &Value) -> Result<Produced, AllocError>
     }
 }
 
-// Those of a constant.
+/// Those of a constant.
 fn carry_constant(
     alloc: Global,
     value: &Option<Value>,
@@ -62,14 +62,14 @@ fn carry_constant(
     }
 }
 
-// The task of an output.
+/// The task of an output.
 fn carry_output(alloc: Global, task: &TaskPath) -> Result<Reading<Shared<Produced>>, AllocError>
     ensures { IfOk result (λ found. found ≡ Reading.Settles (Produced.Tasks (task.now ∷ []))) }
 {
     settle(alloc, one_task(alloc, task)?)
 }
 
-// Those of another expression.
+/// Those of another expression.
 fn carry(
     states: &[State<Shared<Produced>>],
     operand: usize,
@@ -104,7 +104,7 @@ fn carry_all(
     settle(alloc, Produced::Tasks(tasks))
 }
 
-// Whether the tasks of an operand are known.
+/// Whether the tasks of an operand are known.
 fn has_tasks(states: &[State<Shared<Produced>>], operand: usize) -> bool
     requires { operand < length states.now }
     ensures { result ≡ has_tasks (known states.now operand) }
@@ -115,7 +115,7 @@ fn has_tasks(states: &[State<Shared<Produced>>], operand: usize) -> bool
     }
 }
 
-// The first operand from here on whose tasks are not known.
+/// The first operand from here on whose tasks are not known.
 fn past_tasks(states: &[State<Shared<Produced>>], operands: &[usize], from: usize) -> usize
     requires operands { All (λ operand. operand < length states.now) operands.now }
     requires before { AreBefore (λ operand. has_tasks (known states.now operand)) operands.now from }
@@ -130,7 +130,7 @@ fn past_tasks(states: &[State<Shared<Produced>>], operands: &[usize], from: usiz
     at
 }
 
-// One look at operands, the tasks of whose first ones are known.
+/// One look at operands, the tasks of whose first ones are known.
 fn look_all(
     alloc: Global,
     states: &[State<Shared<Produced>>],
@@ -176,7 +176,7 @@ fn carry_property(
     }
 }
 
-// Those of the side that the outcome of the left takes.
+/// Those of the side that the outcome of the left takes.
 fn carry_side(
     alloc: Global,
     states: &[State<Shared<Produced>>],
@@ -200,7 +200,7 @@ fn carry_side(
     }
 }
 
-// The task of the output that a function chooses.
+/// The task of the output that a function chooses.
 fn apply<T: Transforms>(
     alloc: Global,
     call: &Call<T::FlatMap>,
@@ -260,7 +260,7 @@ impl<'b, 'a, T: Transforms> Model for TaskReader<'b, 'a, T> {
 }
 
 impl<'b, 'a, T: Transforms> TaskReader<'b, 'a, T> {
-    // What an expression comes to that has to choose; nothing where it runs into a circle.
+    /// What an expression comes to that has to choose; nothing where it runs into a circle.
     fn value_of(&mut self, at: usize) -> Result<Option<Shared<Outcome>>, AllocError>
         requires { at < length self.old }
         ensures value { IfOk result (λ found. found ≡ value_of T.meanings self.old at) }
@@ -270,7 +270,7 @@ impl<'b, 'a, T: Transforms> TaskReader<'b, 'a, T> {
         recall_outcome::<T>(self.alloc, nodes, self.outputs, &mut self.values, at)
     }
 
-    // The tasks of what the value of a source chooses.
+    /// The tasks of what the value of a source chooses.
     fn read_choice(
         &mut self,
         source: usize,
@@ -287,7 +287,7 @@ impl<'b, 'a, T: Transforms> TaskReader<'b, 'a, T> {
         settle(alloc, choose_tasks::<T>(alloc, source, call, chooser)?)
     }
 
-    // Those of the side that the value of the left takes.
+    /// Those of the side that the value of the left takes.
     fn read_side(
         &mut self,
         states: &[State<Shared<Produced>>],
@@ -307,7 +307,7 @@ impl<'b, 'a, T: Transforms> TaskReader<'b, 'a, T> {
         carry_side(alloc, states, left, right, chooser)
     }
 
-    // One look at an expression whose operands are not many.
+    /// One look at an expression whose operands are not many.
     fn read(
         &mut self,
         states: &[State<Shared<Produced>>],
@@ -333,7 +333,7 @@ impl<'b, 'a, T: Transforms> TaskReader<'b, 'a, T> {
         }
     }
 
-    // One look at an expression, from behind its first operands on.
+    /// One look at an expression, from behind its first operands on.
     fn look_at(
         &mut self,
         states: &[State<Shared<Produced>>],

@@ -28,7 +28,7 @@ fn apply(change: Change, property: &mut Property)
     }
 }
 
-// Whether a property takes a change: a final one only to be final.
+/// Whether a property takes a change: a final one only to be final.
 fn takes(change: &Change, is_final: bool) -> bool
     ensures { result ≡ takes change.now is_final }
 {

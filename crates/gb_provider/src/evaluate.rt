@@ -23,7 +23,7 @@ use gb_core::value::Value;
 use std::alloc::{AllocError, Global};
 use std::marker::Model;
 
-// The answer of an entry, to be shared, where it is known.
+/// The answer of an entry, to be shared, where it is known.
 pub(crate) fn shared_at<A>(states: &[State<A>], at: usize) -> Option<&A>
     requires { at < length states.now }
     ensures { option_copied result ≡ known states.now at }
@@ -34,7 +34,7 @@ pub(crate) fn shared_at<A>(states: &[State<A>], at: usize) -> Option<&A>
     }
 }
 
-// The answer of an entry, where it is known.
+/// The answer of an entry, where it is known.
 pub(crate) fn known_at<A: Drop>(states: &[State<Shared<A>>], at: usize) -> Option<&A>
     requires { at < length states.now }
     ensures { option_copied result ≡ known states.now at }
@@ -45,14 +45,14 @@ pub(crate) fn known_at<A: Drop>(states: &[State<Shared<A>>], at: usize) -> Optio
     }
 }
 
-// That an expression comes to this.
+/// That an expression comes to this.
 fn settle(alloc: Global, outcome: Outcome) -> Result<Reading<Shared<Outcome>>, AllocError>
     ensures { IfOk result (λ found. found ≡ Reading.Settles outcome) }
 {
     Ok(Reading::Settles(Shared::new(alloc, outcome)?))
 }
 
-// A value, or nothing.
+/// A value, or nothing.
 fn read_constant(
     alloc: Global,
     value: &Option<Value>,
@@ -65,7 +65,7 @@ fn read_constant(
     }
 }
 
-// What an operand gives.
+/// What an operand gives.
 fn follow(
     states: &[State<Shared<Outcome>>],
     operand: usize,
@@ -118,7 +118,7 @@ fn read_property(
     }
 }
 
-// What an output comes to that is declared as this expression, or is not declared.
+/// What an output comes to that is declared as this expression, or is not declared.
 fn read_output(
     alloc: Global,
     states: &[State<Shared<Outcome>>],
@@ -139,7 +139,7 @@ fn read_output(
     }
 }
 
-// The fault of a function that refuses; or that memory ran out.
+/// The fault of a function that refuses; or that memory ran out.
 pub(crate) fn refused_by(function: &Text, fault: TransformFault) -> Result<ValueFault, AllocError>
     ensures { IfOk result (λ refused. RefusedAs function.now fault refused) }
 {
@@ -225,7 +225,7 @@ fn read_zip<T: Transforms>(
     }
 }
 
-// What an output comes to that was chosen, or that none was.
+/// What an output comes to that was chosen, or that none was.
 fn read_chosen<M, F, Z>(
     alloc: Global,
     nodes: &[Expression<M, F, Z>],
@@ -298,7 +298,7 @@ fn read_flat_map<T: Transforms>(
     }
 }
 
-// That an element of a list is no text.
+/// That an element of a list is no text.
 fn refuse_element(alloc: Global) -> Result<Outcome, AllocError>
     ensures { IfOk result (λ outcome. outcome ≡ refused (codes "list") WrongValue) }
 {
@@ -332,7 +332,7 @@ fn read_list(
     settle(alloc, Outcome::Given(Value::List(texts)))
 }
 
-// Whether an operand is known to be a value.
+/// Whether an operand is known to be a value.
 fn is_given(states: &[State<Shared<Outcome>>], operand: usize) -> bool
     requires { operand < length states.now }
     ensures { result ≡ is_given (known states.now operand) }
@@ -343,7 +343,7 @@ fn is_given(states: &[State<Shared<Outcome>>], operand: usize) -> bool
     }
 }
 
-// The first operand from here on that is not known to be a value.
+/// The first operand from here on that is not known to be a value.
 fn past_texts(states: &[State<Shared<Outcome>>], operands: &[usize], from: usize) -> usize
     requires operands { All (λ operand. operand < length states.now) operands.now }
     requires before { AreBefore (λ operand. is_given (known states.now operand)) operands.now from }
@@ -358,7 +358,7 @@ fn past_texts(states: &[State<Shared<Outcome>>], operands: &[usize], from: usize
     at
 }
 
-// One look at a list, whose first elements are known to be values.
+/// One look at a list, whose first elements are known to be values.
 fn look_list(
     alloc: Global,
     states: &[State<Shared<Outcome>>],
@@ -384,7 +384,7 @@ fn look_list(
     Ok(Look::whole(read_list(alloc, states, operands)?))
 }
 
-// One look at an expression, from behind its first operands on.
+/// One look at an expression, from behind its first operands on.
 fn look_at<T: Transforms>(
     alloc: Global,
     nodes: &[Expression<T::Map, T::FlatMap, T::Zip>],

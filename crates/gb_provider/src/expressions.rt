@@ -30,7 +30,7 @@ pub(crate) fn place_of<M, F, Z>(
     outputs.get(chosen).copied()
 }
 
-// Tells where an output stands.
+/// Tells where an output stands.
 fn index_output(outputs: &mut Outputs, chosen: &Chosen, number: usize) -> Result<(), AllocError>
     ensures ok { OnOk result ((key : Chosen)
         → get chosen_order outputs.new key
@@ -43,7 +43,7 @@ fn index_output(outputs: &mut Outputs, chosen: &Chosen, number: usize) -> Result
     Ok(())
 }
 
-// Puts an expression behind the others, for which there is room.
+/// Puts an expression behind the others, for which there is room.
 fn push_reserved<'a, M: Drop, F: Drop, Z: Drop>(
     nodes: &mut Vec<Expression<'a, M, F, Z>>,
     node: Expression<'a, M, F, Z>,

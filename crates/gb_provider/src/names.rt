@@ -19,7 +19,7 @@ fn label(alloc: Global, owner: &str, name: &str) -> Result<Text, AllocError>
     Text::new(text)
 }
 
-// Puts the name of a property or an output behind the others.
+/// Puts the name of a property or an output behind the others.
 fn push_name<M, F, Z>(
     alloc: Global,
     node: &Expression<M, F, Z>,
@@ -61,7 +61,7 @@ fn push_name_at<M, F, Z>(
     Ok(())
 }
 
-// The names along these expressions.
+/// The names along these expressions.
 fn names_on<M, F, Z>(
     alloc: Global,
     nodes: &[Expression<M, F, Z>],
@@ -76,7 +76,7 @@ fn names_on<M, F, Z>(
     Ok(names)
 }
 
-// Whether the round of so many names from one place on comes before that from another.
+/// Whether the round of so many names from one place on comes before that from another.
 fn is_before(names: &[Text], count: usize, place: usize, other: usize) -> bool
     requires place { place + count ≤ length names.now }
     requires other { other + count ≤ length names.now }
@@ -93,7 +93,7 @@ fn is_before(names: &[Text], count: usize, place: usize, other: usize) -> bool
     }
 }
 
-// Where the least round of so many names begins, which stand twice.
+/// Where the least round of so many names begins, which stand twice.
 fn least_place(names: &[Text], count: usize) -> usize
     requires { count + count ≡ length names.now }
     ensures within { result ≤ count }
@@ -109,7 +109,7 @@ fn least_place(names: &[Text], count: usize) -> usize
     least
 }
 
-// Copies of texts, behind others.
+/// Copies of texts, behind others.
 fn push_copies(texts: &[Text], to: &mut Texts) -> Result<(), AllocError>
     ensures { IfOk result (λ _. to.new ≡ to.old ++ texts.now) }
 {
@@ -119,7 +119,7 @@ fn push_copies(texts: &[Text], to: &mut Texts) -> Result<(), AllocError>
     Ok(())
 }
 
-// The least round of names.
+/// The least round of names.
 fn least_round(alloc: Global, names: Texts) -> Result<Texts, AllocError>
     ensures { IfOk result (λ round. IsLeastRound names round) }
 {

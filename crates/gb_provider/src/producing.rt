@@ -22,7 +22,7 @@ use gb_core::tasks::TaskPaths;
 use std::alloc::{AllocError, Global};
 use std::mem;
 
-// Looks for the tasks of an expression: afterwards they are known, unless it runs into a circle.
+/// Looks for the tasks of an expression: afterwards they are known, unless it runs into a circle.
 fn evaluate_producers<T: Transforms>(
     alloc: Global,
     nodes: &[Expression<T::Map, T::FlatMap, T::Zip>],
@@ -53,7 +53,7 @@ fn evaluate_producers<T: Transforms>(
     found
 }
 
-// Tells that the value of an expression, which has to choose, never comes.
+/// Tells that the value of an expression, which has to choose, never comes.
 fn tell_endless<T: Transforms>(
     alloc: Global,
     nodes: &[Expression<T::Map, T::FlatMap, T::Zip>],
@@ -75,7 +75,7 @@ fn tell_endless<T: Transforms>(
     }
 }
 
-// Tells the tasks that are known.
+/// Tells the tasks that are known.
 fn tell_producers<T: Transforms>(
     alloc: Global,
     nodes: &[Expression<T::Map, T::FlatMap, T::Zip>],

@@ -75,7 +75,7 @@ impl<'a, T: Transforms> Providers<'a, T> {
         node.number < self.nodes.len()
     }
 
-    // Puts an expression that is no output behind the others. What is remembered stays right.
+    /// Puts an expression that is no output behind the others. What is remembered stays right.
     fn add(
         &mut self,
         expression: Expression<'a, T::Map, T::FlatMap, T::Zip>,
@@ -152,7 +152,7 @@ impl<'a, T: Transforms> Providers<'a, T> {
         self.add(Expression::OrElse(left.number, right.number))
     }
 
-    // Puts an output that does not stand yet behind the others. Nothing is remembered after it.
+    /// Puts an output that does not stand yet behind the others. Nothing is remembered after it.
     fn add_output(&mut self, chosen: Chosen, declared: Option<usize>) -> Result<Node, AllocError>
         requires within { PlaceWithin (length self.old.nodes) declared }
         requires new { output_place self.old.nodes chosen ≡ None }
@@ -275,7 +275,7 @@ impl<'a, T: Transforms> Providers<'a, T> {
         Ok(node)
     }
 
-    // Changes a property. Values stay remembered if it was not read since they were last forgotten.
+    /// Changes a property. Values stay remembered if it was not read since they were last forgotten.
     fn change(&mut self, node: Node, change: Change) -> Result<(), Final>
         requires node { node.number < length self.old.nodes }
         requires change { ChangeWithin (length self.old.nodes) change }
@@ -395,7 +395,7 @@ impl<'a, T: Transforms> Providers<'a, T> {
         }
     }
 
-    // The answer of a test that takes as many arguments.
+    /// The answer of a test that takes as many arguments.
     fn test_by(
         &mut self,
         node: Node,
@@ -416,7 +416,7 @@ impl<'a, T: Transforms> Providers<'a, T> {
     }
 }
 
-// The test of a name, if it takes so many arguments.
+/// The test of a name, if it takes so many arguments.
 fn accepted_test<'a, T: Transforms>(
     table: &'a TransformTable<T::Map, T::FlatMap, T::Zip, T::Test>,
     name: &str,
@@ -434,7 +434,7 @@ fn accepted_test<'a, T: Transforms>(
     Ok(test)
 }
 
-// Asks a test of a value.
+/// Asks a test of a value.
 fn ask<T: Transforms>(
     alloc: Global,
     test: &T::Test,
@@ -454,7 +454,7 @@ fn ask<T: Transforms>(
     }
 }
 
-// The same of a value that nobody needs any more.
+/// The same of a value that nobody needs any more.
 fn ask_once<T: Transforms>(
     alloc: Global,
     test: &T::Test,

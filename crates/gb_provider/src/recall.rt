@@ -20,7 +20,7 @@ use crate::transforms::Transforms;
 use gb_core::value::Value;
 use std::alloc::{AllocError, Global};
 
-// Gives each expression a state.
+/// Gives each expression a state.
 pub(crate) fn extend<A: Drop>(states: &mut Vec<State<A>>, count: usize) -> Result<(), AllocError>
     requires { length states.old.items ≤ count }
     ensures known { (e : ℕ) → known states.new.items e ≡ known states.old.items e }
@@ -45,7 +45,7 @@ pub(crate) fn forget<A: Drop>(states: &mut Vec<State<A>>, number: usize)
     }
 }
 
-// Whether an answer is known.
+/// Whether an answer is known.
 fn is_known_at<A>(states: &[State<A>], number: usize) -> bool
     ensures { OnFalse result (known states.now number ≡ None) }
 {
@@ -55,7 +55,7 @@ fn is_known_at<A>(states: &[State<A>], number: usize) -> bool
     }
 }
 
-// Tells the answer that is known.
+/// Tells the answer that is known.
 fn tell(
     alloc: Global,
     states: &[State<Shared<Outcome>>],
@@ -73,7 +73,7 @@ fn tell(
     }
 }
 
-// Evaluates an expression: afterwards its value is known, unless it runs into a circle.
+/// Evaluates an expression: afterwards its value is known, unless it runs into a circle.
 fn evaluate_value<T: Transforms>(
     alloc: Global,
     nodes: &[Expression<T::Map, T::FlatMap, T::Zip>],
@@ -138,7 +138,7 @@ pub(crate) fn recall<T: Transforms>(
     }
 }
 
-// The answer that is known, to be shared.
+/// The answer that is known, to be shared.
 fn share_known(
     states: &[State<Shared<Outcome>>],
     number: usize,

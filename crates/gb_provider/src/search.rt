@@ -30,7 +30,7 @@ pub(crate) trait Entries {
         ensures kept { self.new ≡ self.old };
 }
 
-// The end of a path, from an entry of it on.
+/// The end of a path, from an entry of it on.
 fn circle_from(alloc: Global, path: &[usize], operand: usize) -> Result<Vec<usize>, AllocError>
     requires { (k : ℕ) × (k < length path.now) × (slice_index path.now k ≡ operand) }
     ensures { IfOk result (λ circle. (k : ℕ) × (k < length path.now) × (slice_index path.now k ≡ operand)
@@ -44,7 +44,7 @@ fn circle_from(alloc: Global, path: &[usize], operand: usize) -> Result<Vec<usiz
     unreachable!()
 }
 
-// A list of one number.
+/// A list of one number.
 fn one(alloc: Global, number: usize) -> Result<Vec<usize>, AllocError>
     ensures { IfOk result (λ list. list.items ≡ number ∷ []) }
 {
@@ -53,7 +53,7 @@ fn one(alloc: Global, number: usize) -> Result<Vec<usize>, AllocError>
     Ok(list)
 }
 
-// Opens an entry for which the last one of a path waits.
+/// Opens an entry for which the last one of a path waits.
 fn enter<A: Drop>(
     states: &mut Vec<State<A>>,
     path: &mut Vec<usize>,
@@ -73,7 +73,7 @@ fn enter<A: Drop>(
     Ok(())
 }
 
-// Replaces a state.
+/// Replaces a state.
 fn put<A: Drop>(states: &mut Vec<State<A>>, at: usize, state: State<A>)
     requires { at < length states.old.items }
     ensures { states.new.items ≡ slice_set states.old.items at state }
