@@ -20,6 +20,7 @@ pub trait Actions {
     /// Each kind writes files of its own output alone.
     ghost own_output: { (kind : ℕ) → WritesItsOutput meanings kind };
 
+    /// What a call of the action has to be like.
     fn shape_of(stored: &Self::Stored) -> &Shape
         ensures { result.now ≡ shape_of meanings stored.now };
 
