@@ -15,6 +15,7 @@ pub trait Actions {
     /// One action: a closure, beside its kind.
     type Stored: Drop;
 
+    /// What each kind takes, makes and prints, and the kind and version of each stored action.
     ghost meanings: { Meanings Self.Stored };
 
     /// Each kind writes files of its own output alone.
