@@ -94,7 +94,7 @@ impl ArgList {
         Ok(())
     }
 
-    /// What each argument has to be.
+    /// What each argument has to be, the first in front.
     pub fn as_slice(&self) -> &[Parameter]
         ensures { result.now ≡ self.now }
     {
@@ -106,15 +106,20 @@ impl ArgList {
 /// its output `out` is, if it writes files, and whether it can answer changes alone.
 #[derive(Drop)]
 pub struct Shape {
+    /// How many arguments it takes, and what each has to be.
     pub args: ArgList,
+    /// Whether it reads the file property `src`.
     pub src: bool,
+    /// The form of the output `out`, or nothing if it writes no files.
     pub out: Option<Form>,
+    /// Whether it can answer changes alone, over what it wrote before.
     pub incremental: bool,
 }
 
 /// Whether an action can be asked.
 #[derive(Clone, Copy, PartialEq, Eq)]
 pub enum Fit {
+    /// It can be asked.
     Yes,
     /// An argument is not what it has to be, or there are too few or too many.
     BadArgument,

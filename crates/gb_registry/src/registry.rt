@@ -103,6 +103,7 @@ impl Registry {
         })
     }
 
+    /// The projects in the order in which they are included, the root in front.
     pub fn projects(&self) -> &ProjectSet
         ensures { result.now ≡ self.now.names.projects }
     {
