@@ -50,6 +50,7 @@ pub use gb_provider::expression::Node;
 pub use gb_provider::providers::Providers;
 pub use gb_provider::table::TransformTable;
 pub use gb_provider::transforms::Transforms;
+pub use gb_registry::configured::Configured;
 pub use gb_registry::registry::Registry;
 pub use gb_registry::tables::Tables;
 pub use gb_report::render::{render, render_fault};

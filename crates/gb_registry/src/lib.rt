@@ -3,6 +3,7 @@
 
 pub mod checking;
 pub mod configure;
+pub mod configured;
 pub mod laws;
 pub mod missing;
 pub mod names;
