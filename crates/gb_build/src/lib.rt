@@ -23,7 +23,7 @@ pub use gb_action::output::Form;
 pub use gb_action::reply::{ActionFault, Reply};
 pub use gb_action::request::Request;
 pub use gb_action::run::{accepts, run_action};
-pub use gb_action::shape::{Arg, ArgList, Fit, Shape};
+pub use gb_action::shape::{Arg, ArgList, Fit, Parameter, Shape};
 pub use gb_action::snapshot::Snapshot;
 pub use gb_core::bytes::Bytes;
 pub use gb_core::name::Name;

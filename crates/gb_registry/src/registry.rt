@@ -106,6 +106,7 @@ impl Registry {
         Ok(Configured { tables, registry })
     }
 
+    /// The projects in the order in which they are included, the root in front.
     pub fn projects(&self) -> &ProjectSet
         ensures { result.now ≡ self.now.names.projects }
     {
