@@ -3,6 +3,6 @@
 #![tactic(auto)]
 
 pub mod answer;
-pub mod boxes;
+mod boxes;
 pub mod printing;
 mod tables;
