@@ -3,6 +3,6 @@
 #![tactic(auto)]
 
 pub mod answer;
-mod boxes;
+pub mod boxes;
 pub mod printing;
 mod tables;
