@@ -1,0 +1,44 @@
+use Rattle.std.proofs.Common.{inl, inr, refl, sym, subst}
+use Rattle.std.proofs.lemmas.Result.{err_from_is_err_and}
+use Rattle.gb_folder.specs.Files.{Contents}
+use Rattle.gb_invocation.proofs.Reading.{not_read, registered}
+use Rattle.gb_meaning.specs.Edits.{Shown}
+use Rattle.gb_project.specs.Registered.{registry_said}
+use Rattle.gb_registry.specs.Tables.{tables_of}
+use Rattle.gb_why_command.specs.Told.{Answer, IsAnswerTo, in_earnest}
+use Rattle.gb_why_command.proofs.Telling.{answers_it, shows}
+use Rattle.gb_why_command.proofs.telling.tell.Goals as goal
+
+pub returns-in_err-given-clause-answer : goal.returns-in_err-given-clause-answer
+returns-in_err-given-clause-answer g c =
+    let F = g.F.Folder in
+    let tables = tables_of g.T.Transforms.meanings g.A.Actions.meanings c.args.tables.now in
+    let old : Shown = shows (F.contents c.args.folder.now) (F.failures c.args.folder.now) in
+    let p = err_from_is_err_and c.from_residual.result c.from_residual.ensures.1 in
+    subst (λ (r : Answer). IsAnswerTo tables F.tells c.args.asked.now old r old.failures) (sym p.1) (λ tells. inr (inr (inl p.2)))
+
+pub returns-in_err-registry-clause-answer : goal.returns-in_err-registry-clause-answer
+returns-in_err-registry-clause-answer g c =
+    let F = g.F.Folder in
+    let tables = tables_of g.T.Transforms.meanings g.A.Actions.meanings c.args.tables.now in
+    let old : Shown = shows (F.contents c.args.folder.now) (F.failures c.args.folder.now) in
+    let after = F.failures c.read_registry.new.folder in
+    let residual = c.from_residual-in_err-registry in
+    let p = err_from_is_err_and residual.result residual.ensures.1 in
+    subst (λ (r : Answer). IsAnswerTo tables F.tells c.args.asked.now old r after) (sym p.1)
+    (λ tells. not_read tables old.contents (in_earnest c.args.asked.now) c.in_ok-given.given.items c.in_ok-given.ensures
+    c.read_registry.result c.in_err-registry.field-0.0 p.0 old.failures after c.in_err-registry.was p.2 c.read_registry.ensures.blamed (c.in_err-registry.ensures.said tells)
+    old refl refl)
+
+pub returns-clause-answer : goal.returns-clause-answer
+returns-clause-answer g c =
+    let F = g.F.Folder in
+    let tables = tables_of g.T.Transforms.meanings g.A.Actions.meanings c.args.tables.now in
+    let asked = c.args.asked.now in
+    let source = c.in_ok-registry.registry in
+    let old : Contents = F.contents c.args.folder.now in
+    let mid : Contents = F.contents c.read_registry.new.folder in
+    answers_it tables F.tells asked old mid (F.failures c.args.folder.now) (F.failures c.read_registry.new.folder) (F.failures c.tell_registered.new.folder)
+    c.read_registry.ensures.same c.read_registry.ensures.asks.count c.tell_registered.ensures.asks.count (registry_said tables source)
+    (λ tells. registered tables old c.in_ok-given.given.items asked.properties c.in_ok-given.ensures source (c.in_ok-registry.ensures.said tells))
+    c.tell_registered.result c.tell_registered.ensures.sound c.tell_registered.ensures.told c.tell_registered.ensures.not_told
