@@ -78,7 +78,7 @@ module _ {S : Type 0} (meanings : Meanings S) (rows : Rows S) (options : Options
     paths = is.paths;
     reasoned = is.reasoned;
     marked = is.marked;
-    on = λ yes. on_since (same yes) earlier count plan told (is.on yes);
+    foretold = λ yes. on_since (same yes) earlier count plan told (is.foretold yes);
   }
 
 -- ---- What was asked for
@@ -95,7 +95,7 @@ module _ {M F Z S A : Type 0} (tables : Tables M F Z S A) (tells : Bool) (asked 
     registry = registry;
     is_registry = sound;
     scripts = scripts;
-    of = (
+    told_of = (
       is.0,
       is.1,
       told_since tables.shapes tables.kinds asked.options contents mid before later after tells same earlier count is.0 told.items is.2,

@@ -64,7 +64,7 @@ pub record AreTold {S : Type 0} (tells : Bool) (meanings : Meanings S) (rows : R
   pub paths : map (λ one. one.path) told ≡ order plan
   pub reasoned : AllByRecursion (λ one. IsReasoned one.coming) told
   pub marked : AreMarked plan told
-  pub on : IsTrue tells → AreToldOn meanings rows options old after plan told
+  pub foretold : IsTrue tells → AreToldOn meanings rows options old after plan told
 
 -- those of the plan of what is asked of a registry
 abbrev pub AreToldOf : {S : Type 0} → Bool → Meanings S → Rows S → Registry → List Text → List Text → Options
@@ -100,7 +100,7 @@ module _ {M F Z S A : Type 0} (tables : Tables M F Z S A) (tells : Bool) where
     pub registry : Registry
     pub is_registry : IsRegistry registry
     pub scripts : IsTrue tells → registers_in tables (outside old.contents).files asked.properties (Ok registry)
-    pub of : AreToldOf tells tables.shapes tables.kinds registry asked.requested asked.excluded asked.options
+    pub told_of : AreToldOf tells tables.shapes tables.kinds registry asked.requested asked.excluded asked.options
         old after told
 
   -- what is asked for is told; or where the folder tells, a build of it is refused for this

@@ -58,7 +58,7 @@ returns-clause-told g c =
       paths = c.in_ok-told.ensures.paths;
       reasoned = c.in_ok-told.ensures.reasoned;
       marked = c.in_ok-told.ensures.marked;
-      on = λ tells. record {
+      foretold = λ tells. record {
         records = records;
         read =
             subst (λ (read : List (Option Remembered)). AllZip (IsReadAt old.files) (order plan) read) (sym c.as_slice-2.ensures.value)
