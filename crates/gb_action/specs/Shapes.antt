@@ -9,6 +9,8 @@ use Rattle.gb_action.specs.declared.output.Form.{Form}
 use Rattle.gb_action.specs.declared.output.Form.TheVariants as forms
 use Rattle.gb_action.specs.declared.shape.Arg.{Arg}
 use Rattle.gb_action.specs.declared.shape.Arg.TheVariants as args
+use Rattle.gb_action.specs.declared.shape.Parameter.{Parameter}
+use Rattle.gb_action.specs.declared.shape.Parameter.TheVariants.{Optional, Required}
 use Rattle.gb_action.specs.declared.shape.Shape.{Shape}
 use Rattle.gb_action.specs.declared.shape.Fit.{Fit}
 use Rattle.gb_action.specs.declared.shape.Fit.TheVariants.{Yes, BadArgument, BadShape}
@@ -37,12 +39,22 @@ arg_fits arg (values.List texts) = false
 arg_fits arg (values.Place place) = false
 arg_fits arg (values.Task task) = false
 
--- as many values as arguments, and each fits
-abbrev pub args_fit : List Arg → List Value → Bool
+-- what an argument has to be, where it is given
+abbrev pub arg_of : Parameter → Arg
+arg_of (Required arg) = arg
+arg_of (Optional arg) = arg
+
+abbrev pub is_optional : Parameter → Bool
+is_optional (Required arg) = false
+is_optional (Optional arg) = true
+
+-- each value fits the parameter at its place, and the parameters behind them are optional
+abbrev pub args_fit : List Parameter → List Value → Bool
 args_fit [] [] = true
-args_fit (arg ∷ args) (value ∷ values) = arg_fits arg value && args_fit args values
+args_fit (parameter ∷ parameters) (value ∷ values) =
+    arg_fits (arg_of parameter) value && args_fit parameters values
 args_fit [] (value ∷ values) = false
-args_fit (arg ∷ args) [] = false
+args_fit (parameter ∷ parameters) [] = is_optional parameter && args_fit parameters []
 
 abbrev pub is_form : Form → Form → Bool
 is_form forms.File forms.File = true

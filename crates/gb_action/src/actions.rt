@@ -15,11 +15,13 @@ pub trait Actions {
     /// One action: a closure, beside its kind.
     type Stored: Drop;
 
+    /// What each kind takes, makes and prints, and the kind and version of each stored action.
     ghost meanings: { Meanings Self.Stored };
 
     /// Each kind writes files of its own output alone.
     ghost own_output: { (kind : ℕ) → WritesItsOutput meanings kind };
 
+    /// What a call of the action has to be like.
     fn shape_of(stored: &Self::Stored) -> &Shape
         ensures { result.now ≡ shape_of meanings stored.now };
 

@@ -13,8 +13,11 @@ use std::marker::Model;
 /// What became of a path of a tree.
 #[derive(Drop)]
 pub enum Change {
+    /// A file that was not there before, by its path in the tree.
     Added(RelPath),
+    /// A file whose bytes differ.
     Modified(RelPath),
+    /// A file that is gone.
     Removed(RelPath),
 }
 
@@ -52,6 +55,7 @@ impl ChangeList {
         Ok(())
     }
 
+    /// The changes in the byte order of their paths.
     pub fn as_slice(&self) -> &[Change]
         ensures { result.now ≡ self.now }
     {
@@ -100,6 +104,7 @@ impl ChangeLists {
         find_named(self.lists.as_slice(), name)
     }
 
+    /// The lists in the order of their names.
     pub fn as_slice(&self) -> &[(Name, ChangeList)]
         ensures { result.now ≡ self.now }
     {
@@ -111,11 +116,14 @@ impl ChangeLists {
 /// and against no files at all in a full one.
 #[derive(Drop)]
 pub struct InputChanges {
+    /// Whether the lists are told since the last run; if not, all files count as added.
     pub incremental: bool,
+    /// One list for each incremental file property, an empty one too.
     pub lists: ChangeLists,
 }
 
 impl InputChanges {
+    /// Whether the request is an incremental one; where not, all is to be written anew.
     pub fn is_incremental(&self) -> bool
         ensures { result ≡ self.now.incremental }
     {

@@ -58,12 +58,14 @@ impl<T: Drop> ActionList<T> {
         Ok(())
     }
 
+    /// How many actions there are.
     pub fn len(&self) -> usize
         ensures { result ≡ length self.now }
     {
         self.actions.len()
     }
 
+    /// Whether the task has no action.
     pub fn is_empty(&self) -> bool
         ensures { IsTrue result ↔ (self.now ≡ []) }
     {

@@ -13,7 +13,9 @@ use std::marker::Model;
 /// Whether an output is one file or all files beneath a place.
 #[derive(Clone, Copy, PartialEq, Eq)]
 pub enum Form {
+    /// One file, at the output's own place.
     File,
+    /// All files beneath the output's place.
     Dir,
 }
 
@@ -33,8 +35,11 @@ impl Form {
 /// contents in an incremental request only; in a full one there are none.
 #[derive(Drop)]
 pub struct OutputFiles {
+    /// Its name in the task, as `out`.
     pub name: Name,
+    /// One file, or all beneath its place.
     pub form: Form,
+    /// What stands there, by path from its place: the empty path for one file.
     pub files: Files,
 }
 
@@ -94,6 +99,7 @@ impl OutputSnapshots {
         files.get(path)
     }
 
+    /// The outputs in the order of their names.
     pub fn as_slice(&self) -> &[OutputFiles]
         ensures { result.now ≡ self.now }
     {

@@ -12,8 +12,11 @@ use thiserror::Error;
 /// A file to write: the output, the path from its place (none for the place itself), the bytes.
 #[derive(Drop)]
 pub struct Written {
+    /// The name of an output of the task.
     pub output: Name,
+    /// The path from the output's place, empty for the place itself.
     pub path: RelPath,
+    /// All bytes of the file, which takes the place of what stood there.
     pub bytes: Bytes,
 }
 
@@ -51,6 +54,7 @@ impl Writes {
         Ok(())
     }
 
+    /// The files in the order in which they are written.
     pub fn as_slice(&self) -> &[Written]
         ensures { result.now ≡ self.now }
     {
@@ -61,7 +65,9 @@ impl Writes {
 /// A path of an output.
 #[derive(Drop)]
 pub struct OutputPath {
+    /// The name of an output of the task.
     pub output: Name,
+    /// The path from the output's place, empty for the place itself.
     pub path: RelPath,
 }
 
@@ -99,6 +105,7 @@ impl Removals {
         Ok(())
     }
 
+    /// The paths in the order in which they are removed.
     pub fn as_slice(&self) -> &[OutputPath]
         ensures { result.now ≡ self.now }
     {
@@ -112,14 +119,18 @@ pub type Lines = Texts;
 /// What an action wants done: first the removals, then the writes; and the lines that it prints.
 #[derive(Drop)]
 pub struct Reply {
+    /// Files that go first, before any is written.
     pub removes: Removals,
+    /// Files that are written then.
     pub writes: Writes,
+    /// What it prints, line by line.
     pub lines: Lines,
 }
 
 /// Why an action gave no reply.
 #[derive(Debug, Drop, Error)]
 pub enum ActionFault {
+    /// No memory for the reply; 3.
     #[error("out of memory")]
     OutOfMemory,
     /// The action failed by itself, with this text.

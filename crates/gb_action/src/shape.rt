@@ -1,6 +1,8 @@
 //! What the call of an action looks like.
 ghost use Rattle.std.specs.Prelude.{◌≡◌, [], ◌∷◌, ◌++◌, OnOk, OnErr};
-ghost use Rattle.gb_action.specs.Shapes.{text_fits, arg_fits, args_fit, has_source, has_output, fit};
+ghost use Rattle.gb_action.specs.Shapes.{arg_fits, arg_of, args_fit, fit, has_output, has_source, is_optional};
+ghost use Rattle.gb_action.specs.Shapes.{text_fits};
+ghost use Rattle.gb_action.specs.declared.shape.Parameter.TheVariants.{Optional, Required};
 
 use crate::output::Form;
 use crate::values::Arguments;
@@ -23,19 +25,45 @@ pub enum Arg {
     Rel,
 }
 
+/// What an action takes as one argument.
+#[derive(Clone, Copy)]
+pub enum Parameter {
+    /// An argument has to be given.
+    Required(Arg),
+    /// It may be left out where all behind it are.
+    Optional(Arg),
+}
+
+impl Parameter {
+    /// What the argument has to be, where it is given.
+    fn arg(self) -> Arg
+        ensures { result ≡ arg_of self }
+    {
+        match self {
+            Parameter::Required(arg) | Parameter::Optional(arg) => arg,
+        }
+    }
+
+    fn is_optional(self) -> bool
+        ensures { result ≡ is_optional self }
+    {
+        matches!(self, Parameter::Optional(_))
+    }
+}
+
 /// What the arguments have to be, in order.
 #[derive(Drop)]
 pub struct ArgList {
-    args: Vec<Arg>,
+    parameters: Vec<Parameter>,
 }
 
 impl Model for ArgList {
     ghost use Rattle.std.specs.Prelude.{List};
-    ghost use Rattle.gb_action.specs.declared.shape.Arg.{Arg};
+    ghost use Rattle.gb_action.specs.declared.shape.Parameter.{Parameter};
 
-    ghost Value = { List Arg };
+    ghost Value = { List Parameter };
 
-    ghost view = { λ l. l.args.items };
+    ghost view = { λ l. l.parameters.items };
 }
 
 impl ArgList {
@@ -44,23 +72,33 @@ impl ArgList {
         ensures { result ≡ [] }
     {
         ArgList {
-            args: Vec::new(alloc),
+            parameters: Vec::new(alloc),
         }
     }
 
-    /// Puts an argument behind the others.
+    /// Puts an argument that has to be given behind the others.
     pub fn push(&mut self, arg: Arg) -> Result<(), AllocError>
-        ensures ok { OnOk result (self.new ≡ self.old ++ arg ∷ []) }
+        ensures ok { OnOk result (self.new ≡ self.old ++ Required arg ∷ []) }
         ensures err { OnErr result (self.new ≡ self.old) }
     {
-        self.args.push(arg)?;
+        self.parameters.push(Parameter::Required(arg))?;
         Ok(())
     }
 
-    pub fn as_slice(&self) -> &[Arg]
+    /// Puts an argument that may be left out behind the others.
+    pub fn push_optional(&mut self, arg: Arg) -> Result<(), AllocError>
+        ensures ok { OnOk result (self.new ≡ self.old ++ Optional arg ∷ []) }
+        ensures err { OnErr result (self.new ≡ self.old) }
+    {
+        self.parameters.push(Parameter::Optional(arg))?;
+        Ok(())
+    }
+
+    /// What each argument has to be, the first in front.
+    pub fn as_slice(&self) -> &[Parameter]
         ensures { result.now ≡ self.now }
     {
-        self.args.as_slice()
+        self.parameters.as_slice()
     }
 }
 
@@ -68,15 +106,20 @@ impl ArgList {
 /// its output `out` is, if it writes files, and whether it can answer changes alone.
 #[derive(Drop)]
 pub struct Shape {
+    /// How many arguments it takes, and what each has to be.
     pub args: ArgList,
+    /// Whether it reads the file property `src`.
     pub src: bool,
+    /// The form of the output `out`, or nothing if it writes no files.
     pub out: Option<Form>,
+    /// Whether it can answer changes alone, over what it wrote before.
     pub incremental: bool,
 }
 
 /// Whether an action can be asked.
 #[derive(Clone, Copy, PartialEq, Eq)]
 pub enum Fit {
+    /// It can be asked.
     Yes,
     /// An argument is not what it has to be, or there are too few or too many.
     BadArgument,
@@ -123,15 +166,15 @@ impl Shape {
     }
 }
 
-fn args_fit(args: &[Arg], values: &[Value]) -> bool
-    ensures { result ≡ args_fit args.now values.now }
+fn args_fit(parameters: &[Parameter], values: &[Value]) -> bool
+    ensures { result ≡ args_fit parameters.now values.now }
 {
-    match (args.split_first(), values.split_first()) {
+    match (parameters.split_first(), values.split_first()) {
         (None, None) => true,
-        (Some((arg, rest)), Some((value, others))) => {
-            arg_fits(*arg, value) && args_fit(rest, others)
+        (Some((parameter, rest)), Some((value, others))) => {
+            arg_fits(parameter.arg(), value) && args_fit(rest, others)
         }
-        (Some(_), None) => false,
+        (Some((parameter, rest)), None) => parameter.is_optional() && args_fit(rest, values),
         (None, Some(_)) => false,
     }
 }

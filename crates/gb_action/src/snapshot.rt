@@ -25,18 +25,21 @@ impl Model for Snapshot {
 }
 
 impl Snapshot {
+    /// These files, under the name of their property.
     pub fn new(name: Name, files: Files) -> Snapshot
         ensures { result ≡ (name, files) }
     {
         Snapshot { name, files }
     }
 
+    /// The name of the file property.
     pub fn name(&self) -> &Name
         ensures { result.now ≡ self.now.0 }
     {
         &self.name
     }
 
+    /// Its files, by their paths from its roots.
     pub fn files(&self) -> &Files
         ensures { result.now ≡ self.now.1 }
     {
@@ -96,6 +99,7 @@ impl Snapshots {
         None
     }
 
+    /// The properties in the order of their names.
     pub fn as_slice(&self) -> &[Snapshot]
         ensures { result.now ≡ self.now }
     {

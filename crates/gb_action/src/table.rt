@@ -16,6 +16,7 @@ pub enum TableFault {
     /// The name is taken.
     #[error("duplicate action")]
     DuplicateAction,
+    /// No memory for the entry: the table is as it was; 3.
     #[error("out of memory")]
     OutOfMemory,
 }

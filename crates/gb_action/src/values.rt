@@ -44,6 +44,7 @@ impl Arguments {
         Ok(())
     }
 
+    /// The arguments in their order.
     pub fn as_slice(&self) -> &[Value]
         ensures { result.now ≡ self.now }
     {
@@ -103,6 +104,7 @@ impl NamedValues {
         find_named(self.values.as_slice(), name)
     }
 
+    /// Each value with its name, in the order of the names.
     pub fn as_slice(&self) -> &[(Name, Value)]
         ensures { result.now ≡ self.now }
     {

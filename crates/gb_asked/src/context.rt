@@ -9,7 +9,9 @@ use gb_report::fault::Fault;
 /// What answers about tasks take beside the providers.
 #[derive(Drop)]
 pub struct Context<'a, A: Actions, T: Transforms> {
+    /// The actions and functions that scripts may name.
     pub tables: &'a Tables<A::Stored, T::Map, T::FlatMap, T::Zip, T::Test>,
+    /// The projects that there are.
     pub projects: &'a ProjectSet,
     /// The paths of registered tasks, in the order of registration.
     pub tasks: &'a TextSet,

@@ -15,6 +15,7 @@ pub enum NameFault {
     /// It is none.
     #[error("bad name")]
     BadName,
+    /// No memory for its bytes; 3.
     #[error("out of memory")]
     OutOfMemory,
 }
@@ -65,6 +66,7 @@ impl Model for Name {
 impl Name {
     ghost use Rattle.std.specs.Prelude.{IfOk, IsErrOf, IsTrue};
 
+    /// The name that this text is; any other text is `BadName` (1).
     pub fn read(alloc: Global, text: &str) -> Result<Name, NameFault>
         ensures text { IfOk result (λ name. name ≡ text.now) }
         ensures good { IfOk result (λ _. IsTrue (is_name text.now)) }
@@ -87,6 +89,7 @@ impl Name {
         })
     }
 
+    /// Its 1 to 64 bytes, all of them ASCII.
     pub fn as_str(&self) -> &str
         ensures text { result.now ≡ self.now }
         ensures name { IsTrue (is_name self.now) }

@@ -32,6 +32,7 @@ impl Model for ProjectPath {
 impl ProjectPath {
     ghost use Rattle.std.specs.Prelude.{IfOk, IsErrOf, IsTrue};
 
+    /// The path that this text is; any other text is `BadName` (1).
     pub fn read(alloc: Global, text: &str) -> Result<ProjectPath, NameFault>
         ensures text { IfOk result (λ path. path ≡ text.now) }
         ensures good { IfOk result (λ _. IsTrue (is_project_path text.now)) }
@@ -54,6 +55,7 @@ impl ProjectPath {
         })
     }
 
+    /// The path as it is written, with its first colon.
     pub fn as_str(&self) -> &str
         ensures text { result.now ≡ self.now }
         ensures path { IsTrue (is_project_path self.now) }
@@ -96,6 +98,7 @@ impl TaskPath {
     ghost use Rattle.std.specs.Prelude.{IfOk, IsErrOf, IsTrue};
     ghost use Rattle.gb_core.specs.Path.{task_name, project_of};
 
+    /// The path that this text is, from the root: a text without the first colon is `BadName` (1).
     pub fn read(alloc: Global, text: &str) -> Result<TaskPath, NameFault>
         ensures text { IfOk result (λ path. path ≡ text.now) }
         ensures good { IfOk result (λ _. IsTrue (is_task_path text.now)) }
@@ -118,6 +121,7 @@ impl TaskPath {
         })
     }
 
+    /// The path as it is written, with its first colon.
     pub fn as_str(&self) -> &str
         ensures text { result.now ≡ self.now }
         ensures path { IsTrue (is_task_path self.now) }

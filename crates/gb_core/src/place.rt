@@ -15,6 +15,7 @@ pub enum PlaceFault {
     /// It is none.
     #[error("bad place")]
     BadPlace,
+    /// No memory for its bytes; 3.
     #[error("out of memory")]
     OutOfMemory,
 }
@@ -68,6 +69,7 @@ impl Place {
     ghost use Rattle.std.specs.Option.{option_copied};
     ghost use Rattle.gb_core.specs.Place.{is_beneath, overlaps, joined, beneath};
 
+    /// The place that this text is; any other text is `BadPlace` (2).
     pub fn read(alloc: Global, text: &str) -> Result<Place, PlaceFault>
         ensures text { IfOk result (λ place. place ≡ text.now) }
         ensures good { IfOk result (λ _. IsTrue (is_place text.now)) }
@@ -115,6 +117,7 @@ impl Place {
         })
     }
 
+    /// The place as it is written, without a slash at either end.
     pub fn as_str(&self) -> &str
         ensures text { result.now ≡ self.now }
         ensures place { IsTrue (is_place self.now) }
@@ -173,6 +176,7 @@ impl Model for RelPath {
 impl RelPath {
     ghost use Rattle.std.specs.Prelude.{IfOk, IsErrOf, IsTrue};
 
+    /// The path that this text is: a place, or nothing; any other text is `BadPlace` (2).
     pub fn read(alloc: Global, text: &str) -> Result<RelPath, PlaceFault>
         ensures text { IfOk result (λ path. path ≡ text.now) }
         ensures good { IfOk result (λ _. IsTrue (is_rel_path text.now)) }
@@ -195,6 +199,7 @@ impl RelPath {
         })
     }
 
+    /// The path as it is written, and nothing for the root itself.
     pub fn as_str(&self) -> &str
         ensures text { result.now ≡ self.now }
         ensures path { IsTrue (is_rel_path self.now) }

@@ -54,6 +54,7 @@ impl TaskPaths {
         Ok(())
     }
 
+    /// Whether no task is in.
     pub fn is_empty(&self) -> bool
         ensures { IsTrue result ↔ (self.now ≡ []) }
     {
@@ -112,6 +113,7 @@ impl TaskList {
         Ok(())
     }
 
+    /// The tasks in their order, each as often as it was put in.
     pub fn as_slice(&self) -> &[TaskPath]
         ensures { result.now ≡ self.now }
     {

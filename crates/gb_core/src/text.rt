@@ -50,6 +50,7 @@ impl Text {
         })
     }
 
+    /// Its characters, without a copy.
     pub fn as_str(&self) -> &str
         ensures { result.now ≡ self.now }
     {
@@ -160,6 +161,7 @@ impl Texts {
         Ok(())
     }
 
+    /// The texts in their order.
     pub fn as_slice(&self) -> &[Text]
         ensures { result.now ≡ self.now }
     {

@@ -9,10 +9,15 @@ use std::alloc::{AllocError, Global};
 /// What an input, an output or an argument holds.
 #[derive(Debug, Drop)]
 pub enum Value {
+    /// Any text, as `"a"`.
     Text(Text),
+    /// `true` or `false`.
     Flag(bool),
+    /// Texts in a row, as `["a", "b"]`.
     List(Texts),
+    /// The place of a file or a folder, from the folder of the build.
     Place(Place),
+    /// A task, as `task("gen")` gives it.
     Task(TaskPath),
 }
 

@@ -11,8 +11,11 @@ const FIRST_ROOM: u64 = 4_096;
 /// `least`.
 #[derive(Clone, Copy)]
 pub(crate) struct Span {
+    /// The first byte, counted from 0.
     pub at: u64,
+    /// So many bytes have to come: fewer are a failure of the device.
     pub least: u64,
+    /// So many bytes are taken at most.
     pub most: u64,
 }
 

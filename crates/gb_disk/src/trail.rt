@@ -25,6 +25,7 @@ const MOST: usize = 8;
 /// it is looked at once more.
 #[derive(Drop)]
 pub(crate) struct Trail {
+    /// Room for the path that the next call is made at.
     pub path: String,
     /// The places at which folders stood, and above which too, the last one at the end.
     known: Vec<String>,
@@ -40,6 +41,7 @@ struct Listed {
 }
 
 impl Trail {
+    /// Nothing known yet.
     pub fn new(alloc: Global) -> Trail {
         Trail {
             path: String::new(alloc),
@@ -112,6 +114,7 @@ impl Trail {
         }
     }
 
+    /// Forgets the file listed last, and no folder.
     pub fn forget_listed(&mut self)
         ensures { self.new.path ≡ self.old.path }
     {

@@ -21,6 +21,7 @@ const NAMES: usize = 4_096;
 /// What a walk beneath a root has met.
 #[derive(Drop)]
 pub(crate) struct Found {
+    /// The files met so far, by their whole places.
     pub files: Vec<Place>,
     /// The root and the folders beneath it, each behind the one that it stands in.
     pub folders: Vec<Place>,

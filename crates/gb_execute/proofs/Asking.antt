@@ -15,10 +15,10 @@ use Rattle.gb_report.specs.declared.report.Options.{Options}
 use Rattle.gb_report.specs.declared.report.Outcome.{Outcome}
 use Rattle.gb_report.specs.declared.report.Outcome.TheVariants as outcomes
 use Rattle.gb_report.specs.declared.report.TaskReport.{TaskReport}
-use Rattle.gb_task.specs.Asking.{IsTextOf, in_turn_with}
+use Rattle.gb_task.specs.Asking.{HasRead, IsTextOf, in_turn_with, once}
 use Rattle.gb_task.specs.Current.{IsCurrentOn, IsToldCurrent}
 use Rattle.gb_task.specs.Turned.{is_of_turn}
-use Rattle.gb_task.proofs.Asking.{of_turn}
+use Rattle.gb_task.proofs.Asking.{of_turn, permitted_of_once}
 use Rattle.gb_execute.specs.Asking.{WasCurrent, WereCurrent, in_build, in_turns}
 use Rattle.gb_meaning.specs.Turn.{dry_reports}
 use Rattle.gb_execute.specs.Building.{is_of_turns}
@@ -35,14 +35,15 @@ module _ {F S : Type 0} (failures : F → ℕ) (may_leave : F → Tearing) (aske
     (records : List (Option Remembered)) where
   permitted_turn : (number : ℕ) (planned : Planned) → slice_get plan number ≡ Some planned → (from : F) → Asks failures may_leave asked (changes_at (is_of_turns plan)) begun from
       → (place : Place) (next : Option Bytes)
-      → in_turn_with planned.task (IsTextOf failures may_leave asked from meanings rows options planned.task (slice_index_or records number None)) place next
+      → once (HasRead failures may_leave asked from planned.task)
+      (in_turn_with planned.task (IsTextOf failures may_leave asked from meanings rows options planned.task (slice_index_or records number None))) place next
       → in_turns failures may_leave asked begun meanings rows options plan records place next
   unfolding in_turns
   permitted_turn number planned is from way place next may = (number, planned, is, from, way, may)
 
   permitted_places : (place : Place) (next : Option Bytes) → in_turns failures may_leave asked begun meanings rows options plan records place next → changes_at (is_of_turns plan) place next
   unfolding in_turns
-  permitted_places place next may = change_at (is_of_turns plan) place next (turn_of_plan plan may.0 may.1 may.2 place (of_turn may.1.task _ place next may.5))
+  permitted_places place next may = change_at (is_of_turns plan) place next (turn_of_plan plan may.0 may.1 may.2 place (of_turn may.1.task _ place next (permitted_of_once _ _ place next may.5)))
 
   permitted_build : options.dry_run ≡ false → (place : Place) (next : Option Bytes) → in_turns failures may_leave asked begun meanings rows options plan records place next
       → in_build failures may_leave asked begun meanings rows options plan records place next
@@ -51,7 +52,8 @@ module _ {F S : Type 0} (failures : F → ℕ) (may_leave : F → Tearing) (aske
 
   -- a turn of a task of the plan
   pub turn_asks : (number : ℕ) (planned : Planned) → slice_get plan number ≡ Some planned → (old new : F) → Asks failures may_leave asked (changes_at (is_of_turns plan)) begun old
-      → Asks failures may_leave asked (in_turn_with planned.task (IsTextOf failures may_leave asked old meanings rows options planned.task (slice_index_or records number None))) old new
+      → Asks failures may_leave asked (once (HasRead failures may_leave asked old planned.task)
+      (in_turn_with planned.task (IsTextOf failures may_leave asked old meanings rows options planned.task (slice_index_or records number None)))) old new
       → Asks failures may_leave asked (in_turns failures may_leave asked begun meanings rows options plan records) old new
   turn_asks number planned is old new way asks = asks_more (permitted_turn number planned is old way) asks
 

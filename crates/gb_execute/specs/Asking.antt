@@ -9,19 +9,21 @@ use Rattle.gb_plan.specs.declared.plan.Planned.{Planned}
 use Rattle.gb_report.specs.declared.report.Options.{Options}
 use Rattle.gb_report.specs.declared.report.Outcome.TheVariants as outcomes
 use Rattle.gb_report.specs.declared.report.TaskReport.{TaskReport}
-use Rattle.gb_task.specs.Asking.{IsTextOf, in_turn_with}
+use Rattle.gb_task.specs.Asking.{HasRead, IsTextOf, in_turn_with, once}
 use Rattle.gb_task.specs.Current.{IsCurrentOn}
 use Rattle.gb_execute.specs.Building.{is_of_turns}
 
--- What some task of the plan may ask for in its turn, from the record that was read of it. The turn starts
--- from a state of the folder to which turns of the plan led since the build began.
+-- What some task of the plan may ask for in its turn, from the record that was read of it, once what the turn
+-- goes by was answered. The turn starts from a state of the folder to which turns of the plan led since the
+-- build began.
 unfoldable pub in_turns : {F S : Type 0} → (F → ℕ) → (F → Tearing) → (F → Call → F → Type 0) → F
     → Meanings S → Rows S → Options → List Planned → List (Option Remembered) → Permit
 in_turns {F = F} failures may_leave asked begun meanings rows options plan records place next =
     (number : ℕ) × (planned : Planned) × (slice_get plan number ≡ Some planned)
     × (from : F) × Asks failures may_leave asked (changes_at (is_of_turns plan)) begun from
-    × in_turn_with planned.task (IsTextOf failures may_leave asked from meanings rows options planned.task
-    (slice_index_or records number None)) place next
+    × once (HasRead failures may_leave asked from planned.task) (in_turn_with planned.task
+    (IsTextOf failures may_leave asked from meanings rows options planned.task
+    (slice_index_or records number None))) place next
 
 -- the same in a build; in a dry run nothing
 unfoldable pub in_build : {F S : Type 0} → (F → ℕ) → (F → Tearing) → (F → Call → F → Type 0) → F

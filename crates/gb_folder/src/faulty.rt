@@ -76,6 +76,7 @@ impl<F: Folder + Drop> FaultyFolder<F> {
         }
     }
 
+    /// The folder beneath, as the calls left it.
     pub fn into_inner(self) -> F
         ensures { result ≡ self.inner }
     {

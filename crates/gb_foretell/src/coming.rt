@@ -11,12 +11,14 @@ use gb_report::fault::Fault;
 pub enum Coming {
     /// `enabled` or a test is false.
     Skips,
+    /// It runs nothing.
     HasNoActions,
     /// All file properties that skip the task when empty are empty.
     HasNoSource,
     /// Its turn would fail with this before it runs: something hinders reading its inputs or listing its
     /// outputs; or the machine failed here.
     CannotRead(Fault),
+    /// Its inputs and outputs are as its record says.
     UpToDate,
     /// It runs in full, as its outputs are such as no run leaves: a file is too large, or there are too many.
     HasGrown,
@@ -43,7 +45,9 @@ impl Coming {
 /// What is told of a task of a plan.
 #[derive(Drop)]
 pub struct Foretold {
+    /// The task of which this is told.
     pub path: TaskPath,
+    /// What its turn comes to, as the files stand now.
     pub coming: Coming,
     /// The first task before it in the plan whose output it reads and that runs or is itself told after one:
     /// once that has run, the task may come to something else.

@@ -21,16 +21,22 @@ use std::cmp::Ordering;
 /// A place at which a task meets another.
 #[derive(Drop)]
 pub struct Found {
+    /// The task that is told first.
     pub task: TaskPath,
+    /// The task that it meets, which may be the same.
     pub other: TaskPath,
+    /// Where they meet: the place that is told.
     pub place: Place,
 }
 
 /// The same by number: two tasks, and an index in a row of places.
 #[derive(Clone, Copy)]
 pub struct Met {
+    /// The number of the first task in its plan.
     pub task: usize,
+    /// The number of the task that it meets.
     pub other: usize,
+    /// The index of the place in the row that was looked through.
     pub place: usize,
 }
 

@@ -19,6 +19,7 @@ pub struct TaskPlace {
     pub task: usize,
     /// The place's own number, counted over all tasks.
     pub number: usize,
+    /// The place itself, as its task declares it.
     pub place: Place,
 }
 

@@ -15,7 +15,9 @@ use std::alloc::{AllocError, Global};
 /// What was looked for, and the least meeting that was found.
 #[derive(Drop)]
 pub struct Refusal {
+    /// Which of the three ways to meet it is.
     pub search: Search,
+    /// The tasks and the place that are told.
     pub found: Found,
 }
 

@@ -21,6 +21,7 @@ pub struct Tables {
     pub roots: Vec<TaskPlace>,
 }
 
+/// The tables of these tasks, made once for all that is looked for.
 pub fn tables_of(alloc: Global, tasks: &[Planned]) -> Result<Tables, AllocError>
     requires once { no_repeats (order tasks.now) ≡ true }
     requires ready { stuck tasks.now [] tasks.now ≡ [] }

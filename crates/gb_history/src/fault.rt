@@ -9,6 +9,7 @@ use thiserror::Error;
 /// Why a text was not read as the record of a task.
 #[derive(Clone, Copy, Debug, PartialEq, Eq, Error)]
 pub enum RecordFault {
+    /// No memory for what is read; 3.
     #[error("out of memory")]
     OutOfMemory,
     /// It is the text of no record of the task.

@@ -44,6 +44,7 @@ use serde_json::Value as Json;
 use serde_json::error::Category;
 use std::alloc::Global;
 
+/// The JSON value that these bytes are; any others are 80.
 pub fn json_from(alloc: Global, bytes: &[u8]) -> Result<Json, RecordFault>
     ensures { (d : Data) → IsUtf8 bytes.now → read bytes.now ≡ Some d
         → MatchResult result (λ json. view json ≡ d) (λ e. e ≡ OutOfMemory) }
@@ -55,6 +56,7 @@ pub fn json_from(alloc: Global, bytes: &[u8]) -> Result<Json, RecordFault>
     }
 }
 
+/// The list under a key of an object, if there is one.
 pub fn list_at<'j>(json: &'j Json, key: &str) -> Option<&'j Vec<Json>>
     ensures { (items : List Data) → get key.now (view json.now) ≡ Some (array (items_of items))
         → IsSomeAnd result (λ list. map view list.now.items ≡ items) }
@@ -198,6 +200,7 @@ fn input_from(alloc: Global, json: &Json) -> Result<(Name, Value), RecordFault>
     Ok((name, value_from(alloc, value)?))
 }
 
+/// The input values of a record, each a pair of name and value; anything else is 80.
 pub fn inputs_from(alloc: Global, items: &[Json]) -> Result<NamedValues, RecordFault>
     ensures { (vs : List (List ℕ × Argument)) → AllByRecursion IsInput vs
         → map view items.now ≡ map input_json vs
@@ -270,6 +273,7 @@ fn action_from(alloc: Global, edition: Edition, json: &Json) -> Result<Action, R
     })
 }
 
+/// The actions of a record in this edition; anything else is 80.
 pub fn actions_from(
     alloc: Global,
     edition: Edition,
@@ -330,6 +334,7 @@ fn prints_from(alloc: Global, json: &Json) -> Result<Prints, RecordFault>
     Ok(Prints::new(name, digests))
 }
 
+/// The digests of file properties, paths of each rising; anything else is 80.
 pub fn properties_from(alloc: Global, items: &[Json]) -> Result<Vec<Prints>, RecordFault>
     ensures { (ps : List Printed) → AllByRecursion ArePrints ps → map view items.now ≡ map prints_json ps
         → MatchResult result (λ got. got.items ≡ ps) (λ e. e ≡ OutOfMemory) }
@@ -368,6 +373,7 @@ fn output_from(alloc: Global, json: &Json) -> Result<OutputRecord, RecordFault>
     })
 }
 
+/// The outputs of a record, each with its digests; anything else is 80.
 pub fn outputs_from(alloc: Global, items: &[Json]) -> Result<Vec<OutputRecord>, RecordFault>
     ensures { (os : List Output) → AllByRecursion IsOutput os → map view items.now ≡ map output_json os
         → MatchResult result (λ got. got.items ≡ os) (λ e. e ≡ OutOfMemory) }

@@ -24,8 +24,11 @@ pub enum Edition {
 /// An output as a run left it, with the digests of its files.
 #[derive(Drop)]
 pub struct OutputRecord {
+    /// One file, or all files beneath the place.
     pub form: Form,
+    /// Where the run made it.
     pub place: Place,
+    /// The digest of each of its files, under the name of the output.
     pub prints: Prints,
 }
 
@@ -87,6 +90,7 @@ impl Record {
         }
     }
 
+    /// The actions that ran, in their order.
     pub fn actions(&self) -> &[Action]
         ensures actions { result.now ≡ self.now.actions }
         ensures ordered { AreInOrder self.now }
@@ -94,18 +98,21 @@ impl Record {
         self.actions.as_slice()
     }
 
+    /// The input values that they saw, by rising names.
     pub fn values(&self) -> &NamedValues
         ensures { result.now ≡ self.now.values }
     {
         &self.values
     }
 
+    /// The digests of the files that they read, a row for each file property by rising names.
     pub fn inputs(&self) -> &[Prints]
         ensures { result.now ≡ self.now.inputs }
     {
         self.inputs.as_slice()
     }
 
+    /// What the run left of each output, by rising names.
     pub fn outputs(&self) -> &[OutputRecord]
         ensures { result.now ≡ self.now.outputs }
     {

@@ -73,6 +73,7 @@ pub fn record_text(alloc: Global, path: &TaskPath, run: &Record) -> Result<Vec<u
     text_in(alloc, Edition::Second, path, run, USUAL_LENGTH)
 }
 
+/// Whether two texts have the same bytes.
 pub fn is_same(left: &[u8], right: &[u8]) -> bool
     ensures { IsTrue result ↔ (left.now ≡ right.now) }
 {

@@ -14,7 +14,6 @@ ghost use Rattle.gb_meaning.specs.Kinds.{Kinds};
 ghost use Rattle.gb_meaning.specs.Outline.{IsOutlined};
 ghost use Rattle.gb_printer.specs.Printing.{Prints, parts_text};
 ghost use Rattle.gb_records.specs.Said.{IsText};
-ghost use Rattle.gb_registry.specs.Configure.{configure_faults};
 ghost use Rattle.gb_registry.specs.Tables.{tables_of};
 ghost use Rattle.gb_task.specs.Turned.{setting_with};
 ghost use Rattle.gb_project.specs.Registered.{registry_said};
@@ -30,7 +29,7 @@ use gb_listen::listener::TaskListener;
 use gb_meaning::events::{Invocation, Properties};
 use gb_printer::printer::Printer;
 use gb_provider::transforms::Transforms;
-use gb_registry::registry::Registry;
+use gb_registry::configured::Configured;
 use gb_registry::tables::Tables;
 use gb_report::fault::Fault;
 use gb_report::report::Report;
@@ -116,23 +115,19 @@ pub fn invoke<A: Actions, T: Transforms, F: Folder, L: TaskListener, P: Printer>
         (record { contents = F.contents folder.new; failures = F.failures folder.new }) }
 {
     let given = copy_given(alloc, &invocation.properties)?;
-    let registry = read_registry::<A, T, F>(alloc, folder, tables, given)?;
-    build_registered::<A, T, F, L, P>(
-        alloc, folder, tables, &registry, invocation, listeners, printer,
-    )
+    let configured = read_registry::<A, T, F>(alloc, folder, tables, given)?;
+    build_registered::<A, T, F, L, P>(alloc, folder, &configured, invocation, listeners, printer)
 }
 
 /// Builds what is asked of the tasks of these scripts.
 fn build_registered<A: Actions, T: Transforms, F: Folder, L: TaskListener, P: Printer>(
     alloc: Global,
     folder: &mut F,
-    tables: &Tables<A::Stored, T::Map, T::FlatMap, T::Zip, T::Test>,
-    registry: &Registry,
+    configured: &Configured<'_, A, T>,
     invocation: &Invocation,
     listeners: &mut Vec<L>,
     printer: &mut P,
 ) -> Result<Report, Fault>
-    requires { configure_faults (tables_of T.meanings A.meanings tables.now) registry.now ≡ [] }
     ensures dry_run { IfOk result (λ report. report.dry_run ≡ invocation.now.options.dry_run) }
     ensures heard { IfOk result (λ report.
         HaveHeard report (map L.ear listeners.old.items) (map L.ear listeners.new.items)) }
@@ -145,36 +140,36 @@ fn build_registered<A: Actions, T: Transforms, F: Folder, L: TaskListener, P: Pr
     ensures device { HasFailed (times_blamed (answer_of result))
         (F.failures folder.old) (F.failures folder.new) }
     ensures tearing { SameTearing (F.may_leave folder.old) (F.may_leave folder.new) }
-    ensures asks { InvocationAsks F.failures F.may_leave F.asked A.meanings tables.now.actions invocation.now
-        result folder.old folder.new }
+    ensures asks { InvocationAsks F.failures F.may_leave F.asked A.meanings
+        configured.now.tables.now.actions invocation.now result folder.old folder.new }
     ensures outlined { IfOk result (IsOutlined invocation.now) }
     ensures places { IfErr result (λ fault. (place : List ℕ) → fault ≡ Fault.Device place
         → IsTrue (is_own place && not invocation.now.options.dry_run)) }
-    ensures not_begun { IfErr result
-        (IsNotBegun (registry_said (tables_of T.meanings A.meanings tables.now) registry.now) invocation.now
+    ensures not_begun { let tables = tables_of T.meanings A.meanings configured.now.tables.now in
+        IfErr result (IsNotBegun (registry_said tables configured.now.registry) invocation.now
         (F.failures folder.old) (F.failures folder.new)) }
     ensures dry { invocation.now.options.dry_run ≡ true → folder.new ≡ folder.old }
     ensures refused { IsTrue F.tells → OnErr result (F.contents folder.new ≡ F.contents folder.old) }
-    ensures keeps { IsTrue F.tells
-        → KeepsElsewhere (registry_said (tables_of T.meanings A.meanings tables.now) registry.now)
+    ensures keeps { let tables = tables_of T.meanings A.meanings configured.now.tables.now in
+        IsTrue F.tells → KeepsElsewhere (registry_said tables configured.now.registry)
         (F.contents folder.old) (F.contents folder.new) }
-    ensures leads { IsTrue F.tells → (kinds : Kinds)
-        → Agrees A.meanings tables.now.actions kinds
+    ensures leads { let tables = tables_of T.meanings A.meanings configured.now.tables.now in
+        IsTrue F.tells → (kinds : Kinds)
+        → Agrees A.meanings configured.now.tables.now.actions kinds
         → TearsAreSeen IsText record_place (F.may_leave folder.old)
-        → Leads (setting_with kinds
-        (λ files given. Ok (registry_said (tables_of T.meanings A.meanings tables.now) registry.now))
+        → Leads (setting_with kinds (λ files given. Ok (registry_said tables configured.now.registry))
         (F.may_leave folder.old))
         (record { contents = F.contents folder.old; failures = F.failures folder.old })
         (events.Invoke invocation.now) (answer_of result)
         (record { contents = F.contents folder.new; failures = F.failures folder.new }) }
 {
-    let _scripts = registry.scripts();
-    let mut tasks = ScriptTasks::<A, T>::declare(alloc, tables, registry)?;
+    let _scripts = configured.registry.scripts();
+    let mut tasks = ScriptTasks::declare(alloc, configured)?;
     build_requested::<A, F, L, P, _>(
         alloc,
         folder,
         &mut tasks,
-        &tables.actions,
+        &configured.tables.actions,
         invocation,
         listeners,
         printer,

@@ -9,6 +9,7 @@ use Rattle.gb_action.specs.Shapes.{IsAsked, args_fit}
 use Rattle.gb_action.specs.declared.output.Form.{Form}
 use Rattle.gb_action.specs.declared.request.Request.{Request}
 use Rattle.gb_action.specs.declared.shape.Arg.TheVariants as args
+use Rattle.gb_action.specs.declared.shape.Parameter.TheVariants.{Required}
 use Rattle.gb_action.specs.declared.shape.Shape.{Shape}
 use Rattle.gb_action.proofs.Asked.{declares_target}
 use Rattle.gb_action.proofs.Answering.{Answers-in_full, asked_in_full}
@@ -23,7 +24,7 @@ one_file-answers makes prints shape request form path bytes asked never out made
     (ap (λ b. b && true && true) (declares_target shape request asked form out)) lines
 
 -- a first argument that is a place is a path
-pub first-is_path : (arguments : List Value) → args_fit (args.Rel ∷ args.Text ∷ []) arguments ≡ true → IsTrue (is_rel_path (first_text arguments))
+pub first-is_path : (arguments : List Value) → args_fit (Required args.Rel ∷ Required args.Text ∷ []) arguments ≡ true → IsTrue (is_rel_path (first_text arguments))
 first-is_path [] h = absurd (let e : false ≡ true = h in cc)
 first-is_path (values.Text text ∷ others) h = path text (first _ _ h)
   where

@@ -14,8 +14,9 @@ use Rattle.gb_action.specs.declared.output.Form.TheVariants.{File, Dir}
 use Rattle.gb_action.specs.declared.reply.Reply.{Reply}
 use Rattle.gb_action.specs.declared.reply.ActionFault.{ActionFault}
 use Rattle.gb_action.specs.declared.request.Request.{Request}
-use Rattle.gb_action.specs.declared.shape.Arg.{Arg}
 use Rattle.gb_action.specs.declared.shape.Arg.TheVariants as args
+use Rattle.gb_action.specs.declared.shape.Parameter.{Parameter}
+use Rattle.gb_action.specs.declared.shape.Parameter.TheVariants.{Required}
 use Rattle.gb_action.specs.declared.shape.Shape.{Shape}
 use Rattle.gb_kinds.specs.declared.shapes.TheConstants.{PRINT_LINE, WRITE_TEXT, FAIL, COPY_FILES}
 use Rattle.gb_kinds.specs.declared.shapes.TheConstants.{REPLACE_TOKENS, KEEP_LINES, SUMS}
@@ -66,23 +67,23 @@ second_text [] = []
 -- ---- Shapes
 
 -- a kind that reads no files
-abbrev pub of_texts : List Arg → Option Form → Shape
+abbrev pub of_texts : List Parameter → Option Form → Shape
 of_texts args out = record { args = args; src = false; out = out; incremental = false }
 
 -- a kind that follows the changes of files
-abbrev pub of_files : List Arg → Shape
+abbrev pub of_files : List Parameter → Shape
 of_files args = record { args = args; src = true; out = Some Dir; incremental = true }
 
 abbrev pub kind_shape : Kind → Shape
-kind_shape PrintLine = of_texts (args.Line ∷ []) None
-kind_shape WriteText = of_texts (args.Text ∷ []) (Some File)
-kind_shape Fail = of_texts (args.Line ∷ []) None
+kind_shape PrintLine = of_texts (Required args.Line ∷ []) None
+kind_shape WriteText = of_texts (Required args.Text ∷ []) (Some File)
+kind_shape Fail = of_texts (Required args.Line ∷ []) None
 kind_shape CopyFiles = of_files []
-kind_shape ReplaceTokens = of_files (args.Key ∷ args.Text ∷ [])
-kind_shape KeepLines = of_files (args.Text ∷ [])
+kind_shape ReplaceTokens = of_files (Required args.Key ∷ Required args.Text ∷ [])
+kind_shape KeepLines = of_files (Required args.Text ∷ [])
 kind_shape Sums = of_files []
 kind_shape Concat = record { args = []; src = true; out = Some File; incremental = false }
-kind_shape AddFile = of_texts (args.Rel ∷ args.Text ∷ []) (Some Dir)
+kind_shape AddFile = of_texts (Required args.Rel ∷ Required args.Text ∷ []) (Some Dir)
 kind_shape WordIndex = of_files []
 kind_shape NoKind = of_texts [] None
 

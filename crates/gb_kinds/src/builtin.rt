@@ -17,11 +17,16 @@ pub type Run = Box<dyn Fn(Global, &Request) -> Result<Reply, ActionFault>>;
 /// A closure, beside the number, the version and the shape of the kind whose meaning it keeps.
 #[derive(Drop)]
 pub struct StoredAction {
+    /// The number of the kind, which names its meaning.
     pub kind: u16,
+    /// It rises where the kind comes to make something else.
     pub version: u32,
+    /// What a call of the kind has to be like.
     pub shape: Shape,
     run: Run,
+    /// A version is at least 1.
     pub ghost positive: { 1 ≤ version },
+    /// The shape is that of the kind.
     pub ghost shaped: { shape ≡ builtin_shape kind },
     ghost callable: { (alloc : _) (request : _) → IsAsked (builtin_shape kind) request.now
         → Run.pre run alloc request },

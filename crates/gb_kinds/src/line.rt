@@ -43,6 +43,7 @@ impl Line {
         })
     }
 
+    /// Its bytes, with the line feed at the end.
     pub fn as_slice(&self) -> &[u8]
         ensures { result.now ≡ self.now }
     {

@@ -1,5 +1,6 @@
 //! The shapes of the kinds.
 ghost use Rattle.std.specs.Prelude.{◌≡◌, [], ◌∷◌, IfOk};
+ghost use Rattle.gb_action.specs.declared.shape.Parameter.TheVariants.{Required};
 ghost use Rattle.gb_kinds.specs.Builtin.{builtin_shape, of_files, of_texts};
 
 use gb_action::output::Form;
@@ -115,7 +116,7 @@ pub fn word_index_shape(alloc: Global) -> Result<Shape, AllocError>
 
 /// The shape of a kind that takes one argument and reads no files.
 fn one_argument(alloc: Global, arg: Arg, out: Option<Form>) -> Result<Shape, AllocError>
-    ensures { IfOk result (λ shape. shape ≡ of_texts (arg ∷ []) out) }
+    ensures { IfOk result (λ shape. shape ≡ of_texts (Required arg ∷ []) out) }
 {
     let mut args = ArgList::new(alloc);
     args.push(arg)?;
@@ -123,7 +124,7 @@ fn one_argument(alloc: Global, arg: Arg, out: Option<Form>) -> Result<Shape, All
 }
 
 fn two_arguments(alloc: Global, first: Arg, second: Arg) -> Result<ArgList, AllocError>
-    ensures { IfOk result (λ args. args ≡ first ∷ second ∷ []) }
+    ensures { IfOk result (λ args. args ≡ Required first ∷ Required second ∷ []) }
 {
     let mut args = ArgList::new(alloc);
     args.push(first)?;

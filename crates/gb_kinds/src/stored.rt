@@ -44,10 +44,13 @@ type Runs = PhantomData<(MapRun, FlatRun, ZipRun, TestRun)>;
 /// its arguments.
 #[derive(Drop)]
 pub struct StoredMap {
+    /// The number of the function, which names its meaning.
     pub kind: u16,
+    /// How many texts it takes as arguments.
     pub arity: u8,
     runs: Runs,
     run: MapRun,
+    /// The count is that of the function.
     pub ghost counted: { arity ≡ map_arity kind },
     ghost callable: { (alloc : _) (value : _) (arguments : _) → MapRun.pre run alloc value arguments },
     ghost keeps: { (alloc : _) (value : _) (arguments : _) (answer : _)
@@ -75,10 +78,13 @@ impl StoredMap {
 /// of its arguments.
 #[derive(Drop)]
 pub struct StoredFlat {
+    /// The number of the function, which names its meaning.
     pub kind: u16,
+    /// How many texts it takes as arguments.
     pub arity: u8,
     runs: Runs,
     run: FlatRun,
+    /// The count is that of the function.
     pub ghost counted: { arity ≡ flat_map_arity kind },
     ghost callable: { (alloc : _) (value : _) (arguments : _) → FlatRun.pre run alloc value arguments },
     ghost keeps: { (alloc : _) (value : _) (arguments : _) (answer : _)
@@ -106,10 +112,13 @@ impl StoredFlat {
 /// its arguments.
 #[derive(Drop)]
 pub struct StoredZip {
+    /// The number of the function, which names its meaning.
     pub kind: u16,
+    /// How many texts it takes as arguments.
     pub arity: u8,
     runs: Runs,
     run: ZipRun,
+    /// The count is that of the function.
     pub ghost counted: { arity ≡ zip_arity kind },
     ghost callable: { (alloc : _) (left : _) (right : _) (arguments : _)
         → ZipRun.pre run alloc left right arguments },
@@ -137,10 +146,13 @@ impl StoredZip {
 /// A closure, beside the number of the test whose meaning it keeps and the count of its arguments.
 #[derive(Drop)]
 pub struct StoredTest {
+    /// The number of the test, which names its meaning.
     pub kind: u16,
+    /// How many texts it takes as arguments.
     pub arity: u8,
     runs: Runs,
     run: TestRun,
+    /// The count is that of the test.
     pub ghost counted: { arity ≡ test_arity kind },
     ghost callable: { (alloc : _) (value : _) (arguments : _) → TestRun.pre run alloc value arguments },
     ghost keeps: { (alloc : _) (value : _) (arguments : _) (answer : _)

@@ -1,5 +1,5 @@
 -- What a task's label goes by, as calls answered it, over any folder.
-use Rattle.std.specs.Prelude.{ℕ, ◌≡◌, List, Option, Some, ⊤}
+use Rattle.std.specs.Prelude.{ℕ, ◌≡◌, true, List, Option, Some, ⊤}
 use Rattle.gb_folder.specs.Calls.{Call}
 use Rattle.gb_folder.specs.Files.{Tearing}
 use Rattle.gb_history.specs.Decision.{DecidesFrom}
@@ -12,17 +12,26 @@ use Rattle.gb_report.specs.declared.report.Options.{Options}
 use Rattle.gb_turn.specs.Answered.{AreInputsAnswered, AreOutputsAnswered}
 use Rattle.gb_turn.specs.Reading.{AreInputs, AreOutputs, Read, prints_read, records_with}
 use Rattle.gb_label.specs.Deciding.{IsPresentOf}
+use Rattle.gb_label.specs.Looking.{lacks_source}
 use Rattle.gb_label.specs.declared.look.Look.{Look}
 use Rattle.gb_label.specs.declared.look.Look.TheVariants as looks
 use Rattle.gb_label.specs.declared.prepare.Prepared.{Prepared}
 use Rattle.gb_label.specs.declared.prepare.Prepared.TheVariants as prepared
 
--- where its record is to decide, its inputs were answered
+-- inputs were answered that give the task no source
+abbrev pub WasSourceless : {F : Type 0} → (F → ℕ) → (F → Tearing) → (F → Call → F → Type 0) → F → F → Task
+    → Type 0
+WasSourceless failures may_leave asked old new task =
+    (inputs : List Read) × AreInputsAnswered failures may_leave asked old new task inputs
+    × (lacks_source task.files inputs ≡ true)
+
+-- Where its record is to decide, its inputs were answered, and where it has no source they were found so.
 abbrev pub WasLookedAt : {F : Type 0} → (F → ℕ) → (F → Tearing) → (F → Call → F → Type 0) → F → F → Task
     → Look → Type 0
 WasLookedAt failures may_leave asked old new task looks.Skips = ⊤
 WasLookedAt failures may_leave asked old new task looks.HasNoActions = ⊤
-WasLookedAt failures may_leave asked old new task looks.HasNoSource = ⊤
+WasLookedAt failures may_leave asked old new task looks.HasNoSource =
+    WasSourceless failures may_leave asked old new task
 WasLookedAt failures may_leave asked old new task (looks.Goes inputs) =
     AreInputsAnswered failures may_leave asked old new task inputs.items
 
@@ -51,7 +60,8 @@ abbrev pub WasPrepared : {F : Type 0} → (F → ℕ) → (F → Tearing) → (F
     → Task → Option Remembered → Prepared → Type 0
 WasPrepared failures may_leave asked old new options task last prepared.Skips = ⊤
 WasPrepared failures may_leave asked old new options task last prepared.HasNoActions = ⊤
-WasPrepared failures may_leave asked old new options task last prepared.HasNoSource = ⊤
+WasPrepared failures may_leave asked old new options task last prepared.HasNoSource =
+    WasSourceless failures may_leave asked old new task
 WasPrepared failures may_leave asked old new options task last (prepared.Decided decision seen) =
     AreInputs task seen.inputs.items
     × AreInputsAnswered failures may_leave asked old new task seen.inputs.items

@@ -199,7 +199,9 @@ fn read_checked<F: Folder>(
 /// What is decided of a task by a record, and what it was decided on.
 #[derive(Drop)]
 pub struct DecidedOn {
+    /// What is to be done with the task.
     pub decision: Decision,
+    /// What stands of its inputs and outputs.
     pub present: Present,
 }
 

@@ -22,6 +22,7 @@ use std::alloc::Global;
 pub enum Look {
     /// `enabled` or a test is false.
     Skips,
+    /// It runs nothing.
     HasNoActions,
     /// All file properties that skip the task when empty are empty.
     HasNoSource,

@@ -26,6 +26,7 @@ use std::alloc::Global;
 pub enum Prepared {
     /// `enabled` or a test is false.
     Skips,
+    /// It runs nothing.
     HasNoActions,
     /// All file properties that skip the task when empty are empty: its outputs are to be removed.
     HasNoSource,

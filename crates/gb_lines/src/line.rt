@@ -15,6 +15,7 @@ const MAX_LINE: usize = 2_097_152;
 /// A line of a replay.
 #[derive(Debug, Drop)]
 pub enum Line {
+    /// Nothing, which is passed over.
     Empty,
     /// `put PLACE TEXT`, with the text's escapes undone.
     Put(Place, Bytes),
@@ -34,6 +35,7 @@ pub enum LineFault {
     /// They are none.
     #[error("bad line")]
     BadLine,
+    /// No memory for what it says; 3.
     #[error("out of memory")]
     OutOfMemory,
 }

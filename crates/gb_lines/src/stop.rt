@@ -17,6 +17,7 @@ pub enum Stop {
     /// Reading, writing or the folder failed.
     #[error("device")]
     Device,
+    /// No memory to go on.
     #[error("out of memory")]
     OutOfMemory,
 }

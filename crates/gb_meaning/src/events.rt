@@ -24,12 +24,14 @@ impl Model for Properties {
 }
 
 impl Properties {
+    /// These values by name, in this order.
     pub fn from_vec(properties: Vec<(Name, Text)>) -> Properties
         ensures { result ≡ properties.items }
     {
         Properties { properties }
     }
 
+    /// Each name with its value, as they were handed in.
     pub fn as_slice(&self) -> &[(Name, Text)]
         ensures { result.now ≡ self.now }
     {
@@ -40,12 +42,17 @@ impl Properties {
 /// What a build is asked for.
 #[derive(Drop)]
 pub struct Invocation {
+    /// The tasks that are named; where none is, the default tasks run.
     pub requested: Texts,
+    /// The tasks of `-x`, which are left out.
     pub excluded: Texts,
+    /// The values of `-P`.
     pub properties: Properties,
+    /// How the build is to be done.
     pub options: Options,
 }
 
+/// What happens to a folder of builds.
 #[derive(Drop)]
 pub enum Event {
     /// A file is put; over one that stands there.
@@ -58,11 +65,14 @@ pub enum Event {
     Invoke(Invocation),
 }
 
+/// What is answered to an event.
 #[derive(Drop)]
 pub enum Answer {
+    /// The edit was made.
     Edited,
     /// An edit was refused, and nothing changed but where the device failed in it.
     Refused(Fault),
+    /// The build was made; a task of it may have failed.
     Built(Report),
     /// A build was refused, and nothing changed.
     NotBuilt(Fault),

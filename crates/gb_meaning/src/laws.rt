@@ -11,6 +11,7 @@ use gb_action::actions::Actions;
 pub trait Grounds {
     ghost use Rattle.gb_meaning.specs.Events.{Setting};
 
+    /// What actions make and scripts mean, how records are written, and what the device may leave.
     ghost setting: { Setting };
 }
 
@@ -57,10 +58,13 @@ pub trait ManyGrounds {
     ghost use Rattle.gb_meaning.specs.Events.{Setting};
     ghost use Rattle.gb_meaning.specs.Headline.{Registering};
 
+    /// What all sessions share.
     ghost shared: { Setting };
 
+    /// What the scripts mean in the session of a number.
     ghost registers: { ℕ → Registering };
 
+    /// What the device of a session may leave where it stops a write or a removal.
     ghost may_leave: { ℕ → Tearing };
 }
 

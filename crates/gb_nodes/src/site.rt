@@ -9,6 +9,7 @@ use std::collections::BTreeMap;
 /// The project of an expression, and what it may read there.
 #[derive(Drop)]
 pub struct Site<'a> {
+    /// The project, in whose folder its places lie.
     pub project: &'a Project,
     /// The folder of what the project builds.
     pub build: &'a Place,

@@ -25,9 +25,10 @@ pub struct Index;
 impl TreeKind for Index {
     ghost use Rattle.std.specs.Prelude.{[], ◌∷◌};
     ghost use Rattle.gb_action.specs.declared.shape.Arg.TheVariants as args;
+    ghost use Rattle.gb_action.specs.declared.shape.Parameter.TheVariants.{Required};
     ghost use Rattle.gb_pages.specs.Paths.{indexed};
 
-    ghost takes = { args.Line ∷ [] };
+    ghost takes = { Required args.Line ∷ [] };
 
     ghost makes = { indexed };
 

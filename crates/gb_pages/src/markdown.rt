@@ -14,19 +14,28 @@ use std::alloc::{AllocError, Global};
 /// The block that is open.
 #[derive(Clone, Copy, Debug, PartialEq, Eq)]
 pub enum Mode {
+    /// None is open: another may begin.
     Between,
+    /// A paragraph, which the next empty line ends.
     Paragraph,
+    /// A list of items.
     Items,
+    /// Lines between fences, which are taken as they are.
     Code,
 }
 
 /// What a line says.
 #[derive(Clone, Copy)]
 pub enum Line<'a> {
+    /// It is empty.
     Nothing,
+    /// Code begins or ends there.
     Fence,
+    /// A heading of this rank, and its words.
     Heading(Element, &'a [u8]),
+    /// An item of a list, and its words.
     Item(&'a [u8]),
+    /// Words of a paragraph.
     Words(&'a [u8]),
 }
 

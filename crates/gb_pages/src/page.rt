@@ -7,19 +7,30 @@ use std::alloc::AllocError;
 /// What has a beginning and an end.
 #[derive(Clone, Copy, Debug, PartialEq, Eq)]
 pub enum Element {
+    /// `h1`, the heading of the page.
     HeadingOne,
+    /// `h2`, the heading of a part.
     HeadingTwo,
+    /// `h3`, the heading of a smaller part.
     HeadingThree,
+    /// `p`, a paragraph.
     Paragraph,
+    /// `ul`, a list.
     Items,
+    /// `li`, an item of a list.
     Item,
+    /// `em`, words that are stressed.
     Emphasis,
+    /// `code`, words of code.
     Code,
+    /// `pre`, lines of code.
     Block,
+    /// `a`, a link.
     Anchor,
 }
 
 impl Element {
+    /// The word of its tags in HTML.
     pub fn name(self) -> &'static [u8]
         ensures { result.now ≡ name_of self }
     {

@@ -31,9 +31,10 @@ type Made = Vec<(RelPath, Bytes)>;
 impl TreeKind for Template {
     ghost use Rattle.std.specs.Prelude.{[], ◌∷◌};
     ghost use Rattle.gb_action.specs.declared.shape.Arg.TheVariants as args;
+    ghost use Rattle.gb_action.specs.declared.shape.Parameter.TheVariants.{Required};
     ghost use Rattle.gb_pages.specs.Paths.{templated};
 
-    ghost takes = { args.Line ∷ [] };
+    ghost takes = { Required args.Line ∷ [] };
 
     ghost makes = { templated };
 

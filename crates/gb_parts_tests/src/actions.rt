@@ -140,6 +140,28 @@ fn arguments_fit_their_shapes(rt: HostRuntime) -> Result<(), Fail> {
     fit_so(rt.alloc(), &CASES)
 }
 
+/// How so many texts fit a line that has to be given, and behind it a text that may be left out.
+fn fit_of_texts(alloc: Global, count: usize) -> Result<Fit, AllocError> {
+    let mut shape = shape_of(alloc, Arg::Line, None)?;
+    shape.args.push_optional(Arg::Text)?;
+    let mut values = Arguments::new(alloc);
+    for _ in 0..count {
+        values.push(Value::Text(Text::from_str(alloc, "a")?))?;
+    }
+    Ok(shape.accepts(&values, &[], &[]))
+}
+
+#[test]
+fn optional_arguments_may_be_left_out(rt: HostRuntime) -> Result<(), Fail> {
+    let alloc = rt.alloc();
+    all_hold(&[
+        ("none", fit_of_texts(alloc, 0) == Ok(Fit::BadArgument)),
+        ("one", fit_of_texts(alloc, 1) == Ok(Fit::Yes)),
+        ("two", fit_of_texts(alloc, 2) == Ok(Fit::Yes)),
+        ("three", fit_of_texts(alloc, 3) == Ok(Fit::BadArgument)),
+    ])
+}
+
 /// How no arguments fit a shape that wants one, a property and a folder.
 fn fit_of_none(
     alloc: Global,

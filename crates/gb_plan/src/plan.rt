@@ -13,6 +13,7 @@ use std::marker::Model;
 /// A task of a plan, with the index of the first requested name that reaches it.
 #[derive(Drop)]
 pub struct Planned {
+    /// What the task declares.
     pub task: TaskDeclaration,
     /// The first of the requested names that reaches the task, counted from 0.
     pub word: usize,
@@ -36,12 +37,14 @@ impl Model for Plan {
 }
 
 impl Plan {
+    /// The plan of these tasks, in the order in which they are to run.
     pub fn from_vec(tasks: Vec<Planned>) -> Plan
         ensures { result ≡ tasks.items }
     {
         Plan { tasks }
     }
 
+    /// The tasks in the order in which they run.
     pub fn as_slice(&self) -> &[Planned]
         ensures { result.now ≡ self.now }
     {

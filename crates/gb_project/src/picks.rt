@@ -62,6 +62,7 @@ pub fn last_in(clause: &Clause) -> Option<&Call>
     }
 }
 
+/// A test without which the task is skipped.
 pub fn only_if_in(clause: &Clause) -> Option<&Condition>
     ensures { option_copied result ≡ only_if_in clause.now }
 {
@@ -71,6 +72,7 @@ pub fn only_if_in(clause: &Clause) -> Option<&Condition>
     }
 }
 
+/// A test without which the task is not up to date.
 pub fn up_to_date_when_in(clause: &Clause) -> Option<&Condition>
     ensures { option_copied result ≡ up_to_date_when_in clause.now }
 {
@@ -80,6 +82,7 @@ pub fn up_to_date_when_in(clause: &Clause) -> Option<&Condition>
     }
 }
 
+/// A flag without which the task is skipped.
 pub fn enabled_in(clause: &Clause) -> Option<&Expression>
     ensures { option_copied result ≡ enabled_in clause.now }
 {

@@ -11,7 +11,9 @@ use std::collections::BTreeMap;
 /// A registered task, as its script says it.
 #[derive(Drop)]
 pub struct Registered<'a> {
+    /// The project whose script registers it.
     pub project: &'a ProjectPath,
+    /// The path of the task.
     pub path: &'a TaskPath,
     /// The call behind the colon.
     pub action: Option<&'a Call>,
@@ -22,16 +24,24 @@ pub struct Registered<'a> {
 /// What the clauses of a task say together: of a name the last, of `enabled` the last, and all of the others.
 #[derive(Drop)]
 pub struct Joined<'a> {
+    /// The last value of `enabled`, or nothing where none is said.
     pub enabled: Option<&'a Expression>,
+    /// All conditions of `onlyIf`, in their order.
     pub only_if: Vec<&'a Condition>,
+    /// All conditions of `upToDateWhen`, in their order.
     pub up_to_date_when: Vec<&'a Condition>,
+    /// What the value of each input is made from.
     pub values: BTreeMap<Name, &'a Expression>,
+    /// The files of each file property, as they are said.
     pub files: BTreeMap<Name, &'a InputFiles>,
     /// The form of each output, and what its place is made from.
     pub outputs: BTreeMap<Name, (Form, &'a Expression)>,
     /// In the order in which they act.
     pub actions: ActionList<&'a Call>,
+    /// The tasks of `dependsOn`.
     pub depends_on: TaskPaths,
+    /// The tasks of `mustRunAfter`.
     pub must_run_after: TaskPaths,
+    /// The tasks of `finalizedBy`.
     pub finalizers: TaskPaths,
 }

@@ -238,9 +238,13 @@ fn choose_tasks<T: Transforms>(
 /// Expressions, to be read for their tasks, with what is remembered of their values.
 #[derive(Drop)]
 pub(crate) struct TaskReader<'b, 'a, T: Transforms> {
+    /// Where the answers take their memory from.
     pub alloc: Global,
+    /// The whole table, in which operands are named by number.
     pub nodes: &'b [Expression<'a, T::Map, T::FlatMap, T::Zip>],
+    /// Where each output stands in the table.
     pub outputs: &'b Outputs,
+    /// What is known of the value of each expression, one state for each.
     pub values: Vec<State<Shared<Outcome>>>,
 }
 

@@ -9,10 +9,15 @@ use gb_core::value::Value;
 /// A change of a property.
 #[derive(Drop)]
 pub enum Change {
+    /// It is set to this value.
     Set(Value),
+    /// It is set to what the expression of this number comes to as it is read.
     SetFrom(usize),
+    /// What was set is taken back; the convention holds again.
     Unset,
+    /// The expression of this number holds while it is not set.
     Convention(usize),
+    /// It is final: it takes no other change any more (35).
     Finalize,
 }
 

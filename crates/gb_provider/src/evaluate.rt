@@ -412,8 +412,11 @@ fn look_at<T: Transforms>(
 /// Expressions, to be read for their values.
 #[derive(Drop)]
 pub(crate) struct ValueReader<'b, 'a, T: Transforms> {
+    /// Where the answers take their memory from.
     pub alloc: Global,
+    /// The whole table, in which operands are named by number.
     pub nodes: &'b [Expression<'a, T::Map, T::FlatMap, T::Zip>],
+    /// Where each output stands in the table.
     pub outputs: &'b Outputs,
 }
 

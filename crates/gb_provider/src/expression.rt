@@ -12,8 +12,11 @@ use std::marker::Model;
 /// A stored function under its name, with its arguments.
 #[derive(Drop)]
 pub struct Call<'a, S> {
+    /// The name under which the table of functions has it.
     pub name: Text,
+    /// The function itself, as the program stored it.
     pub function: &'a S,
+    /// What a script gives it in brackets; none where no bracket is.
     pub arguments: Texts,
 }
 
@@ -48,6 +51,7 @@ impl<'a, S> Call<'a, S> {
 /// A provider, by its place in the table.
 #[derive(Clone, Copy, Debug, PartialEq, Eq)]
 pub struct Node {
+    /// Its place in the table, counted from 0.
     pub number: usize,
 }
 
@@ -79,6 +83,7 @@ impl Operands {
         Ok(Operands { numbers })
     }
 
+    /// The places in the table, in the order of the nodes.
     pub fn as_slice(&self) -> &[usize]
         ensures { result.now ≡ self.now }
     {
@@ -89,24 +94,33 @@ impl Operands {
 /// What a property is set to.
 #[derive(Drop)]
 pub enum Setting {
+    /// This value.
     Held(Value),
+    /// What the expression of this number comes to.
     Followed(usize),
 }
 
 /// A property of a project.
 #[derive(Drop)]
 pub struct Property {
+    /// The project that declares it.
     pub project: ProjectPath,
+    /// Its name in that project.
     pub name: Name,
+    /// What it is set to, or nothing where it is not set.
     pub setting: Option<Setting>,
+    /// The expression that counts where it is not set.
     pub convention: Option<usize>,
+    /// Whether it takes no change any more (35).
     pub is_final: bool,
 }
 
 /// An output of a task, and the expression that it is declared as.
 #[derive(Drop)]
 pub struct Output {
+    /// The task, and the name of the output in it.
     pub chosen: Chosen,
+    /// The expression of its place, or nothing where the task is not realised yet.
     pub declared: Option<usize>,
 }
 
@@ -115,19 +129,29 @@ pub struct Output {
 pub enum Expression<'a, M, F, Z> {
     /// A value, or nothing.
     Constant(Option<Value>),
+    /// What a property is set to, or its convention.
     OfProperty(Property),
+    /// The place that an output of a task is declared as.
     OfOutput(Output),
+    /// The list of what its operands come to, each a text.
     Listed(Operands),
+    /// What a function makes of the value of the operand.
     Mapped(usize, Call<'a, M>),
+    /// The output that a function chooses by the value of the operand.
     FlatMapped(usize, Call<'a, F>),
+    /// What a function makes of the values of two operands.
     Zipped(usize, usize, Call<'a, Z>),
+    /// The first operand, or the second where the first is absent.
     OrElse(usize, usize),
 }
 
 /// What an expression comes to.
 #[derive(Drop)]
 pub enum Outcome {
+    /// A value.
     Given(Value),
+    /// No value, as of a property that is not set.
     Absent,
+    /// The fault that it came to, its own or one of its operands.
     Refused(ValueFault),
 }

@@ -87,12 +87,14 @@ impl<'a, M, F, Z> Expressions<'a, M, F, Z> {
         }
     }
 
+    /// How many expressions there are: the number of the next one.
     pub fn len(&self) -> usize
         ensures { result ≡ length self.now }
     {
         self.nodes.len()
     }
 
+    /// The expressions by number.
     pub fn as_slice(&self) -> &[Expression<'a, M, F, Z>]
         ensures { result.now ≡ self.now }
     {

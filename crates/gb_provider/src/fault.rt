@@ -35,8 +35,10 @@ impl Refusal {
 /// What a stored function may answer in place of a value.
 #[derive(Clone, Copy, Debug, PartialEq, Eq, Error)]
 pub enum TransformFault {
+    /// Its arguments or its value are none that it takes (32, 34).
     #[error("{0}")]
     Refused(Refusal),
+    /// No memory for its answer; 3.
     #[error("out of memory")]
     OutOfMemory,
 }
@@ -54,7 +56,9 @@ impl From<AllocError> for TransformFault {
 /// An output of a task, by its name.
 #[derive(Debug, Drop, PartialEq, Eq, PartialOrd, Ord)]
 pub struct Chosen {
+    /// The path of the task.
     pub task: TaskPath,
+    /// The output's name in it, as a script writes it, which need not be a name.
     pub output: Text,
 }
 
@@ -113,6 +117,7 @@ pub enum StepFault {
     /// The function takes another count of arguments.
     #[error("bad arguments")]
     BadArguments,
+    /// No memory for the step; 3.
     #[error("out of memory")]
     OutOfMemory,
 }
@@ -152,7 +157,9 @@ pub enum ProviderFault {
     Step(StepFault),
     /// It is absent.
     NoValue,
+    /// It comes to this fault.
     Value(ValueFault),
+    /// No memory to read it; 3.
     OutOfMemory,
 }
 
@@ -203,6 +210,7 @@ pub enum TableFault {
     /// The name is taken.
     #[error("duplicate transform")]
     DuplicateTransform,
+    /// No memory for the entry: the table is as it was; 3.
     #[error("out of memory")]
     OutOfMemory,
 }

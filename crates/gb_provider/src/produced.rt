@@ -6,6 +6,7 @@ use gb_core::tasks::TaskPaths;
 /// What is found of the tasks that produce an expression.
 #[derive(Drop)]
 pub enum Produced {
+    /// The tasks that produce it, perhaps none.
     Tasks(TaskPaths),
     /// The fault of a value that has to choose.
     Refused(ValueFault),

@@ -18,6 +18,7 @@ impl<A> Model for Shared<A> {
 }
 
 impl<A: Drop> Shared<A> {
+    /// A value with one owner.
     pub fn new(alloc: Global, value: A) -> Result<Shared<A>, AllocError>
         ensures { IfOk result (λ shared. shared ≡ value) }
     {
@@ -35,6 +36,7 @@ impl<A: Drop> Shared<A> {
         Ok(Shared { owner })
     }
 
+    /// The value that all owners see.
     pub fn get(&self) -> &A
         ensures { result.now ≡ self.now }
     {

@@ -14,9 +14,13 @@ use std::marker::Model;
 /// A stored function, by its use.
 #[derive(Drop)]
 pub enum Transform<M, F, Z, S> {
+    /// For `map`: a value to a value.
     Map(M),
+    /// For `flatMap`: a value to the output that is read in its place.
     FlatMap(F),
+    /// For `zip`: two values to one.
     Zip(Z),
+    /// For `onlyIf` and `upToDateWhen`: a value to a flag.
     Test(S),
 }
 

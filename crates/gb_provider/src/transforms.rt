@@ -18,6 +18,7 @@ pub trait Transforms {
     /// A test.
     type Test: Drop;
 
+    /// What each kind answers, and how many arguments each function takes.
     ghost meanings: { Meanings Self.Map Self.FlatMap Self.Zip Self.Test };
 
     /// The count of its arguments.

@@ -18,28 +18,39 @@ use std::collections::BTreeMap;
 /// Whether a task runs, and whether it is stale.
 #[derive(Clone, Copy, PartialEq, Eq)]
 pub struct Flags {
+    /// Neither is `enabled` false nor a test of `onlyIf`.
     pub runs: bool,
+    /// A test of `upToDateWhen` is false.
     pub is_stale: bool,
 }
 
 /// What a task reads, makes and does.
 #[derive(Drop)]
 pub struct Contents {
+    /// The inputs that are values, in the order of their names.
     pub values: NamedValues,
+    /// The inputs that are files, in the order of their names.
     pub files: FileProperties,
+    /// What it makes, in the order of the names.
     pub outputs: Outputs,
+    /// What it does, in the order in which it does it.
     pub actions: ActionList<Action>,
 }
 
 /// The nodes of a task's expressions, by what they are for.
 #[derive(Clone, Copy)]
 pub struct Parts<'a> {
+    /// The value of `enabled`, if it is said.
     pub enabled: &'a [Node],
+    /// The values that `onlyIf` tests.
     pub only_if: &'a [Node],
+    /// The values that `upToDateWhen` tests.
     pub up_to_date_when: &'a [Node],
+    /// The inputs that are values.
     pub values: &'a [Node],
     /// The roots of all file properties.
     pub roots: &'a [Node],
+    /// The places of the outputs.
     pub outputs: &'a [Node],
     /// What all actions are given.
     pub arguments: &'a [Node],

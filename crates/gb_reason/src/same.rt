@@ -11,8 +11,10 @@ use gb_plan::task::Action;
 pub trait Same {
     ghost use Rattle.std.specs.Prelude.{Bool};
 
+    /// The test, as contracts see it.
     ghost is: { Self → Self → Bool };
 
+    /// Whether it is the other.
     fn is_same(&self, other: &Self) -> bool
         ensures { result ≡ is self.now other.now };
 }

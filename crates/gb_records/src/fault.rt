@@ -11,6 +11,7 @@ use thiserror::Error;
 /// Why a record was not written or taken out.
 #[derive(Clone, Copy, Debug, PartialEq, Eq, Error)]
 pub enum Unwritten {
+    /// No memory for its text; 3.
     #[error("out of memory")]
     OutOfMemory,
     /// The device failed, no file can stand at its place, or its text is too long.

@@ -7,6 +7,7 @@ use Rattle.gb_core.specs.declared.value.Value.{Value}
 use Rattle.gb_core.specs.declared.value.Value.TheVariants as values
 use Rattle.gb_action.specs.declared.output.Form.TheVariants.{File, Dir}
 use Rattle.gb_action.specs.declared.shape.Arg.TheVariants.{Text, Line}
+use Rattle.gb_action.specs.declared.shape.Parameter.TheVariants.{Required}
 use Rattle.gb_action.specs.declared.shape.Shape.{Shape}
 use Rattle.gb_provider.specs.declared.fault.Chosen.{Chosen}
 use Rattle.gb_provider.specs.declared.fault.Refusal.{Refusal}
@@ -72,8 +73,8 @@ test_means number value arguments = of_text value (λ text. with_one arguments (
 
 abbrev pub shape : ℕ → Shape
 shape number =
-    if number == 0 then record { args = Text ∷ []; src = false; out = Some File; incremental = false }
-    else (if number == 1 then record { args = Line ∷ []; src = false; out = None; incremental = false }
+    if number == 0 then record { args = Required Text ∷ []; src = false; out = Some File; incremental = false }
+    else (if number == 1 then record { args = Required Line ∷ []; src = false; out = None; incremental = false }
     else record { args = []; src = true; out = Some Dir; incremental = true })
 
 abbrev pub tables : Tables ℕ ℕ ℕ ℕ ℕ

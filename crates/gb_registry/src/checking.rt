@@ -25,7 +25,9 @@ use std::alloc::Global;
 /// A project with its script.
 #[derive(Drop)]
 pub struct Scripted {
+    /// The project, with its folder.
     pub project: Project,
+    /// What its `build.gb` says.
     pub script: Script,
 }
 

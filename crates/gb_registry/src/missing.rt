@@ -9,7 +9,9 @@ use std::alloc::Global;
 /// Looks up the tasks that an expression of a project names.
 #[derive(Drop)]
 pub struct Missing<'a> {
+    /// The projects and tasks that there are.
     pub names: &'a Names<'a>,
+    /// The project from which a text without a first colon goes.
     pub project: &'a Project,
 }
 

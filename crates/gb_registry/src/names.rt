@@ -16,7 +16,9 @@ use std::marker::Model;
 /// The projects, and the tasks that all scripts register.
 #[derive(Drop)]
 pub struct Names<'a> {
+    /// The projects that the settings include, and the root.
     pub projects: &'a ProjectSet,
+    /// The paths of all registered tasks.
     pub tasks: &'a TextSet,
 }
 

@@ -40,6 +40,7 @@ impl Project {
         Project { path, folder }
     }
 
+    /// Its path, `:` for the root.
     pub fn path(&self) -> &ProjectPath
         ensures { result.now ≡ self.now }
     {

@@ -79,6 +79,7 @@ impl ProjectSet {
         self.places.as_slice()
     }
 
+    /// The projects, each with its folder, of which none is copied.
     pub fn into_vec(self) -> Vec<(ProjectPath, Option<Place>)>
         ensures { result.items ≡ with_folders self }
     {

@@ -19,6 +19,7 @@ ghost use Rattle.gb_registry.specs.Select.{selected, tasks_named, texts_or_none,
 
 use crate::checking::Scripted;
 use crate::configure::{checked, with_projects};
+use crate::configured::Configured;
 use crate::names::Names;
 use crate::paths::absolute;
 use crate::projects::{ProjectSet, projects_in};
@@ -77,17 +78,18 @@ impl Registry {
     /// or 4,096 tasks (58), and in a value a bad place (2) or path (1), and a function that there is not (31)
     /// or that takes other arguments (32). That a task which a value names is not there (50, 52) counts
     /// behind all others.
-    pub fn configure<A: Actions, T: Transforms>(
+    pub fn configure<'a, A: Actions, T: Transforms>(
         alloc: Global,
         settings: &Settings,
         scripts: Vec<Script>,
         given: Vec<(Name, Text)>,
-        tables: &Tables<A::Stored, T::Map, T::FlatMap, T::Zip, T::Test>,
-    ) -> Result<Registry, Fault>
+        tables: &'a Tables<A::Stored, T::Map, T::FlatMap, T::Zip, T::Test>,
+    ) -> Result<Configured<'a, A, T>, Fault>
         requires good { settings_faults settings.now ≡ [] }
         requires one_each { length scripts.items ≡ length (project_paths settings.now) }
-        ensures registry { IfOk result (λ registry.
-            registry ≡ source_of settings.now scripts.items given.items) }
+        ensures tables { IfOk result (λ configured. configured.tables.now ≡ tables.now) }
+        ensures registry { IfOk result (λ configured.
+            configured.registry ≡ source_of settings.now scripts.items given.items) }
         ensures faults { TellsFirst
             (configure_faults (tables_of T.meanings A.meanings tables.now)
             (source_of settings.now scripts.items given.items)) result }
@@ -95,14 +97,16 @@ impl Registry {
         let projects = projects_in(alloc, settings.includes())?;
         let scripts = with_projects(alloc, &projects, scripts)?;
         let tasks = checked::<A, T>(alloc, tables, &projects, scripts.as_slice())?;
-        Ok(Registry {
+        let registry = Registry {
             projects,
             scripts,
             given,
             tasks,
-        })
+        };
+        Ok(Configured { tables, registry })
     }
 
+    /// The projects in the order in which they are included, the root in front.
     pub fn projects(&self) -> &ProjectSet
         ensures { result.now ≡ self.now.names.projects }
     {

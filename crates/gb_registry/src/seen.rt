@@ -29,9 +29,13 @@ const MOST_TASKS: usize = 4096;
 /// are final, and the count of all properties.
 #[derive(Drop)]
 pub struct Seen {
+    /// The tasks of all scripts so far.
     pub tasks: Tasks,
+    /// The properties that this script has declared.
     pub properties: TextSet,
+    /// Those of them that take no change any more.
     pub finals: TextSet,
+    /// How many properties all scripts have declared.
     pub count: usize,
 }
 

@@ -49,12 +49,14 @@ impl Tasks {
         self.paths.position(path)
     }
 
+    /// How many tasks are registered.
     pub fn len(&self) -> usize
         ensures { result ≡ length self.now }
     {
         self.paths.len()
     }
 
+    /// Their paths in the order of registration.
     pub fn as_slice(&self) -> &[TaskPath]
         ensures { result.now ≡ self.now }
     {

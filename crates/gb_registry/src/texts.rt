@@ -56,6 +56,7 @@ impl TextSet {
         self.texts.get_index_of(text)
     }
 
+    /// How many texts there are.
     pub fn len(&self) -> usize
         ensures { result ≡ length self.now }
     {

@@ -15,8 +15,10 @@ pub trait Look {
     ghost use Rattle.gb_report.specs.declared.fault.Fault.{Fault};
     ghost use Rattle.gb_script.specs.Tree.{Link, Root};
 
+    /// All faults at a source, the first in front.
     ghost at_root: { Self → Root → List Fault };
 
+    /// All faults at a step, apart from its operand, the first in front.
     ghost at_link: { Self → Link → List Fault };
 
     /// What is wrong with a source other than a list.

@@ -21,8 +21,11 @@ use std::alloc::Global;
 /// Where an expression stands, and what it may name there: functions, properties and tasks.
 #[derive(Drop)]
 pub struct Scope<'a, A: Actions, T: Transforms> {
+    /// The actions and functions that may be named.
     pub tables: &'a Tables<A::Stored, T::Map, T::FlatMap, T::Zip, T::Test>,
+    /// The project that its places lie in, and its tasks are named from.
     pub project: &'a Project,
+    /// The properties that are declared above it.
     pub properties: &'a TextSet,
     /// Where all tasks are known.
     pub names: Option<&'a Names<'a>>,

@@ -14,9 +14,13 @@ use thiserror::Error;
 /// What there is too much of.
 #[derive(Clone, Copy, Debug)]
 pub enum Limited {
+    /// Projects, the root among them: more than 256.
     Projects,
+    /// Tasks that are registered: more than 4,096.
     Tasks,
+    /// Properties that are declared: more than 1,024.
     Properties,
+    /// Values that an invocation gives: more than 256.
     Values,
 }
 
@@ -39,26 +43,34 @@ impl fmt::Display for Limited {
 /// Why something is refused, or a task failed. Its `Display` is the text that users read.
 #[derive(Drop, Error)]
 pub enum Fault {
+    /// A text that is no name, or no path of names; 1.
     BadName(Text),
+    /// A text that is no place; 2.
     BadPlace(Text),
+    /// The system gave no more memory; 3.
     OutOfMemory,
     /// The device failed at the place.
     Device(Place),
+    /// No file stands at the place; 11.
     Missing(Place),
     /// A file stands at a folder of the place, or beneath it.
     Blocked(Place),
+    /// The file at the place has more than 8 MiB; 13.
     TooLarge(Place),
     /// The root that was listed: beneath it stands what no place can name, or what is neither a file
     /// nor a folder.
     BadFileName(Place),
     /// The script, and the line.
     Syntax(Place, u64),
+    /// The script, of more than 1 MiB; 21.
     TooLong(Place),
     /// The script, and the line of a bracket inside of 64 others or of a step behind 64 others.
     TooDeep(Place, u64),
+    /// The script, whose bytes are no UTF-8; 23.
     NotUtf8(Place),
     /// Properties and outputs that read one another, from the least name on.
     Circular(Texts),
+    /// No function of that use has the name; 31.
     UnknownTransform(Name),
     /// The function of this name does not take what it is given.
     BadArguments(Text),
@@ -68,18 +80,29 @@ pub enum Fault {
     WrongValue(Text),
     /// A property that takes no other value any more.
     Final(Name),
+    /// No kind of actions has the name; 40.
     UnknownAction(Name),
     /// The action failed by itself, with this text.
     ActionFailed(Text),
+    /// The task, and the kind that does not take its arguments; 43.
     BadArgument(TaskPath, Name),
+    /// The text, which names a task of a project that there is not; 50.
     UnknownProject(Text),
+    /// The path, which one script registers twice; 51.
     DuplicateTask(TaskPath),
+    /// The text, which names no task of its project; 52.
     TaskNotFound(Text),
+    /// The name, which one script declares twice; 53.
     DuplicateProperty(Name),
+    /// The name, which the script does not declare above; 54.
     UnknownProperty(Name),
+    /// The task, whose inputs, outputs and actions do not fit together; 55.
     BadShape(TaskPath),
+    /// The task, and an output that is not beneath the build folder of its project; 56.
     OutputOutsideBuild(TaskPath, Place),
+    /// A project named `build`, or with a folder of more than 896 bytes; 57.
     BadProjectPlace(ProjectPath),
+    /// More of these than there may be; 58.
     TooMany(Limited),
     /// The task, and a text that names none of its outputs.
     UnknownOutput(TaskPath, Text),
@@ -91,14 +114,19 @@ pub enum Fault {
     UndeclaredDependency(TaskPath, TaskPath, Place),
     /// The task reads at the place what it makes itself.
     OwnOutputAsInput(TaskPath, Place),
+    /// Neither a name nor the root script says what runs; 64.
     NoTasks,
+    /// A text that is no pattern of paths; 70.
     BadPattern(Text),
     /// Two files of the property stand at one path, or one at a folder of the other: the greater path.
     DuplicateInput(Name, RelPath),
+    /// The property or output, with more than 65,536 files; 72.
     TooManyFiles(Name),
+    /// The record of a task was not written; 90. The next build runs the task again.
     HistoryNotWritten,
     /// A place among the records of builds.
     OwnState(Place),
+    /// The line of a replay that is none, counted from 1; 95.
     BadLine(u64),
     /// The words of a command are none that are known.
     Usage,

@@ -20,6 +20,7 @@ pub enum Outcome {
     Skipped,
     /// The files that it works on are none.
     NoSource,
+    /// The first fault of its turn. What was written before it stays.
     Failed(Fault),
     /// Its turn did not come.
     NotRun,
@@ -42,18 +43,21 @@ impl Outcome {
         })
     }
 
+    /// Whether its actions ran to their end.
     pub fn is_executed(&self) -> bool
         ensures { result ≡ is_executed self.now }
     {
         matches!(self, Outcome::Executed)
     }
 
+    /// Whether nothing was to be done, so that none of its actions ran.
     pub fn is_up_to_date(&self) -> bool
         ensures { result ≡ is_up_to_date self.now }
     {
         matches!(self, Outcome::UpToDate)
     }
 
+    /// Whether its turn ended in a fault.
     pub fn is_failed(&self) -> bool
         ensures { result ≡ is_failed self.now }
     {
@@ -71,7 +75,9 @@ impl Outcome {
 /// What those who listen to a build are told of a task's turn.
 #[derive(Drop)]
 pub enum Heard {
+    /// The turn of the task begins.
     Start(TaskPath),
+    /// The turn of the task has ended, with this outcome.
     End(TaskPath, Outcome),
 }
 
@@ -89,7 +95,9 @@ pub struct Options {
 /// What became of one task, and the lines that it printed.
 #[derive(Drop)]
 pub struct TaskReport {
+    /// The task of which this is told.
     pub path: TaskPath,
+    /// What became of it.
     pub outcome: Outcome,
     /// A task without actions is not counted in the last line.
     pub has_actions: bool,
@@ -147,12 +155,14 @@ impl TaskReports {
         }
     }
 
+    /// The reports of these tasks, in the order of their turns.
     pub fn from_vec(tasks: Vec<TaskReport>) -> TaskReports
         ensures { result ≡ tasks.items }
     {
         TaskReports { tasks }
     }
 
+    /// The reports in the order of the turns.
     pub fn as_slice(&self) -> &[TaskReport]
         ensures { result.now ≡ self.now }
     {
@@ -163,6 +173,7 @@ impl TaskReports {
 /// What a build answers.
 #[derive(Drop)]
 pub struct Report {
+    /// All tasks of the plan, also those whose turn did not come.
     pub tasks: TaskReports,
     /// Nothing ran: the tasks are those that would.
     pub dry_run: bool,

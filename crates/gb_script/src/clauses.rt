@@ -52,6 +52,7 @@ fn values(alloc: Global, tokens: &[Token], room: u32) -> Result<(Expressions, &[
     }
 }
 
+/// A name, and the values in brackets behind it, if a bracket is there.
 #[tactic(auto, unfolding(crate::specs::Readers::call_at))]
 pub fn call(alloc: Global, tokens: &[Token], room: u32) -> Result<(Call, &[Token]), Stop>
     ensures exact { Gives (λ x. (x.0, x.1.now)) result (call_at room tokens.now) }
@@ -338,6 +339,7 @@ fn clauses(alloc: Global, tokens: &[Token], room: u32) -> Result<(Vec<Clause>, &
     Ok((clauses, rest))
 }
 
+/// Clauses in braces, to the brace that closes them.
 #[tactic(auto, unfolding(crate::specs::Readers::block_at))]
 pub fn block(alloc: Global, tokens: &[Token], room: u32) -> Result<(Block, &[Token]), Stop>
     ensures exact { Gives (λ x. (x.0, x.1.now)) result (block_at room tokens.now) }

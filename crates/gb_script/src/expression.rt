@@ -16,9 +16,13 @@ pub struct Expression {
 #[derive(Debug, Drop)]
 #[cycle(expression)]
 pub enum Source {
+    /// A text in quotes, without them.
     Text(Text),
+    /// `true` or `false`.
     Flag(bool),
+    /// `[a, b]`: values in brackets, perhaps none.
     List(Vec<Expression>),
+    /// A property of the project, by its bare name.
     Property(Name),
     /// A folder of the project.
     Dir(Text),
@@ -28,6 +32,7 @@ pub enum Source {
     BuildDir,
     /// What an invocation gives under the name.
     GradleProperty(Text),
+    /// `task("T")`: a task, by its name or its path.
     Task(Text),
 }
 
@@ -35,7 +40,9 @@ pub enum Source {
 #[derive(Debug, Drop)]
 #[cycle(expression)]
 pub enum Step {
+    /// `.map(f)`: what a function makes of it.
     Map(Function),
+    /// `.flatMap(f)`: the output that a function chooses by it.
     FlatMap(Function),
     /// With another value.
     Zip(Expression, Function),
@@ -67,18 +74,21 @@ impl Expression {
     ghost use Rattle.gb_script.specs.Tree.{root, links, links_of};
     ghost use Rattle.gb_script.specs.View.{tree_of, root_of, link_of};
 
+    /// This source, with these steps in their order.
     pub fn new(source: Source, steps: Vec<Step>) -> Expression
         ensures { result ≡ tree_of source steps.items }
     {
         Expression { source, steps }
     }
 
+    /// Where its value comes from, before any step.
     pub fn source(&self) -> &Source
         ensures { root_of result.now ≡ root self.now }
     {
         &self.source
     }
 
+    /// The steps in their order, perhaps none.
     pub fn steps(&self) -> &[Step]
         ensures { links_of (map link_of result.now) ≡ links self.now }
     {
@@ -108,12 +118,14 @@ impl Model for Expressions {
 impl Expressions {
     ghost use Rattle.std.specs.Prelude.{◌≡◌};
 
+    /// These expressions in their order.
     pub fn new(items: Vec<Expression>) -> Expressions
         ensures { result ≡ items.items }
     {
         Expressions { items }
     }
 
+    /// The expressions in their order.
     pub fn as_slice(&self) -> &[Expression]
         ensures { result.now ≡ self.now }
     {

@@ -5,6 +5,7 @@ use thiserror::Error;
 /// Why a script could not be read.
 #[derive(Clone, Copy, Debug, PartialEq, Eq, Error)]
 pub enum ScriptFault {
+    /// No memory to read it; 3.
     #[error("out of memory")]
     OutOfMemory,
     /// The line of the first token that no script has after those before it, or the last line where
@@ -17,6 +18,7 @@ pub enum ScriptFault {
     /// The line of a bracket inside of 64 others, or of a step behind 64 others.
     #[error("too deep in line {0}")]
     TooDeep(u64),
+    /// Its bytes are no UTF-8.
     #[error("not UTF-8")]
     NotUtf8,
 }

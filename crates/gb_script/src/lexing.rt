@@ -18,9 +18,11 @@ use std::alloc::{AllocError, Global};
 /// What stands at one place of a text.
 #[derive(Debug, Drop)]
 pub enum Part {
+    /// The end of a line.
     Newline,
     /// Another blank, or a comment.
     Gap,
+    /// A token.
     Found(Token),
 }
 
@@ -238,7 +240,9 @@ fn first_part(alloc: Global, text: &str) -> Result<(Part, &str), AllocError>
 /// The tokens of a text, and the line of each.
 #[derive(Debug, Drop)]
 pub struct Lexed {
+    /// The tokens in their order; behind one that no script has, nothing is taken.
     pub tokens: Vec<Token>,
+    /// For each token the line that it begins in, counted from 1.
     pub lines: Vec<u64>,
 }
 

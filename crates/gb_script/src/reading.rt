@@ -17,12 +17,14 @@ use gb_core::name::Name;
 use gb_core::text::{Text, Texts};
 use std::alloc::Global;
 
+/// The fault that the first of these tokens is out of place, or that they end too early.
 pub fn stray(tokens: &[Token]) -> Stop
     ensures { result ≡ Stop.Fault (Fault.Stray (length tokens.now)) }
 {
     Stop::Fault(Fault::Stray(tokens.len()))
 }
 
+/// Whether the first token is this sign.
 pub fn begins(tokens: &[Token], sign: Sign) -> bool
     ensures { result ≡ begins (is_sign sign) tokens.now }
 {
@@ -32,6 +34,7 @@ pub fn begins(tokens: &[Token], sign: Sign) -> bool
     }
 }
 
+/// Whether the first token is this word.
 pub fn begins_word(tokens: &[Token], word: &str) -> bool
     ensures { result ≡ begins (is_word word.now) tokens.now }
 {
@@ -41,6 +44,7 @@ pub fn begins_word(tokens: &[Token], word: &str) -> bool
     }
 }
 
+/// The tokens behind this sign, which has to be the first.
 #[tactic(auto, unfolding(crate::specs::Reading::skip_at))]
 pub fn skip(tokens: &[Token], sign: Sign) -> Result<&[Token], Stop>
     ensures exact { Gives (λ rest. rest.now) result (skip_at (is_sign sign) tokens.now) }
@@ -53,6 +57,7 @@ pub fn skip(tokens: &[Token], sign: Sign) -> Result<&[Token], Stop>
     }
 }
 
+/// The tokens behind this word, which has to be the first.
 #[tactic(auto, unfolding(crate::specs::Reading::skip_at))]
 pub fn skip_word<'t>(tokens: &'t [Token], word: &str) -> Result<&'t [Token], Stop>
     ensures exact { Gives (λ rest. rest.now) result (skip_at (is_word word.now) tokens.now) }
@@ -79,6 +84,7 @@ pub fn open(tokens: &[Token], sign: Sign, room: u32) -> Result<(u32, &[Token]), 
     Ok((room - 1, rest))
 }
 
+/// The word in front, which may be one that the notation gives a meaning to.
 #[tactic(auto, unfolding(crate::specs::Reading::name_at))]
 pub fn name(tokens: &[Token]) -> Result<(Name, &[Token]), Stop>
     ensures exact { Gives (λ x. (x.0, x.1.now)) result (name_at tokens.now) }
@@ -109,6 +115,7 @@ pub fn property(tokens: &[Token]) -> Result<(Name, &[Token]), Stop>
     }
 }
 
+/// The text in front, without its quotes.
 #[tactic(auto, unfolding(crate::specs::Reading::text_at))]
 pub fn text(tokens: &[Token]) -> Result<(Text, &[Token]), Stop>
     ensures exact { Gives (λ x. (x.0, x.1.now)) result (text_at tokens.now) }
@@ -187,6 +194,7 @@ pub fn arguments(alloc: Global, tokens: &[Token], room: u32) -> Result<(Texts, &
     }
 }
 
+/// A name, and the texts in brackets behind it, if a bracket is there.
 #[tactic(auto, unfolding(crate::specs::Readers::function_at))]
 pub fn function(alloc: Global, tokens: &[Token], room: u32) -> Result<(Function, &[Token]), Stop>
     ensures exact { Gives (λ x. (x.0, x.1.now)) result (function_at room tokens.now) }

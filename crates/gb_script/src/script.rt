@@ -8,27 +8,34 @@ use std::marker::Model;
 /// A kind with what is given to it.
 #[derive(Debug, Drop)]
 pub struct Call {
+    /// The name of the kind.
     pub name: Name,
+    /// The values in brackets behind it, or none where no bracket is.
     pub arguments: Expressions,
 }
 
 /// A name with the value that it gets.
 #[derive(Debug, Drop)]
 pub struct Assignment {
+    /// Whose value it is: an input, an output or a property.
     pub name: Name,
+    /// The value behind the sign of equality.
     pub value: Expression,
 }
 
 /// A value, and the test that it has to pass.
 #[derive(Debug, Drop)]
 pub struct Condition {
+    /// The value that is tested as the task is realised.
     pub value: Expression,
+    /// The test, with the texts that it is given.
     pub test: Function,
 }
 
 /// Files that a task reads.
 #[derive(Debug, Drop)]
 pub struct InputFiles {
+    /// The name of the file property in its task.
     pub name: Name,
     /// Actions hear what changed since the last run.
     pub incremental: bool,
@@ -44,11 +51,16 @@ pub struct InputFiles {
     pub exclude: Texts,
 }
 
+/// A clause of a task.
 #[derive(Debug, Drop)]
 pub enum Clause {
+    /// `input N = V`: a value that the actions see under this name.
     Input(Assignment),
+    /// `inputFiles N from V`: files that the actions read.
     InputFiles(InputFiles),
+    /// `outputFile N = V`: one file that the task makes, at this place.
     OutputFile(Assignment),
+    /// `outputDir N = V`: the task makes all files beneath this place.
     OutputDir(Assignment),
     /// Tasks that run before this one, at least one.
     DependsOn(Texts),
@@ -90,12 +102,14 @@ impl Model for Block {
 impl Block {
     ghost use Rattle.std.specs.Prelude.{◌≡◌};
 
+    /// These clauses in their order.
     pub fn new(clauses: Vec<Clause>) -> Block
         ensures { result ≡ clauses.items }
     {
         Block { clauses }
     }
 
+    /// The clauses in their order.
     pub fn clauses(&self) -> &[Clause]
         ensures { result.now ≡ self.now }
     {
@@ -106,30 +120,41 @@ impl Block {
 /// A new task.
 #[derive(Debug, Drop)]
 pub struct Registration {
+    /// The name of the task in its project.
     pub name: Name,
     /// The kind behind the colon.
     pub action: Option<Call>,
+    /// The clauses in braces.
     pub block: Block,
 }
 
 /// More clauses for a task.
 #[derive(Debug, Drop)]
 pub struct Configuration {
+    /// The name of a task of the project.
     pub name: Name,
+    /// The clauses in braces, which come behind those that it has.
     pub block: Block,
 }
 
+/// A statement of a script.
 #[derive(Debug, Drop)]
 pub enum Statement {
     /// The tasks that run where an invocation names none, at least one.
     DefaultTasks(Texts),
     /// A new property.
     Property(Name),
+    /// `set N = V`: the value of a property from here on.
     Set(Assignment),
+    /// `convention N = V`: its value where it is not set.
     Convention(Assignment),
+    /// `unset N`: the property falls back to its convention.
     Unset(Name),
+    /// `disallowChanges N`: the property is final from here on (35).
     DisallowChanges(Name),
+    /// `register N { .. }`: a new task of the project.
     Register(Registration),
+    /// `named N { .. }`: more clauses for a task of the project.
     Named(Configuration),
 }
 
@@ -155,12 +180,14 @@ impl Model for Script {
 impl Script {
     ghost use Rattle.std.specs.Prelude.{◌≡◌};
 
+    /// These statements in their order.
     pub fn new(statements: Vec<Statement>) -> Script
         ensures { result ≡ statements.items }
     {
         Script { statements }
     }
 
+    /// The statements in their order.
     pub fn statements(&self) -> &[Statement]
         ensures { result.now ≡ self.now }
     {
@@ -185,12 +212,14 @@ impl Model for Settings {
 impl Settings {
     ghost use Rattle.std.specs.Prelude.{◌≡◌};
 
+    /// These `include` lines in their order.
     pub fn new(includes: Vec<Texts>) -> Settings
         ensures { result ≡ includes.items }
     {
         Settings { includes }
     }
 
+    /// The texts of each `include`, in the order of the lines.
     pub fn includes(&self) -> &[Texts]
         ensures { result.now ≡ self.now }
     {

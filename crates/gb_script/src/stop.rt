@@ -13,7 +13,9 @@ pub enum Fault {
 /// Why reading tokens stopped.
 #[derive(Debug, Drop)]
 pub enum Stop {
+    /// No memory for what was read.
     Memory,
+    /// The tokens are at fault.
     Fault(Fault),
 }
 

@@ -5,15 +5,23 @@ ghost use Rattle.gb_script.specs.Words.{meaning_in, source_words, step_words, cl
 /// A word that is a source of its own or begins one. No property is named so.
 #[derive(Clone, Copy, Debug)]
 pub enum SourceWord {
+    /// `true`, the flag.
     True,
+    /// `false`, the flag.
     False,
+    /// `dir`, a folder of the project.
     Dir,
+    /// `file`, a file of the project.
     File,
+    /// `buildDir`, the folder of what is built.
     BuildDir,
+    /// `gradleProperty`, what an invocation gives under a name.
     GradleProperty,
+    /// `task`, a task by its name or its path.
     Task,
 }
 
+/// What the word means where a value begins, if it is reserved.
 pub fn source_word(word: &str) -> Option<SourceWord>
     ensures { result ≡ meaning_in source_words word.now }
 {
@@ -32,12 +40,17 @@ pub fn source_word(word: &str) -> Option<SourceWord>
 /// A word that begins a step.
 #[derive(Clone, Copy, Debug)]
 pub enum StepWord {
+    /// `map`, what a function makes of a value.
     Map,
+    /// `flatMap`, the output that a function chooses by a value.
     FlatMap,
+    /// `zip`, what a function makes of two values.
     Zip,
+    /// `orElse`, another value where there is none.
     OrElse,
 }
 
+/// What the word means behind a dot, if it begins a step.
 pub fn step_word(word: &str) -> Option<StepWord>
     ensures { result ≡ meaning_in step_words word.now }
 {
@@ -53,32 +66,47 @@ pub fn step_word(word: &str) -> Option<StepWord>
 /// A word that sets a task before or after others.
 #[derive(Clone, Copy, Debug)]
 pub enum OrderWord {
+    /// `dependsOn`, before this task and always with it.
     DependsOn,
+    /// `mustRunAfter`, before this task where both run.
     MustRunAfter,
+    /// `finalizedBy`, after this task and always with it.
     FinalizedBy,
 }
 
 /// A word that says what a task does, or when it does it.
 #[derive(Clone, Copy, Debug)]
 pub enum RunWord {
+    /// `doFirst`, an action before all others.
     DoFirst,
+    /// `doLast`, an action behind all others.
     DoLast,
+    /// `onlyIf`, when the task is not skipped.
     OnlyIf,
+    /// `upToDateWhen`, when the task may be up to date.
     UpToDateWhen,
+    /// `enabled`, whether the task is not skipped.
     Enabled,
 }
 
 /// A word that begins a clause.
 #[derive(Clone, Copy, Debug)]
 pub enum ClauseWord {
+    /// `input`, a value that actions see.
     Input,
+    /// `inputFiles`, files that actions read.
     InputFiles,
+    /// `outputFile`, one file that the task makes.
     OutputFile,
+    /// `outputDir`, a folder of files that the task makes.
     OutputDir,
+    /// One of the words of order.
     Order(OrderWord),
+    /// One of the words of what it does, or when.
     Run(RunWord),
 }
 
+/// What the word means in the braces of a task, if it begins a clause.
 pub fn clause_word(word: &str) -> Option<ClauseWord>
     ensures { result ≡ meaning_in clause_words word.now }
 {
@@ -102,22 +130,32 @@ pub fn clause_word(word: &str) -> Option<ClauseWord>
 /// A word that says something of a property.
 #[derive(Clone, Copy, Debug)]
 pub enum PropertyWord {
+    /// `property`, a new one.
     Declare,
+    /// `set`, its value.
     Set,
+    /// `convention`, its value where it is not set.
     Convention,
+    /// `unset`, back to its convention.
     Unset,
+    /// `disallowChanges`, final from there on.
     DisallowChanges,
 }
 
 /// A word that begins a statement.
 #[derive(Clone, Copy, Debug)]
 pub enum StatementWord {
+    /// `defaultTasks`, what runs where an invocation names no task.
     DefaultTasks,
+    /// One of the words of properties.
     Property(PropertyWord),
+    /// `register`, a new task.
     Register,
+    /// `named`, more of a task.
     Named,
 }
 
+/// What the word means at the front of a statement, if it begins one.
 pub fn statement_word(word: &str) -> Option<StatementWord>
     ensures { result ≡ meaning_in statement_words word.now }
 {

@@ -34,9 +34,9 @@ module _ {M F Z S A : Type 0} (tables : Tables M F Z S A) (files : Files) (given
   scripts_refused fault bad = inr (settings, (settings, text, (none, refl)), inl bad)
 
   -- the scripts are put together, or a statement has a fault
-  pub put_together : (texts : List (List Statement)) (before after : ℕ) (result : Result Source Fault) → ScriptsSay files (script_places (projects_of settings)) (Ok texts)
-      → IfOk result (λ registry. registry ≡ source_of settings texts given) → TellsFirst (configure_faults tables (source_of settings texts given)) result
-      → MatchResult result (λ registry. FolderSays tables files given (Ok registry)) (λ fault. IsOfMachine before after fault ⊎ FolderSays tables files given (Err fault))
-  put_together texts before after (Ok registry) scripts same told = (settings, (settings, text, (none, refl)), (texts, scripts, (told, same)))
-  put_together texts before after (Err fault) scripts same (inl memory) = inl (inl memory)
-  put_together texts before after (Err fault) scripts same (inr first) = inr (inr (settings, (settings, text, (none, refl)), inr (texts, scripts, first)))
+  pub put_together : {X : Type 0} (texts : List (List Statement)) (before after : ℕ) (result : Result X Fault) (registry : X → Source) → ScriptsSay files (script_places (projects_of settings)) (Ok texts)
+      → IfOk result (λ x. registry x ≡ source_of settings texts given) → TellsFirst (configure_faults tables (source_of settings texts given)) result
+      → MatchResult result (λ x. FolderSays tables files given (Ok (registry x))) (λ fault. IsOfMachine before after fault ⊎ FolderSays tables files given (Err fault))
+  put_together texts before after (Ok x) registry scripts same told = (settings, (settings, text, (none, refl)), (texts, scripts, (told, same)))
+  put_together texts before after (Err fault) registry scripts same (inl memory) = inl (inl memory)
+  put_together texts before after (Err fault) registry scripts same (inr first) = inr (inr (settings, (settings, text, (none, refl)), inr (texts, scripts, first)))

@@ -1,7 +1,6 @@
 //! A folder read: its settings, and the scripts of their projects.
-ghost use Rattle.std.specs.Prelude.{◌≡◌, ◌⊎◌, [], Ok, Err, IsTrue, IfOk, MatchResult};
+ghost use Rattle.std.specs.Prelude.{◌≡◌, ◌⊎◌, Ok, Err, IsTrue, IfOk, MatchResult};
 ghost use Rattle.gb_folder.specs.Calls.{Asks, no_change};
-ghost use Rattle.gb_registry.specs.Configure.{configure_faults};
 ghost use Rattle.gb_registry.specs.Tables.{tables_of};
 ghost use Rattle.gb_script.specs.Script.{SaysAsSettings};
 ghost use Rattle.gb_store.specs.Changes.{is_at};
@@ -17,6 +16,7 @@ use gb_core::place::Place;
 use gb_core::text::Text;
 use gb_folder::folder::Folder;
 use gb_provider::transforms::Transforms;
+use gb_registry::configured::Configured;
 use gb_registry::projects::projects;
 use gb_registry::registry::Registry;
 use gb_registry::tables::Tables;
@@ -31,21 +31,20 @@ use std::alloc::Global;
 /// 23), of what it includes (1, 57, 58), of the text of a `build.gb` in the order of projects (12, 20 to 23),
 /// and then of a statement, as `Registry::configure` tells it. Memory may run out (3), and the device may
 /// fail (10), on the way.
-pub fn read_registry<A: Actions, T: Transforms, F: Folder>(
+pub fn read_registry<'a, A: Actions, T: Transforms, F: Folder>(
     alloc: Global,
     folder: &mut F,
-    tables: &Tables<A::Stored, T::Map, T::FlatMap, T::Zip, T::Test>,
+    tables: &'a Tables<A::Stored, T::Map, T::FlatMap, T::Zip, T::Test>,
     given: Vec<(Name, Text)>,
-) -> Result<Registry, Fault>
+) -> Result<Configured<'a, A, T>, Fault>
     ensures asks { Asks F.failures F.may_leave F.asked no_change folder.old folder.new }
     ensures blame { Blames result (F.failures folder.old) (F.failures folder.new) }
     ensures blamed { BlamesOnly is_script_place result }
     ensures same { IsTrue F.tells → F.contents folder.new ≡ F.contents folder.old }
-    ensures good { IfOk result (λ registry.
-        configure_faults (tables_of T.meanings A.meanings tables.now) registry ≡ []) }
+    ensures tables { IfOk result (λ configured. configured.tables.now ≡ tables.now) }
     ensures said { IsTrue F.tells → MatchResult result
-        (λ registry. FolderSays (tables_of T.meanings A.meanings tables.now)
-        (F.contents folder.old).files given.items (Ok registry))
+        (λ configured. FolderSays (tables_of T.meanings A.meanings tables.now)
+        (F.contents folder.old).files given.items (Ok configured.registry))
         (λ fault. IsOfMachine (F.failures folder.old) (F.failures folder.new) fault
         ⊎ FolderSays (tables_of T.meanings A.meanings tables.now)
         (F.contents folder.old).files given.items (Err fault)) }

@@ -19,7 +19,9 @@ pub enum Ending {
     Executed,
     /// It was started, was not executed, and did not fail.
     Well,
+    /// Its turn ended in a fault.
     Failed,
+    /// It was not started, and will not be.
     NotRun,
 }
 

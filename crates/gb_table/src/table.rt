@@ -17,6 +17,7 @@ pub enum AddFault {
     /// Another value has the name.
     #[error("the name is taken")]
     Taken,
+    /// No memory for the entry: the table is as it was.
     #[error("out of memory")]
     OutOfMemory,
 }

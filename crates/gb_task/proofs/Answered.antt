@@ -155,7 +155,7 @@ module _ {F : Type 0} (failures : F → ℕ) (may_leave : F → Tearing) (asked 
   was_settled options task last path need (Err fault) may was = λ told acts. absurd (let e = told in (cc))
   was_settled options task last path need (Ok prepared.Skips) may was = λ told acts. absurd (let e = told in (cc))
   was_settled options task last path need (Ok prepared.HasNoActions) may was = λ told acts. absurd (true≢false (sym may.1 ∙ acts))
-  was_settled options task last path need (Ok prepared.HasNoSource) may was = tt
+  was_settled options task last path need (Ok prepared.HasNoSource) may was = was
   was_settled options task last path need (Ok (prepared.Decided decisions.UpToDate seen)) may was =
       λ told acts. current_on options task last seen.inputs.items seen.outputs.items was.0 was.1 was.2.0 was.2.1 was.2.2
   was_settled options task last path need (Ok (prepared.Decided (decisions.Incremental changes) seen)) may was = (was.1, was.2)

@@ -6,7 +6,7 @@ use Rattle.gb_action.specs.Changes.{Changes}
 use Rattle.gb_action.specs.Files.{Trees}
 use Rattle.gb_action.specs.Meanings.{Meanings}
 use Rattle.gb_action.specs.declared.output.OutputFiles.{OutputFiles}
-use Rattle.gb_folder.specs.Calls.{Asks, Call, changes_at, put_at, taken_at, takes_at}
+use Rattle.gb_folder.specs.Calls.{Asks, Call, Permit, changes_at, no_change, put_at, taken_at, takes_at}
 use Rattle.gb_folder.specs.Files.{Bytes, Files, IsFolder, Place, Tearing, are_placed}
 use Rattle.gb_folder.proofs.Asked.{asks_more, asks_taken, take_at, takes_where}
 use Rattle.gb_history.specs.Places.{record_place}
@@ -24,10 +24,12 @@ use Rattle.gb_report.specs.declared.report.Options.{Options}
 use Rattle.gb_store.specs.Changes.{is_at}
 use Rattle.gb_turn.specs.declared.inputs.Inputs.{Inputs}
 use Rattle.gb_turn.specs.declared.outputs.Outputs.{Outputs}
-use Rattle.gb_task.specs.Asking.{IsInFull, IsTextAnew, IsTextBy, IsTextIn, IsTextOf, in_turn_with}
+use Rattle.gb_task.specs.Asking.{HasRead, IsInFull, IsTextAnew, IsTextBy, IsTextIn, IsTextOf, in_turn_with, once}
+use Rattle.gb_label.specs.Answered.{WasSourceless}
 use Rattle.gb_turn.specs.Answered.{AreInputsRead}
 use Rattle.gb_task.specs.Anew.{IsAnew}
 use Rattle.gb_task.specs.Current.{WasReadAnew}
+use Rattle.gb_task.specs.declared.anew.Anew.{Anew}
 use Rattle.gb_task.specs.declared.anew.Anew.TheVariants as anew
 use Rattle.gb_task.specs.Keeping.{IsRecordOf}
 use Rattle.gb_task.specs.Turned.{is_of_turn}
@@ -68,7 +70,39 @@ unfolding in_turn_with
 permitted_text task some more wider place None is = is
 permitted_text task some more wider place (Some bytes) is = elim is [ inl output ↦ inl output | inr record_is ↦ inr (record_is.0, wider bytes record_is.1) ]
 
+-- what holds is enough for what is permitted once it does
+permitted_once : (holds : Type 0) (permit : Permit) → holds → (place : Place) (next : Option Bytes) → permit place next → once holds permit place next
+unfolding once
+permitted_once holds permit is place next may = (is, may)
+
+-- what is permitted more is so once the same holds
+permitted_more : (holds : Type 0) (some more : Permit) → ((place : Place) (next : Option Bytes) → some place next → more place next)
+    → (place : Place) (next : Option Bytes) → once holds some place next → once holds more place next
+unfolding once
+permitted_more holds some more wider place next may = (may.0, wider place next may.1)
+
+-- what is permitted once something holds is permitted
+pub permitted_of_once : (holds : Type 0) (permit : Permit) (place : Place) (next : Option Bytes) → once holds permit place next → permit place next
+unfolding once
+permitted_of_once holds permit place next may = may.1
+
+-- where it does not hold, nothing is permitted
+permitted_never : (holds : Type 0) (permit : Permit) → ¬ holds → (place : Place) (next : Option Bytes) → once holds permit place next → no_change place next
+unfolding once no_change
+permitted_never holds permit never place next may = absurd (never may.0)
+
 module _ {F : Type 0} {failures : F → ℕ} {may_leave : F → Tearing} {asked : F → Call → F → Type 0} {old new : F} where
+  pub asks_once : (holds : Type 0) (permit : Permit) → holds → Asks failures may_leave asked permit old new → Asks failures may_leave asked (once holds permit) old new
+  asks_once holds permit is asks = asks_more (permitted_once holds permit is) asks
+
+  pub text_once : (holds : Type 0) (task : Task) (some more : Bytes → Type 0) → ((bytes : Bytes) → some bytes → more bytes)
+      → Asks failures may_leave asked (once holds (in_turn_with task some)) old new → Asks failures may_leave asked (once holds (in_turn_with task more)) old new
+  text_once holds task some more wider asks = asks_more (permitted_more holds (in_turn_with task some) (in_turn_with task more) (permitted_text task some more wider)) asks
+
+  -- a turn that has not read asks for no change
+  pub asks_never : (holds : Type 0) (permit : Permit) → ¬ holds → Asks failures may_leave asked (once holds permit) old new → Asks failures may_leave asked no_change old new
+  asks_never holds permit never asks = asks_more (permitted_never holds permit never) asks
+
   -- the record is taken out
   pub record_taken : (task : Task) → Asks failures may_leave asked (taken_at (record_place task.path)) old new → Asks failures may_leave asked (takes_at (is_of_turn task)) old new
   record_taken task takes = asks_taken (record_place task.path) (take_at (is_of_turn task) (record_place task.path) (at_record task)) takes
@@ -92,6 +126,25 @@ module _ {F : Type 0} {failures : F → ℕ} {may_leave : F → Tearing} {asked 
   pub text_in_turn : (task : Task) (some more : Bytes → Type 0) → ((bytes : Bytes) → some bytes → more bytes)
       → Asks failures may_leave asked (in_turn_with task some) old new → Asks failures may_leave asked (in_turn_with task more) old new
   text_in_turn task some more wider asks = asks_more (permitted_text task some more wider) asks
+
+module _ {F : Type 0} (failures : F → ℕ) (may_leave : F → Tearing) (asked : F → Call → F → Type 0) (old : F) where
+  -- the inputs of a run were answered
+  pub run_read : (task : Task) (trees : Trees) (read : F) → AreInputsRead failures may_leave asked old read task trees → map (λ tree. tree.0) trees ≡ seen_files task.files
+      → HasRead failures may_leave asked old task
+  unfolding HasRead
+  run_read task trees read inputs named = inl (trees, read, inputs, named)
+
+  -- and so they were where something was decided anew
+  pub anew_read : (options : Options) (task : Task) (last : Remembered) (is : Anew) (read : F) → IsAnew options task last is → WasReadAnew failures may_leave asked old read task is
+      → HasRead failures may_leave asked old task
+  unfolding HasRead
+  anew_read options task last (anew.ByChanges inputs outputs changes) read is was = inl (inputs.trees, read, was.0, is.0.named)
+  anew_read options task last (anew.InFull inputs) read is was = inl (inputs.trees, read, was, is.named)
+
+  -- that the task has no source was answered
+  pub source_read : (task : Task) (read : F) → WasSourceless failures may_leave asked old read task → HasRead failures may_leave asked old task
+  unfolding HasRead
+  source_read task read was = inr (read, was)
 
 module _ {F S : Type 0} (failures : F → ℕ) (may_leave : F → Tearing) (asked : F → Call → F → Type 0) (old : F) (meanings : Meanings S) (rows : Rows S) where
   -- a run in full on these trees is one

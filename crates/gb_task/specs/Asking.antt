@@ -4,7 +4,7 @@ use Rattle.gb_action.specs.Changes.{Changes}
 use Rattle.gb_action.specs.Files.{Trees}
 use Rattle.gb_action.specs.Meanings.{Meanings}
 use Rattle.gb_action.specs.declared.output.OutputFiles.{OutputFiles}
-use Rattle.gb_folder.specs.Calls.{Call, Permit}
+use Rattle.gb_folder.specs.Calls.{Asks, Call, Permit, no_change}
 use Rattle.gb_folder.specs.Files.{Bytes, Files, IsFolder, Tearing, are_placed}
 use Rattle.gb_history.specs.Places.{record_place}
 use Rattle.gb_history.specs.Remembered.{Remembered}
@@ -17,6 +17,7 @@ use Rattle.gb_plan.specs.Ready.{Rows}
 use Rattle.gb_plan.specs.Task.{is_output_of, seen_files, seen_outputs}
 use Rattle.gb_plan.specs.declared.task.TaskDeclaration.{TaskDeclaration as Task}
 use Rattle.gb_report.specs.declared.report.Options.{Options}
+use Rattle.gb_label.specs.Answered.{WasSourceless}
 use Rattle.gb_turn.specs.Answered.{AreInputsRead, AreOutputsRead}
 use Rattle.gb_task.specs.Anew.{AreDecided}
 use Rattle.gb_task.specs.Keeping.{IsRecordOf}
@@ -28,6 +29,25 @@ unfoldable pub in_turn_with : Task → (Bytes → Type 0) → Permit
 in_turn_with task text place None = IsTrue (is_of_turn task place)
 in_turn_with task text place (Some bytes) =
     IsTrue (is_output_of task place) ⊎ ((place ≡ record_place task.path) × text bytes)
+
+-- What is permitted, once this holds.
+unfoldable pub once : Type 0 → Permit → Permit
+once holds permit place next = holds × permit place next
+
+-- What a turn goes by was answered on the way from a state of the folder, without a change: the whole trees
+-- of its inputs; or that it has no source.
+unfoldable pub HasRead : {F : Type 0} → (F → ℕ) → (F → Tearing) → (F → Call → F → Type 0) → F → Task → Type 0
+HasRead {F = F} failures may_leave asked old task =
+    ((trees : Trees) × (read : F) × AreInputsRead failures may_leave asked old read task trees
+    × (map (λ tree. tree.0) trees ≡ seen_files task.files))
+    ⊎ ((read : F) × WasSourceless failures may_leave asked old read task)
+
+-- a turn in which that was not answered asks for no change
+abbrev pub UnreadTurnsKeep : {F : Type 0} → (F → ℕ) → (F → Tearing) → (F → Call → F → Type 0) → Type 0
+UnreadTurnsKeep {F = F} failures may_leave asked =
+    (task : Task) (permit : Permit) (old new : F) → ¬ HasRead failures may_leave asked old task
+    → Asks failures may_leave asked (once (HasRead failures may_leave asked old task) permit) old new
+    → Asks failures may_leave asked no_change old new
 
 -- ---- The text of a record, by the run that it is put in for
 

@@ -8,7 +8,7 @@ use Rattle.gb_history.specs.Decision.{DecidesFrom}
 use Rattle.gb_history.specs.Remembered.{Remembered}
 use Rattle.gb_history.specs.declared.decide.Decision.TheVariants as decisions
 use Rattle.gb_history.specs.declared.decide.Present.{Present}
-use Rattle.gb_label.specs.Answered.{WasDecided}
+use Rattle.gb_label.specs.Answered.{WasDecided, WasSourceless}
 use Rattle.gb_label.specs.Deciding.{IsPresentOf}
 use Rattle.gb_plan.specs.Task.{seen_files, seen_outputs}
 use Rattle.gb_plan.specs.declared.task.TaskDeclaration.{TaskDeclaration as Task}
@@ -50,7 +50,8 @@ abbrev pub WasSettled : {F : Type 0} → (F → ℕ) → (F → Tearing) → (F 
     → Task → Option Remembered → Settled → Type 0
 WasSettled failures may_leave asked old new options task last (settled.Told report) =
     IsToldCurrent failures may_leave asked options task last old new report.outcome
-WasSettled failures may_leave asked old new options task last (settled.Sourceless path) = ⊤
+WasSettled failures may_leave asked old new options task last (settled.Sourceless path) =
+    WasSourceless failures may_leave asked old new task
 WasSettled failures may_leave asked old new options task last (settled.Due path decision seen) =
     AreInputsAnswered failures may_leave asked old new task seen.inputs.items
     × WasDecided failures may_leave asked old new options task last seen.inputs.items decision

@@ -16,7 +16,7 @@ ghost use Rattle.gb_records.specs.Said.{IsText};
 ghost use Rattle.gb_report.specs.declared.report.Outcome.TheVariants.{Failed};
 ghost use Rattle.gb_store.specs.Changes.{ChangesOnly};
 ghost use Rattle.gb_store.specs.Faults.{Blames, BlamesOnly};
-ghost use Rattle.gb_task.specs.Asking.{IsTextAnew, in_turn_with};
+ghost use Rattle.gb_task.specs.Asking.{HasRead, IsTextAnew, in_turn_with, once};
 ghost use Rattle.gb_task.specs.Turned.{ComesAt, HasTurned, IsToGoOn, IsToldOf, Registering, is_of_turn};
 ghost use Rattle.gb_task.specs.Turned.{outcome_of, report_of, setting_with};
 ghost use Rattle.gb_turn.specs.Answered.{AreInputsAnswered, AreOutputsAnswered};
@@ -61,12 +61,14 @@ pub fn take_turn_by_changes<A: Actions, F: Folder>(
     ensures path { result.path ≡ task.now.path }
     ensures has_actions { result.has_actions ≡ not (is_empty task.now.actions) }
     ensures outcome { IsToldOf outcome_of result.outcome }
-    // On inputs and outputs that were answered on the way from a state of the folder, records are of these.
+    // Nothing is changed before its inputs were answered whole. Where inputs and outputs were on the way
+    // from a state of the folder, records are of these.
     ensures asks { (first : _) → Asks F.failures F.may_leave F.asked no_change first folder.old
         → AreInputsAnswered F.failures F.may_leave F.asked first folder.old task.now seen.inputs.items
         → AreOutputsAnswered F.failures F.may_leave F.asked first folder.old task.now seen.outputs.items
-        → Asks F.failures F.may_leave F.asked (in_turn_with task.now
-        (IsTextAnew F.failures F.may_leave F.asked first A.meanings table.now options task.now last.now))
+        → Asks F.failures F.may_leave F.asked (once (HasRead F.failures F.may_leave F.asked first task.now)
+        (in_turn_with task.now
+        (IsTextAnew F.failures F.may_leave F.asked first A.meanings table.now options task.now last.now)))
         folder.old folder.new }
     ensures blame { (place : List ℕ) → result.outcome ≡ Failed (Fault.Device place)
         → HasRisen (F.failures folder.old) (F.failures folder.new) }
@@ -116,12 +118,14 @@ fn go_on<A: Actions, F: Folder>(
     requires inputs { AreInputs task.now seen.inputs.items }
     requires outputs { AreOutputs task.now seen.outputs.items }
     requires no_lines { lines.old ≡ [] }
-    // On inputs and outputs that were answered on the way from a state of the folder, records are of these.
+    // Nothing is changed before its inputs were answered whole. Where inputs and outputs were on the way
+    // from a state of the folder, records are of these.
     ensures asks { (first : _) → Asks F.failures F.may_leave F.asked no_change first folder.old
         → AreInputsAnswered F.failures F.may_leave F.asked first folder.old task.now seen.inputs.items
         → AreOutputsAnswered F.failures F.may_leave F.asked first folder.old task.now seen.outputs.items
-        → Asks F.failures F.may_leave F.asked (in_turn_with task.now
-        (IsTextAnew F.failures F.may_leave F.asked first A.meanings table.now options task.now last.now))
+        → Asks F.failures F.may_leave F.asked (once (HasRead F.failures F.may_leave F.asked first task.now)
+        (in_turn_with task.now
+        (IsTextAnew F.failures F.may_leave F.asked first A.meanings table.now options task.now last.now)))
         folder.old folder.new }
     ensures blame { Blames result (F.failures folder.old) (F.failures folder.new) }
     ensures blamed { BlamesOnly (λ place. is_input_of task.now place || is_output_of task.now place) result }

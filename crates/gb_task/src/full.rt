@@ -18,7 +18,7 @@ ghost use Rattle.gb_report.specs.declared.report.Outcome.TheVariants.{Failed};
 ghost use Rattle.gb_run.specs.Course.{EndsWell, Fails, course_of};
 ghost use Rattle.gb_store.specs.Changes.{ChangesOnly};
 ghost use Rattle.gb_store.specs.Faults.{Blames, BlamesOnly};
-ghost use Rattle.gb_task.specs.Asking.{IsInFull, IsTextIn, in_turn_with};
+ghost use Rattle.gb_task.specs.Asking.{HasRead, IsInFull, IsTextIn, in_turn_with, once};
 ghost use Rattle.gb_task.specs.Keeping.{IsRecordOf};
 ghost use Rattle.gb_task.specs.Turned.{ComesAt, HasTurned, IsDue, IsToldOf, Registering, is_of_turn};
 ghost use Rattle.gb_task.specs.Turned.{outcome_of, report_of, setting_with};
@@ -67,11 +67,13 @@ pub fn take_full_turn<A: Actions, F: Folder>(
     ensures path { result.path ≡ task.now.path }
     ensures has_actions { result.has_actions ≡ not (is_empty task.now.actions) }
     ensures outcome { IsToldOf outcome_of result.outcome }
-    // On inputs that were answered on the way from a state of the folder, the record is of these.
+    // Nothing is changed before its inputs were answered whole. Where they were on the way from a state of
+    // the folder, the record is of these.
     ensures asks { (first : _) → Asks F.failures F.may_leave F.asked no_change first folder.old
         → AreInputsAnswered F.failures F.may_leave F.asked first folder.old task.now inputs.items
-        → Asks F.failures F.may_leave F.asked (in_turn_with task.now
-        (IsInFull F.failures F.may_leave F.asked first A.meanings table.now task.now))
+        → Asks F.failures F.may_leave F.asked (once (HasRead F.failures F.may_leave F.asked first task.now)
+        (in_turn_with task.now
+        (IsInFull F.failures F.may_leave F.asked first A.meanings table.now task.now)))
         folder.old folder.new }
     ensures blame { (place : List ℕ) → result.outcome ≡ Failed (Fault.Device place)
         → HasRisen (F.failures folder.old) (F.failures folder.new) }
@@ -126,11 +128,13 @@ fn run_with_record<A: Actions, F: Folder>(
     requires apart { reads_output_of task.now task.now ≡ false }
     requires inputs { AreInputs task.now inputs.items }
     requires no_lines { lines.old ≡ [] }
-    // On inputs that were answered on the way from a state of the folder, the record is of these.
+    // Nothing is changed before its inputs were answered whole. Where they were on the way from a state of
+    // the folder, the record is of these.
     ensures asks { (first : _) → Asks F.failures F.may_leave F.asked no_change first folder.old
         → AreInputsAnswered F.failures F.may_leave F.asked first folder.old task.now inputs.items
-        → Asks F.failures F.may_leave F.asked (in_turn_with task.now
-        (IsInFull F.failures F.may_leave F.asked first A.meanings table.now task.now))
+        → Asks F.failures F.may_leave F.asked (once (HasRead F.failures F.may_leave F.asked first task.now)
+        (in_turn_with task.now
+        (IsInFull F.failures F.may_leave F.asked first A.meanings table.now task.now)))
         folder.old folder.new }
     ensures blame { Blames result (F.failures folder.old) (F.failures folder.new) }
     ensures blamed { BlamesOnly (λ place. is_input_of task.now place || is_output_of task.now place) result }

@@ -1,4 +1,5 @@
 //! Laws of what a turn records, each the contract of a function that does nothing.
+ghost use Rattle.gb_task.specs.Asking.{UnreadTurnsKeep};
 ghost use Rattle.gb_task.specs.Truth.{FullRunsAreTrue, RunsByChangesStayTrue, UpToDateIsMade};
 
 use gb_action::actions::Actions;
@@ -17,4 +18,10 @@ pub fn runs_by_changes_stay_true<A: Actions, F: Folder>()
 /// What was read of a task that is up to date is what its actions make, where its record is true.
 pub fn up_to_date_is_made<F: Folder>()
     ensures { UpToDateIsMade F.failures F.may_leave F.asked }
+{}
+
+/// A turn that ends before what it goes by was answered, for want of memory or by a fault of the device, asks
+/// for no change: the task's record and outputs are kept.
+pub fn unread_turns_keep<F: Folder>()
+    ensures { UnreadTurnsKeep F.failures F.may_leave F.asked }
 {}

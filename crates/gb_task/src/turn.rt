@@ -23,7 +23,7 @@ ghost use Rattle.gb_report.specs.Outcome.{is_executed, is_started};
 ghost use Rattle.gb_report.specs.declared.report.Options.{Options};
 ghost use Rattle.gb_report.specs.declared.report.Outcome.TheVariants.{Failed};
 ghost use Rattle.gb_store.specs.Changes.{ChangesOnly};
-ghost use Rattle.gb_task.specs.Asking.{IsTextOf, in_turn_with};
+ghost use Rattle.gb_task.specs.Asking.{HasRead, IsTextOf, in_turn_with, once};
 ghost use Rattle.gb_task.specs.Current.{IsToldCurrent};
 ghost use Rattle.gb_task.specs.Settled.{IsAnswer, IsAnsweredAlone};
 ghost use Rattle.gb_task.specs.Turned.{ComesAt, HasTurned, IsToldOf, Registering, is_of_turn, outcome_of};
@@ -69,11 +69,12 @@ pub fn take_turn<A: Actions, F: Folder>(
     requires path { path ≡ task.now.path }
     ensures path { result.path ≡ task.now.path }
     ensures has_actions { result.has_actions ≡ not (is_empty task.now.actions) }
-    // Over any folder: what may be changed, and that a record is of trees that were answered in this turn
-    // before anything was.
-    ensures asks { Asks F.failures F.may_leave F.asked (in_turn_with task.now
+    // Over any folder: what may be changed, but nothing before its inputs were answered whole in this turn,
+    // or that it has no source; and that a record is of trees that were answered so.
+    ensures asks { Asks F.failures F.may_leave F.asked
+        (once (HasRead F.failures F.may_leave F.asked folder.old task.now) (in_turn_with task.now
         (IsTextOf F.failures F.may_leave F.asked folder.old A.meanings table.now options task.now
-        (option_copied last.entry))) folder.old folder.new }
+        (option_copied last.entry)))) folder.old folder.new }
     // And what is told up to date was found so on what was answered in this turn.
     ensures current { IsToldCurrent F.failures F.may_leave F.asked options task.now (option_copied last.entry)
         folder.old folder.new result.outcome }
@@ -138,9 +139,10 @@ fn run<A: Actions, F: Folder>(
         → AreInputsAnswered F.failures F.may_leave F.asked first folder.old task.now seen.inputs.items
         → WasDecided F.failures F.may_leave F.asked first folder.old options task.now
         (option_copied last.entry) seen.inputs.items decision seen.outputs.items
-        → Asks F.failures F.may_leave F.asked (in_turn_with task.now
+        → Asks F.failures F.may_leave F.asked (once (HasRead F.failures F.may_leave F.asked first task.now)
+        (in_turn_with task.now
         (IsTextOf F.failures F.may_leave F.asked first A.meanings table.now options task.now
-        (option_copied last.entry))) folder.old folder.new }
+        (option_copied last.entry)))) folder.old folder.new }
     ensures blame { (place : List ℕ) → result.outcome ≡ Failed (Fault.Device place)
         → HasRisen (F.failures folder.old) (F.failures folder.new) }
     ensures blamed { (place : List ℕ) → result.outcome ≡ Failed (Fault.Device place)

@@ -1,6 +1,5 @@
 //! Tasks of scripts, as a plan asks for them.
-ghost use Rattle.std.specs.Prelude.{◌≡◌, [], IfOk};
-ghost use Rattle.gb_registry.specs.Configure.{configure_faults};
+ghost use Rattle.std.specs.Prelude.{◌≡◌, IfOk};
 ghost use Rattle.gb_plan.specs.Graph.{IsRegistry};
 ghost use Rattle.gb_registry.specs.Said.{paths_of};
 ghost use Rattle.gb_registry.specs.Select.{default_tasks as default_tasks_said};
@@ -17,8 +16,8 @@ use gb_core::text::{Text, Texts};
 use gb_order::tasks::Tasks;
 use gb_plan::task::TaskDeclaration;
 use gb_provider::transforms::Transforms;
+use gb_registry::configured::Configured;
 use gb_registry::registry::Registry;
-use gb_registry::tables::Tables as Handed;
 use gb_report::fault::Fault;
 use gb_workspace::workspace::Workspace;
 use std::alloc::{AllocError, Global};
@@ -37,17 +36,14 @@ pub struct ScriptTasks<'a, A: Actions, T: Transforms> {
 
 impl<'a, A: Actions, T: Transforms> ScriptTasks<'a, A, T> {
     /// All tasks that scripts without a fault register, each declared or at fault. Nothing is evaluated yet.
-    pub fn declare(
-        alloc: Global,
-        tables: &'a Handed<A::Stored, T::Map, T::FlatMap, T::Zip, T::Test>,
-        registry: &'a Registry,
-    ) -> Result<Self, AllocError>
-        requires good { configure_faults (tables_of T.meanings A.meanings tables.now) registry.now ≡ [] }
+    pub fn declare(alloc: Global, configured: &'a Configured<'a, A, T>) -> Result<Self, AllocError>
         ensures registry { IfOk result (λ tasks. ⟦<ScriptTasks<'a, A, T> as Tasks>⟧.registry tasks
-            ≡ registry_said (tables_of T.meanings A.meanings tables.now) registry.now) }
+            ≡ registry_said (tables_of T.meanings A.meanings configured.now.tables.now)
+            configured.now.registry) }
     {
+        let registry = &configured.registry;
         read_names(registry.scripts());
-        let workspace = Workspace::declare(alloc, tables, registry)?;
+        let workspace = Workspace::declare(alloc, configured)?;
         let default_tasks = registry.default_tasks(alloc)?;
         Ok(ScriptTasks {
             registry,

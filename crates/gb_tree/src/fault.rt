@@ -11,13 +11,16 @@ use thiserror::Error;
 /// Why a tree is not read, with the place at which that came or the name of what was read.
 #[derive(Debug, Drop, Error)]
 pub enum TreeFault {
+    /// No memory for what is read; 3.
     #[error("out of memory")]
     OutOfMemory,
+    /// The device failed there; 10.
     #[error("device {0}")]
     Device(Place),
     /// A file was listed that no longer stands.
     #[error("missing {0}")]
     Missing(Place),
+    /// A file stands where a folder is needed, or beneath it; 12.
     #[error("blocked {0}")]
     Blocked(Place),
     /// It has more than 8 MiB.

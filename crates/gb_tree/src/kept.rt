@@ -60,12 +60,14 @@ impl Reading {
         Reading { name, files }
     }
 
+    /// The name of the file property or output that was read.
     pub fn name(&self) -> &Name
         ensures { result.now ≡ self.now.0 }
     {
         &self.name
     }
 
+    /// Whether no file was found.
     pub fn is_empty(&self) -> bool
         ensures { IsTrue result ↔ (self.now.1 ≡ []) }
     {

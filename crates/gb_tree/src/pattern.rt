@@ -13,6 +13,7 @@ use thiserror::Error;
 /// Why a text was not read as a pattern.
 #[derive(Clone, Copy, Debug, PartialEq, Eq, Error)]
 pub enum PatternFault {
+    /// No memory for its text; 3.
     #[error("out of memory")]
     OutOfMemory,
     /// It is none.

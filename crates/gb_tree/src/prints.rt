@@ -36,6 +36,7 @@ impl Prints {
         Prints { name, digests }
     }
 
+    /// The name of the file property or output whose digests these are.
     pub fn name(&self) -> &Name
         ensures { result.now ≡ self.now.0 }
     {

@@ -8,7 +8,7 @@ use Rattle.gb_action.specs.declared.reply.ActionFault.{ActionFault}
 use Rattle.gb_action.specs.declared.reply.ActionFault.TheVariants.{ActionFailed, OutOfMemory}
 use Rattle.gb_action.specs.declared.reply.Reply.{Reply}
 use Rattle.gb_action.specs.declared.reply.Written.{Written}
-use Rattle.gb_action.specs.declared.shape.Arg.{Arg}
+use Rattle.gb_action.specs.declared.shape.Parameter.{Parameter}
 use Rattle.gb_action.specs.declared.shape.Shape.{Shape}
 use Rattle.gb_kinds.specs.ByFile.{by_file}
 use Rattle.gb_kinds.specs.Own.{are_own, moved, own_by_file}
@@ -20,7 +20,7 @@ IsFailure (ActionFailed text) meant = meant ≡ Err text
 IsFailure OutOfMemory meant = Unit {0}
 
 -- a kind that reads files, and runs in full
-abbrev pub in_full : List Arg → Option Form → Shape
+abbrev pub in_full : List Parameter → Option Form → Shape
 in_full args out = record { args = args; src = true; out = out; incremental = false }
 
 -- files of the output that kinds write

@@ -10,10 +10,10 @@ pub trait FileKind: FileMaker + Drop {
     ghost use Rattle.std.specs.Prelude.{◌≡◌, ℕ, List, true, IfOk};
     ghost use Rattle.gb_core.specs.declared.value.Value.{Value};
     ghost use Rattle.gb_action.specs.Shapes.{args_fit};
-    ghost use Rattle.gb_action.specs.declared.shape.Arg.{Arg};
+    ghost use Rattle.gb_action.specs.declared.shape.Parameter.{Parameter};
 
     /// What its arguments have to be.
-    ghost takes: { List Arg };
+    ghost takes: { List Parameter };
 
     /// What is made of its arguments and the bytes of a file.
     ghost makes: { List Value → List ℕ → List ℕ };

@@ -10,8 +10,10 @@ pub trait Call: Drop {
     ghost use Rattle.std.specs.Prelude.{◌≡◌, IfOk};
     ghost use Rattle.gb_action.specs.declared.shape.Shape.{Shape as Looks};
 
+    /// The shape, as contracts see it.
     ghost shape: { Looks };
 
+    /// What a call of the kind has to be like.
     fn shape(alloc: Global) -> Result<Shape, AllocError>
         ensures { IfOk result (λ made. made ≡ shape) };
 }
@@ -49,12 +51,14 @@ impl<C: Call> OwnAction<C> {
         })
     }
 
+    /// What a call of its kind has to be like.
     pub fn shape(&self) -> &Shape
         ensures { result.now ≡ C.shape }
     {
         &self.shape
     }
 
+    /// The version that it was stored with.
     pub fn version(&self) -> u32
         ensures value { result ≡ self.now }
         ensures positive { 1 ≤ result }

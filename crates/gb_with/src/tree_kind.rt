@@ -15,11 +15,11 @@ pub trait TreeKind: Drop {
     ghost use Rattle.gb_core.specs.declared.value.Value.{Value};
     ghost use Rattle.gb_action.specs.Files.{Tree, Trees};
     ghost use Rattle.gb_action.specs.Shapes.{args_fit};
-    ghost use Rattle.gb_action.specs.declared.shape.Arg.{Arg};
+    ghost use Rattle.gb_action.specs.declared.shape.Parameter.{Parameter};
     ghost use Rattle.gb_with.specs.TreeKinds.{IsFailure};
 
     /// What its arguments have to be.
-    ghost takes: { List Arg };
+    ghost takes: { List Parameter };
 
     /// The files that it makes, in the order in which they are written, or the text with which it fails.
     ghost makes: { List Value → Trees → Result Tree (List ℕ) };
@@ -46,10 +46,10 @@ pub trait CheckKind: Drop {
     ghost use Rattle.gb_core.specs.declared.value.Value.{Value};
     ghost use Rattle.gb_action.specs.Files.{Trees};
     ghost use Rattle.gb_action.specs.Shapes.{args_fit};
-    ghost use Rattle.gb_action.specs.declared.shape.Arg.{Arg};
+    ghost use Rattle.gb_action.specs.declared.shape.Parameter.{Parameter};
 
     /// What its arguments have to be.
-    ghost takes: { List Arg };
+    ghost takes: { List Parameter };
 
     /// The text with which it fails, if there is something to find.
     ghost finds: { List Value → Trees → Option (List ℕ) };

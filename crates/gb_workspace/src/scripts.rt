@@ -39,6 +39,7 @@ use std::collections::BTreeMap;
 /// A script, with what its tasks look up in it.
 #[derive(Drop)]
 pub struct Indexed<'a> {
+    /// The script, and its project.
     pub scripted: &'a Scripted,
     /// The properties that it declares.
     pub properties: TextSet,

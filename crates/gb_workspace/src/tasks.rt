@@ -35,6 +35,7 @@ use gb_registry::wrong::Scope;
 use gb_report::fault::Fault;
 use std::alloc::{AllocError, Global};
 
+/// The tables of a program whose actions and functions these naming types name.
 pub type Handed<A, T> = Tables<
     <A as Actions>::Stored,
     <T as Transforms>::Map,

@@ -1,6 +1,5 @@
 //! The tasks of a build, realised as they are asked for.
 ghost use Rattle.std.specs.Prelude.{◌≡◌, [], IfOk, Some, bytes_eq, length, position};
-ghost use Rattle.gb_registry.specs.Configure.{configure_faults};
 ghost use Rattle.gb_registry.specs.Seen.{scripts_in};
 ghost use Rattle.gb_nodes.specs.Standing.{scripts_faults, scripts_made, sites_made};
 ghost use Rattle.gb_nodes.specs.Statements.{IsRun};
@@ -33,6 +32,7 @@ use gb_provider::providers::Providers;
 use gb_provider::transforms::Transforms;
 use gb_realised::evaluating::evaluated;
 use gb_registry::checking::Scripted;
+use gb_registry::configured::Configured;
 use gb_registry::names::Names;
 use gb_registry::projects::ProjectSet;
 use gb_registry::registry::Registry;
@@ -199,16 +199,16 @@ fn lay<T: Transforms>(
 /// Declares all tasks of a registry over providers without a node.
 fn declared<'a, A: Actions, T: Transforms>(
     alloc: Global,
-    tables: &Tables<A::Stored, T::Map, T::FlatMap, T::Zip, T::Test>,
-    registry: &'a Registry,
+    configured: &'a Configured<'_, A, T>,
     providers: &mut Providers<'_, T>,
 ) -> Result<Declared<'a>, AllocError>
-    requires table { providers.old.table ≡ tables.now.transforms }
+    requires table { providers.old.table ≡ configured.now.tables.now.transforms }
     requires none { providers.old.nodes ≡ [] }
-    requires good { configure_faults (tables_of T.meanings A.meanings tables.now) registry.now ≡ [] }
-    ensures { IfOk result (λ declared. IsKeptIn (tables_of T.meanings A.meanings tables.now) registry.now
-        (stage_of providers.new.nodes declared)) }
+    ensures { IfOk result (λ declared. IsKeptIn (tables_of T.meanings A.meanings configured.now.tables.now)
+        configured.now.registry (stage_of providers.new.nodes declared)) }
 {
+    let tables = configured.tables;
+    let registry = &configured.registry;
     let scripts = registry.scripts();
     let given = by_name(alloc, registry.given())?;
     let laid = lay(alloc, providers, scripts, &given)?;
@@ -225,20 +225,16 @@ fn declared<'a, A: Actions, T: Transforms>(
 
 impl<'a, A: Actions, T: Transforms> Workspace<'a, A, T> {
     /// All tasks of a registry, each declared or at fault. No value is read yet.
-    pub fn declare(
-        alloc: Global,
-        tables: &'a Tables<A::Stored, T::Map, T::FlatMap, T::Zip, T::Test>,
-        registry: &'a Registry,
-    ) -> Result<Self, AllocError>
-        requires { configure_faults (tables_of T.meanings A.meanings tables.now) registry.now ≡ [] }
-        ensures { IfOk result (λ workspace.
-            workspace ≡ record { tables = tables.now; source = registry.now }) }
+    pub fn declare(alloc: Global, configured: &'a Configured<'a, A, T>) -> Result<Self, AllocError>
+        ensures { IfOk result (λ workspace. workspace
+            ≡ record { tables = configured.now.tables.now; source = configured.now.registry }) }
     {
+        let tables = configured.tables;
         let mut providers = Providers::new(alloc, &tables.transforms);
-        let declared = declared::<A, T>(alloc, tables, registry, &mut providers)?;
+        let declared = declared::<A, T>(alloc, configured, &mut providers)?;
         Ok(Workspace {
             tables,
-            registry,
+            registry: &configured.registry,
             providers,
             declared,
         })

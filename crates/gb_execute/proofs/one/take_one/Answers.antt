@@ -23,7 +23,7 @@ use Rattle.gb_execute.proofs.Taking.{own_apart, read_so, turn_passed, turn_start
 use Rattle.gb_execute.proofs.Asking.{turn_asks}
 use Rattle.gb_folder.specs.Calls.{Asks}
 use Rattle.gb_history.specs.Remembered.{Remembered}
-use Rattle.gb_task.specs.Asking.{IsTextOf, in_turn_with}
+use Rattle.gb_task.specs.Asking.{HasRead, IsTextOf, in_turn_with, once}
 use Rattle.gb_task.specs.Current.{IsToldCurrent}
 use Rattle.std.specs.Prelude.{Option}
 use Rattle.gb_execute.proofs.one.take_one.Goals as goal
@@ -170,7 +170,8 @@ returns-clause-asks g c = λ begun way.
     turn_asks F.failures F.may_leave F.asked begun g.A.Actions.meanings build.table.now build.options tasks build.records.now index task
     (slice_get-get_or tasks index c.index-build-index.result c.requires.index) c.args.folder.now c.take_turn-report.new.folder way
     (subst (λ (read : Option Remembered). Asks F.failures F.may_leave F.asked
-    (in_turn_with task.task (IsTextOf F.failures F.may_leave F.asked c.args.folder.now g.A.Actions.meanings build.table.now build.options task.task read))
+    (once (HasRead F.failures F.may_leave F.asked c.args.folder.now task.task)
+    (in_turn_with task.task (IsTextOf F.failures F.may_leave F.asked c.args.folder.now g.A.Actions.meanings build.table.now build.options task.task read)))
     c.args.folder.now c.take_turn-report.new.folder) last c.take_turn-report.ensures.asks)
 
 pub returns-clause-current : goal.returns-clause-current

@@ -29,25 +29,25 @@ use Rattle.gb_invocation.proofs.invocation.build_registered.Goals as goal
 pub returns-in_err-tasks-clause-leads : goal.returns-in_err-tasks-clause-leads
 returns-in_err-tasks-clause-leads g c = λ tells kinds agrees tears.
     let F = g.F.Folder in
-    let tables = tables_of g.T.Transforms.meanings g.A.Actions.meanings c.args.tables.now in
+    let tables = tables_of g.T.Transforms.meanings g.A.Actions.meanings c.args.configured.now.tables.now in
     let old : Shown = record { contents = F.contents c.args.folder.now; failures = F.failures c.args.folder.now } in
     let p = err_from_is_err_and c.from_residual.result c.from_residual.ensures.1 in
-    out_of_memory (setting_with kinds (λ files given. Ok (registry_said tables c.args.registry.now)) (F.may_leave c.args.folder.now)) old old c.args.invocation.now p.0 p.2
+    out_of_memory (setting_with kinds (λ files given. Ok (registry_said tables c.args.configured.now.registry)) (F.may_leave c.args.folder.now)) old old c.args.invocation.now p.0 p.2
     refl c.from_residual.result p.1
 
 pub build_requested-requires : goal.build_requested-requires
 build_requested-requires g c =
-    let tables = tables_of g.T.Transforms.meanings g.A.Actions.meanings c.args.tables.now in
-    let same : registry_in g.T.Transforms.meanings g.A.Actions.meanings c.in_ok-tasks.tasks.workspace ≡ registry_said tables c.args.registry.now = c.in_ok-tasks.ensures.registry in
-    subst (AreBuildable g.A.Actions.meanings c.args.tables.now.actions) (sym same)
-    (are_buildable tables c.args.registry.now (scripts_in c.scripts-scripts.result.now) c.scripts-scripts.ensures.read (subst IsRegistry same c.in_ok-tasks.tasks.ordered))
+    let tables = tables_of g.T.Transforms.meanings g.A.Actions.meanings c.args.configured.now.tables.now in
+    let same : registry_in g.T.Transforms.meanings g.A.Actions.meanings c.in_ok-tasks.tasks.workspace ≡ registry_said tables c.args.configured.now.registry = c.in_ok-tasks.ensures.registry in
+    subst (AreBuildable g.A.Actions.meanings c.args.configured.now.tables.now.actions) (sym same)
+    (are_buildable tables c.args.configured.now.registry (scripts_in c.scripts-scripts.result.now) c.scripts-scripts.ensures.read (subst IsRegistry same c.in_ok-tasks.tasks.ordered))
 
 pub returns-clause-leads : goal.returns-clause-leads
 returns-clause-leads g c = λ tells kinds agrees tears.
     let F = g.F.Folder in
-    let tables = tables_of g.T.Transforms.meanings g.A.Actions.meanings c.args.tables.now in
+    let tables = tables_of g.T.Transforms.meanings g.A.Actions.meanings c.args.configured.now.tables.now in
     let declared = registry_in g.T.Transforms.meanings g.A.Actions.meanings c.in_ok-tasks.tasks.workspace in
-    let same : declared ≡ registry_said tables c.args.registry.now = c.in_ok-tasks.ensures.registry in
+    let same : declared ≡ registry_said tables c.args.configured.now.registry = c.in_ok-tasks.ensures.registry in
     let old : Shown = record { contents = F.contents c.args.folder.now; failures = F.failures c.args.folder.now } in
     let new : Shown = record { contents = F.contents c.build_requested.new.folder; failures = F.failures c.build_requested.new.folder } in
     subst (λ (registry : Registry). Leads (setting_with kinds (λ files given. Ok registry) (F.may_leave c.args.folder.now)) old (events.Invoke c.args.invocation.now) (answer_of c.build_requested.result) new) same
@@ -56,9 +56,9 @@ returns-clause-leads g c = λ tells kinds agrees tears.
 pub returns-clause-keeps : goal.returns-clause-keeps
 returns-clause-keeps g c = λ tells.
     let F = g.F.Folder in
-    let tables = tables_of g.T.Transforms.meanings g.A.Actions.meanings c.args.tables.now in
+    let tables = tables_of g.T.Transforms.meanings g.A.Actions.meanings c.args.configured.now.tables.now in
     let declared = registry_in g.T.Transforms.meanings g.A.Actions.meanings c.in_ok-tasks.tasks.workspace in
-    let same : declared ≡ registry_said tables c.args.registry.now = c.in_ok-tasks.ensures.registry in
+    let same : declared ≡ registry_said tables c.args.configured.now.registry = c.in_ok-tasks.ensures.registry in
     let changes = c.build_requested.ensures.elsewhere tells in
     subst (λ (registry : Registry). KeepsElsewhere registry (F.contents c.args.folder.now) (F.contents c.build_requested.new.folder)) same (changes.elsewhere, changes.odd)
 
@@ -73,9 +73,9 @@ returns-in_err-tasks-clause-device g c =
 
 pub returns-clause-device : goal.returns-clause-device
 returns-clause-device g c =
-    let tables = tables_of g.T.Transforms.meanings g.A.Actions.meanings c.args.tables.now in
-    let same : registry_in g.T.Transforms.meanings g.A.Actions.meanings c.in_ok-tasks.tasks.workspace ≡ registry_said tables c.args.registry.now = c.in_ok-tasks.ensures.registry in
-    c.build_requested.ensures.device (subst NoneBlameDevice (sym same) (declared_blame_none tables c.args.registry.now))
+    let tables = tables_of g.T.Transforms.meanings g.A.Actions.meanings c.args.configured.now.tables.now in
+    let same : registry_in g.T.Transforms.meanings g.A.Actions.meanings c.in_ok-tasks.tasks.workspace ≡ registry_said tables c.args.configured.now.registry = c.in_ok-tasks.ensures.registry in
+    c.build_requested.ensures.device (subst NoneBlameDevice (sym same) (declared_blame_none tables c.args.configured.now.registry))
 
 pub returns-in_err-tasks-clause-places : goal.returns-in_err-tasks-clause-places
 returns-in_err-tasks-clause-places g c =
@@ -89,9 +89,9 @@ returns-in_err-tasks-clause-places g c =
 pub returns-in_err-tasks-clause-not_begun : goal.returns-in_err-tasks-clause-not_begun
 returns-in_err-tasks-clause-not_begun g c =
     let F = g.F.Folder in
-    let tables = tables_of g.T.Transforms.meanings g.A.Actions.meanings c.args.tables.now in
+    let tables = tables_of g.T.Transforms.meanings g.A.Actions.meanings c.args.configured.now.tables.now in
     let p = err_from_is_err_and c.from_residual.result c.from_residual.ensures.1 in
-    of_fault (IsNotBegun (registry_said tables c.args.registry.now) c.args.invocation.now (F.failures c.args.folder.now) (F.failures c.args.folder.now)) c.from_residual.result p.0 p.1
+    of_fault (IsNotBegun (registry_said tables c.args.configured.now.registry) c.args.invocation.now (F.failures c.args.folder.now) (F.failures c.args.folder.now)) c.from_residual.result p.0 p.1
     (inl (inl p.2))
 
 pub returns-clause-outlined : goal.returns-clause-outlined
@@ -104,28 +104,28 @@ returns-clause-outlined g c =
 pub returns-clause-not_begun : goal.returns-clause-not_begun
 returns-clause-not_begun g c =
     let F = g.F.Folder in
-    let tables = tables_of g.T.Transforms.meanings g.A.Actions.meanings c.args.tables.now in
-    let same : registry_in g.T.Transforms.meanings g.A.Actions.meanings c.in_ok-tasks.tasks.workspace ≡ registry_said tables c.args.registry.now = c.in_ok-tasks.ensures.registry in
+    let tables = tables_of g.T.Transforms.meanings g.A.Actions.meanings c.args.configured.now.tables.now in
+    let same : registry_in g.T.Transforms.meanings g.A.Actions.meanings c.in_ok-tasks.tasks.workspace ≡ registry_said tables c.args.configured.now.registry = c.in_ok-tasks.ensures.registry in
     subst (λ (registry : Registry). IfErr c.build_requested.result
     (IsNotBegun registry c.args.invocation.now (F.failures c.args.folder.now) (F.failures c.build_requested.new.folder))) same c.build_requested.ensures.not_begun
 
 pub returns-clause-places : goal.returns-clause-places
 returns-clause-places g c =
     let F = g.F.Folder in
-    let tables = tables_of g.T.Transforms.meanings g.A.Actions.meanings c.args.tables.now in
+    let tables = tables_of g.T.Transforms.meanings g.A.Actions.meanings c.args.configured.now.tables.now in
     let before = F.failures c.args.folder.now in
     let after = F.failures c.build_requested.new.folder in
-    let registry = registry_said tables c.args.registry.now in
+    let registry = registry_said tables c.args.configured.now.registry in
     each_fault (IsNotBegun registry c.args.invocation.now before after) (λ (fault : Fault). (place : List ℕ) → fault ≡ faults.Device place → IsTrue (is_own place && not c.args.invocation.now.options.dry_run))
-    (λ fault why. refused_at registry c.args.invocation.now fault before after (declared_blame_none tables c.args.registry.now) why)
+    (λ fault why. refused_at registry c.args.invocation.now fault before after (declared_blame_none tables c.args.configured.now.registry) why)
     c.build_requested.result (returns-clause-not_begun g c)
 
 pub returns-clause-asks : goal.returns-clause-asks
 returns-clause-asks g c =
-    registered_asks g.F.Folder.failures g.F.Folder.may_leave g.F.Folder.asked g.A.Actions.meanings c.args.tables.now.actions c.args.invocation.now (registry_in g.T.Transforms.meanings g.A.Actions.meanings c.in_ok-tasks.tasks.workspace) c.in_ok-tasks.tasks.ordered
+    registered_asks g.F.Folder.failures g.F.Folder.may_leave g.F.Folder.asked g.A.Actions.meanings c.args.configured.now.tables.now.actions c.args.invocation.now (registry_in g.T.Transforms.meanings g.A.Actions.meanings c.in_ok-tasks.tasks.workspace) c.in_ok-tasks.tasks.ordered
     c.build_requested.result c.args.folder.now c.build_requested.new.folder c.build_requested.ensures.asks
 
 pub returns-in_err-tasks-clause-asks : goal.returns-in_err-tasks-clause-asks
 returns-in_err-tasks-clause-asks g c =
     let p = err_from_is_err_and c.from_residual.result c.from_residual.ensures.1 in
-    refusal_asks g.F.Folder.failures g.F.Folder.may_leave g.F.Folder.asked g.A.Actions.meanings c.args.tables.now.actions c.args.invocation.now c.from_residual.result p.0 c.args.folder.now c.args.folder.now p.1 (asks_nothing c.args.folder.now)
+    refusal_asks g.F.Folder.failures g.F.Folder.may_leave g.F.Folder.asked g.A.Actions.meanings c.args.configured.now.tables.now.actions c.args.invocation.now c.from_residual.result p.0 c.args.folder.now c.args.folder.now p.1 (asks_nothing c.args.folder.now)

@@ -1,4 +1,4 @@
-use Rattle.std.proofs.Common.{◌≡◌, ◌&&◌, ◌∷◌, ◌∙◌, [], ℕ, List, IsTrue, OnErr, ap, arith, inl, inr, not, refl, subst, sym}
+use Rattle.std.proofs.Common.{◌≡◌, ◌&&◌, ◌∷◌, ◌∙◌, [], ℕ, List, IfErr, IsTrue, OnErr, ap, arith, inl, inr, not, refl, subst, sym}
 use Rattle.std.proofs.lemmas.Result.{err_from_is_err_and}
 use Rattle.gb_folder.specs.Files.{Contents, is_own}
 use Rattle.gb_invoke.specs.Leading.{Leads}
@@ -10,11 +10,13 @@ use Rattle.gb_meaning.proofs.Lemmas.Plain.{headline}
 use Rattle.gb_meaning.specs.Edits.{Shown}
 use Rattle.gb_meaning.specs.Events.{IsNotBuilt, is_read_first}
 use Rattle.gb_meaning.specs.declared.events.Event.TheVariants as events
-use Rattle.gb_meaning.specs.Headline.{KeepsElsewhere, answer_of, times_blamed}
+use Rattle.gb_meaning.specs.Headline.{Agrees, KeepsElsewhere, answer_of, times_blamed}
 use Rattle.gb_registry.specs.Tables.{tables_of}
+use Rattle.gb_registry.specs.declared.tables.Tables as handed
 use Rattle.gb_report.specs.declared.fault.Fault.{Fault}
 use Rattle.gb_report.specs.declared.fault.Fault.TheVariants as faults
 use Rattle.gb_project.specs.Registered.{registry_said}
+use Rattle.gb_invocation.specs.Asked.{InvocationAsks}
 use Rattle.gb_invocation.specs.Scripts.{registers_in, setting_of}
 use Rattle.gb_invocation.proofs.Blamed.{failed_since, memory_blames_none, reading_fails}
 use Rattle.gb_invocation.proofs.Keeping.{begun_before, each_fault, invoked_keeps, of_fault, refusal_keeps}
@@ -32,37 +34,42 @@ returns-in_err-given-clause-leads g c = λ tells kinds agrees tears.
     let p = err_from_is_err_and c.from_residual.result c.from_residual.ensures.1 in
     out_of_memory (setting_of tables kinds (F.may_leave c.args.folder.now)) old old c.args.invocation.now p.0 p.2 refl c.from_residual.result p.1
 
-pub returns-in_err-registry-clause-leads : goal.returns-in_err-registry-clause-leads
-returns-in_err-registry-clause-leads g c = λ tells kinds agrees tears.
+pub returns-in_err-configured-clause-leads : goal.returns-in_err-configured-clause-leads
+returns-in_err-configured-clause-leads g c = λ tells kinds agrees tears.
     let F = g.F.Folder in
     let tables = tables_of g.T.Transforms.meanings g.A.Actions.meanings c.args.tables.now in
     let may_leave = F.may_leave c.args.folder.now in
     let old : Shown = shows (F.contents c.args.folder.now) (F.failures c.args.folder.now) in
     let new : Shown = shows (F.contents c.read_registry.new.folder) (F.failures c.read_registry.new.folder) in
-    let p = err_from_is_err_and c.from_residual-in_err-registry.result c.from_residual-in_err-registry.ensures.1 in
+    let p = err_from_is_err_and c.from_residual-in_err-configured.result c.from_residual-in_err-configured.ensures.1 in
     refused_leads (setting_of tables kinds may_leave) old new c.args.invocation.now p.0
     (not_read tables old.contents c.args.invocation.now c.in_ok-given.given.items c.in_ok-given.ensures
-    c.read_registry.result c.in_err-registry.field-0.0 p.0 old.failures new.failures c.in_err-registry.was p.2 c.read_registry.ensures.blamed (c.in_err-registry.ensures.said tells)
+    c.read_registry.result c.in_err-configured.field-0.0 p.0 old.failures new.failures c.in_err-configured.was p.2 c.read_registry.ensures.blamed (c.in_err-configured.ensures.said tells)
     old refl refl)
-    (c.read_registry.ensures.same tells) c.from_residual-in_err-registry.result p.1
+    (c.read_registry.ensures.same tells) c.from_residual-in_err-configured.result p.1
 
 pub returns-clause-leads : goal.returns-clause-leads
 returns-clause-leads g c = λ tells kinds agrees tears.
     let F = g.F.Folder in
+    let same = c.in_ok-configured.ensures.tables in
     let tables = tables_of g.T.Transforms.meanings g.A.Actions.meanings c.args.tables.now in
     let first = F.may_leave c.args.folder.now in
     let second = F.may_leave c.read_registry.new.folder in
-    let source = c.in_ok-registry.registry in
+    let source = c.in_ok-configured.configured.registry in
     let before = F.contents c.args.folder.now in
     let later = F.failures c.read_registry.new.folder in
     let new : Shown = shows (F.contents c.build_registered.new.folder) (F.failures c.build_registered.new.folder) in
     since_read kinds (registry_said tables source) (registers_in tables) first second c.read_registry.ensures.asks.tearing c.args.invocation.now before (F.failures c.args.folder.now) later
     c.read_registry.ensures.asks.count
-    (registered tables before c.in_ok-given.given.items c.args.invocation.now.properties c.in_ok-given.ensures source (c.in_ok-registry.ensures.said tells))
+    (registered tables before c.in_ok-given.given.items c.args.invocation.now.properties c.in_ok-given.ensures source (c.in_ok-configured.ensures.said tells))
     c.build_registered.result new c.build_registered.ensures.count
     (subst (λ (contents : Contents). Leads (setting_by kinds (always (registry_said tables source)) second) (shows contents later) (events.Invoke c.args.invocation.now) (answer_of c.build_registered.result) new)
     (c.read_registry.ensures.same tells)
-    (c.build_registered.ensures.leads tells kinds agrees (tears_alike first second c.read_registry.ensures.asks.tearing tears)))
+    (subst (λ (given : handed.Tables _ _ _ _ _). Leads (setting_by kinds (always (registry_said (tables_of g.T.Transforms.meanings g.A.Actions.meanings given) source)) second)
+    (shows (F.contents c.read_registry.new.folder) later) (events.Invoke c.args.invocation.now) (answer_of c.build_registered.result) new)
+    same
+    (c.build_registered.ensures.leads tells kinds (subst (λ (given : handed.Tables _ _ _ _ _). Agrees g.A.Actions.meanings given.actions kinds) (sym same) agrees)
+    (tears_alike first second c.read_registry.ensures.asks.tearing tears))))
 
 pub returns-in_err-given-clause-holds : goal.returns-in_err-given-clause-holds
 returns-in_err-given-clause-holds g c = λ tells kinds agrees tears.
@@ -72,13 +79,13 @@ returns-in_err-given-clause-holds g c = λ tells kinds agrees tears.
     (shows (F.contents c.args.folder.now) (F.failures c.args.folder.now)) c.args.invocation.now c.from_residual.result (omega arith)
     (returns-in_err-given-clause-leads g c tells kinds agrees tears)
 
-pub returns-in_err-registry-clause-holds : goal.returns-in_err-registry-clause-holds
-returns-in_err-registry-clause-holds g c = λ tells kinds agrees tears.
+pub returns-in_err-configured-clause-holds : goal.returns-in_err-configured-clause-holds
+returns-in_err-configured-clause-holds g c = λ tells kinds agrees tears.
     let F = g.F.Folder in
     let tables = tables_of g.T.Transforms.meanings g.A.Actions.meanings c.args.tables.now in
     led_holds (setting_of tables kinds (F.may_leave c.args.folder.now)) (shows (F.contents c.args.folder.now) (F.failures c.args.folder.now))
-    (shows (F.contents c.read_registry.new.folder) (F.failures c.read_registry.new.folder)) c.args.invocation.now c.from_residual-in_err-registry.result c.read_registry.ensures.asks.count
-    (returns-in_err-registry-clause-leads g c tells kinds agrees tears)
+    (shows (F.contents c.read_registry.new.folder) (F.failures c.read_registry.new.folder)) c.args.invocation.now c.from_residual-in_err-configured.result c.read_registry.ensures.asks.count
+    (returns-in_err-configured-clause-leads g c tells kinds agrees tears)
 
 pub returns-clause-holds : goal.returns-clause-holds
 returns-clause-holds g c = λ tells kinds agrees tears.
@@ -92,12 +99,14 @@ pub returns-clause-keeps : goal.returns-clause-keeps
 returns-clause-keeps g c = λ tells.
     let F = g.F.Folder in
     let tables = tables_of g.T.Transforms.meanings g.A.Actions.meanings c.args.tables.now in
-    let source = c.in_ok-registry.registry in
+    let source = c.in_ok-configured.configured.registry in
     let before = F.contents c.args.folder.now in
     invoked_keeps (registers_in tables) c.args.invocation.now c.build_registered.result before (F.contents c.build_registered.new.folder) (registry_said tables source)
-    (registered tables before c.in_ok-given.given.items c.args.invocation.now.properties c.in_ok-given.ensures source (c.in_ok-registry.ensures.said tells))
+    (registered tables before c.in_ok-given.given.items c.args.invocation.now.properties c.in_ok-given.ensures source (c.in_ok-configured.ensures.said tells))
     (subst (λ (contents : Contents). KeepsElsewhere (registry_said tables source) contents (F.contents c.build_registered.new.folder)) (c.read_registry.ensures.same tells)
-    (c.build_registered.ensures.keeps tells))
+    (subst (λ (given : handed.Tables _ _ _ _ _). KeepsElsewhere (registry_said (tables_of g.T.Transforms.meanings g.A.Actions.meanings given) source)
+    (F.contents c.read_registry.new.folder) (F.contents c.build_registered.new.folder))
+    c.in_ok-configured.ensures.tables (c.build_registered.ensures.keeps tells)))
     (subst (λ (contents : Contents). OnErr c.build_registered.result (F.contents c.build_registered.new.folder ≡ contents)) (c.read_registry.ensures.same tells)
     (c.build_registered.ensures.refused tells))
 
@@ -108,12 +117,12 @@ returns-in_err-given-clause-keeps g c = λ tells.
     let p = err_from_is_err_and c.from_residual.result c.from_residual.ensures.1 in
     refusal_keeps (registers_in tables) c.args.invocation.now c.from_residual.result p.0 p.1 (F.contents c.args.folder.now) (F.contents c.args.folder.now) refl
 
-pub returns-in_err-registry-clause-keeps : goal.returns-in_err-registry-clause-keeps
-returns-in_err-registry-clause-keeps g c = λ tells.
+pub returns-in_err-configured-clause-keeps : goal.returns-in_err-configured-clause-keeps
+returns-in_err-configured-clause-keeps g c = λ tells.
     let F = g.F.Folder in
     let tables = tables_of g.T.Transforms.meanings g.A.Actions.meanings c.args.tables.now in
-    let p = err_from_is_err_and c.from_residual-in_err-registry.result c.from_residual-in_err-registry.ensures.1 in
-    refusal_keeps (registers_in tables) c.args.invocation.now c.from_residual-in_err-registry.result p.0 p.1 (F.contents c.args.folder.now) (F.contents c.read_registry.new.folder)
+    let p = err_from_is_err_and c.from_residual-in_err-configured.result c.from_residual-in_err-configured.ensures.1 in
+    refusal_keeps (registers_in tables) c.args.invocation.now c.from_residual-in_err-configured.result p.0 p.1 (F.contents c.args.folder.now) (F.contents c.read_registry.new.folder)
     (c.read_registry.ensures.same tells)
 
 pub returns-in_err-given-clause-device : goal.returns-in_err-given-clause-device
@@ -122,12 +131,12 @@ returns-in_err-given-clause-device g c =
     let p = err_from_is_err_and c.from_residual.result c.from_residual.ensures.1 in
     memory_blames_none c.from_residual.result p.0 (F.failures c.args.folder.now) (F.failures c.args.folder.now) (omega arith) p.1 p.2
 
-pub returns-in_err-registry-clause-device : goal.returns-in_err-registry-clause-device
-returns-in_err-registry-clause-device g c =
+pub returns-in_err-configured-clause-device : goal.returns-in_err-configured-clause-device
+returns-in_err-configured-clause-device g c =
     let F = g.F.Folder in
-    let p = err_from_is_err_and c.from_residual-in_err-registry.result c.from_residual-in_err-registry.ensures.1 in
-    reading_fails c.read_registry.result c.in_err-registry.field-0.0 p.0 (F.failures c.args.folder.now) (F.failures c.read_registry.new.folder) c.read_registry.ensures.asks.count c.in_err-registry.was
-    p.2 c.read_registry.ensures.blame c.from_residual-in_err-registry.result p.1
+    let p = err_from_is_err_and c.from_residual-in_err-configured.result c.from_residual-in_err-configured.ensures.1 in
+    reading_fails c.read_registry.result c.in_err-configured.field-0.0 p.0 (F.failures c.args.folder.now) (F.failures c.read_registry.new.folder) c.read_registry.ensures.asks.count c.in_err-configured.was
+    p.2 c.read_registry.ensures.blame c.from_residual-in_err-configured.result p.1
 
 pub returns-clause-device : goal.returns-clause-device
 returns-clause-device g c =
@@ -154,22 +163,22 @@ returns-in_err-given-clause-not_built g c = λ tells.
     of_fault (λ (fault : Fault). IsNotBuilt (registers_in tables) (shows (F.contents c.args.folder.now) (F.failures c.args.folder.now)) c.args.invocation.now fault (F.failures c.args.folder.now))
     c.from_residual.result p.0 p.1 (inr (inr (inl p.2)))
 
-pub returns-in_err-registry-clause-places : goal.returns-in_err-registry-clause-places
-returns-in_err-registry-clause-places g c =
-    let p = err_from_is_err_and c.from_residual-in_err-registry.result c.from_residual-in_err-registry.ensures.1 in
-    of_fault (λ (fault : Fault). (place : List ℕ) → fault ≡ faults.Device place → IsTrue (is_read_first c.args.invocation.now.options place)) c.from_residual-in_err-registry.result p.0 p.1
-    (read_first c.args.invocation.now c.read_registry.result c.in_err-registry.field-0.0 p.0 c.in_err-registry.was p.2 c.read_registry.ensures.blamed)
+pub returns-in_err-configured-clause-places : goal.returns-in_err-configured-clause-places
+returns-in_err-configured-clause-places g c =
+    let p = err_from_is_err_and c.from_residual-in_err-configured.result c.from_residual-in_err-configured.ensures.1 in
+    of_fault (λ (fault : Fault). (place : List ℕ) → fault ≡ faults.Device place → IsTrue (is_read_first c.args.invocation.now.options place)) c.from_residual-in_err-configured.result p.0 p.1
+    (read_first c.args.invocation.now c.read_registry.result c.in_err-configured.field-0.0 p.0 c.in_err-configured.was p.2 c.read_registry.ensures.blamed)
 
-pub returns-in_err-registry-clause-not_built : goal.returns-in_err-registry-clause-not_built
-returns-in_err-registry-clause-not_built g c = λ tells.
+pub returns-in_err-configured-clause-not_built : goal.returns-in_err-configured-clause-not_built
+returns-in_err-configured-clause-not_built g c = λ tells.
     let F = g.F.Folder in
     let tables = tables_of g.T.Transforms.meanings g.A.Actions.meanings c.args.tables.now in
     let old : Shown = shows (F.contents c.args.folder.now) (F.failures c.args.folder.now) in
     let after = F.failures c.read_registry.new.folder in
-    let p = err_from_is_err_and c.from_residual-in_err-registry.result c.from_residual-in_err-registry.ensures.1 in
-    of_fault (λ (fault : Fault). IsNotBuilt (registers_in tables) old c.args.invocation.now fault after) c.from_residual-in_err-registry.result p.0 p.1
+    let p = err_from_is_err_and c.from_residual-in_err-configured.result c.from_residual-in_err-configured.ensures.1 in
+    of_fault (λ (fault : Fault). IsNotBuilt (registers_in tables) old c.args.invocation.now fault after) c.from_residual-in_err-configured.result p.0 p.1
     (not_read tables old.contents c.args.invocation.now c.in_ok-given.given.items c.in_ok-given.ensures
-    c.read_registry.result c.in_err-registry.field-0.0 p.0 old.failures after c.in_err-registry.was p.2 c.read_registry.ensures.blamed (c.in_err-registry.ensures.said tells)
+    c.read_registry.result c.in_err-configured.field-0.0 p.0 old.failures after c.in_err-configured.was p.2 c.read_registry.ensures.blamed (c.in_err-configured.ensures.said tells)
     old refl refl)
 
 pub returns-clause-places : goal.returns-clause-places
@@ -183,15 +192,18 @@ pub returns-clause-not_built : goal.returns-clause-not_built
 returns-clause-not_built g c = λ tells.
     let F = g.F.Folder in
     let tables = tables_of g.T.Transforms.meanings g.A.Actions.meanings c.args.tables.now in
-    let source = c.in_ok-registry.registry in
+    let source = c.in_ok-configured.configured.registry in
     let old : Shown = shows (F.contents c.args.folder.now) (F.failures c.args.folder.now) in
     let later = F.failures c.read_registry.new.folder in
     let after = F.failures c.build_registered.new.folder in
     each_fault (IsNotBegun (registry_said tables source) c.args.invocation.now later after) (λ (fault : Fault). IsNotBuilt (registers_in tables) old c.args.invocation.now fault after)
     (λ fault why. not_built (registers_in tables) (registry_said tables source) old c.args.invocation.now fault after
-    (registered tables old.contents c.in_ok-given.given.items c.args.invocation.now.properties c.in_ok-given.ensures source (c.in_ok-registry.ensures.said tells))
+    (registered tables old.contents c.in_ok-given.given.items c.args.invocation.now.properties c.in_ok-given.ensures source (c.in_ok-configured.ensures.said tells))
     (begun_before (registry_said tables source) c.args.invocation.now old.failures later after c.read_registry.ensures.asks.count c.build_registered.ensures.count fault why))
-    c.build_registered.result c.build_registered.ensures.not_begun
+    c.build_registered.result
+    (subst (λ (given : handed.Tables _ _ _ _ _). IfErr c.build_registered.result
+    (IsNotBegun (registry_said (tables_of g.T.Transforms.meanings g.A.Actions.meanings given) source) c.args.invocation.now later after))
+    c.in_ok-configured.ensures.tables c.build_registered.ensures.not_begun)
 
 pub returns-clause-dry : goal.returns-clause-dry
 returns-clause-dry g c = λ tells dry.
@@ -207,13 +219,13 @@ returns-in_err-given-clause-promise g c = λ tells kinds agrees tears.
     (shows (F.contents c.args.folder.now) (F.failures c.args.folder.now)) (events.Invoke c.args.invocation.now ∷ []) (answer_of c.from_residual.result ∷ [])
     (returns-in_err-given-clause-holds g c tells kinds agrees tears)
 
-pub returns-in_err-registry-clause-promise : goal.returns-in_err-registry-clause-promise
-returns-in_err-registry-clause-promise g c = λ tells kinds agrees tears.
+pub returns-in_err-configured-clause-promise : goal.returns-in_err-configured-clause-promise
+returns-in_err-configured-clause-promise g c = λ tells kinds agrees tears.
     let F = g.F.Folder in
     let tables = tables_of g.T.Transforms.meanings g.A.Actions.meanings c.args.tables.now in
     headline (setting_of tables kinds (F.may_leave c.args.folder.now)) (shows (F.contents c.args.folder.now) (F.failures c.args.folder.now))
-    (shows (F.contents c.read_registry.new.folder) (F.failures c.read_registry.new.folder)) (events.Invoke c.args.invocation.now ∷ []) (answer_of c.from_residual-in_err-registry.result ∷ [])
-    (returns-in_err-registry-clause-holds g c tells kinds agrees tears)
+    (shows (F.contents c.read_registry.new.folder) (F.failures c.read_registry.new.folder)) (events.Invoke c.args.invocation.now ∷ []) (answer_of c.from_residual-in_err-configured.result ∷ [])
+    (returns-in_err-configured-clause-holds g c tells kinds agrees tears)
 
 pub returns-clause-promise : goal.returns-clause-promise
 returns-clause-promise g c = λ tells kinds agrees tears.
@@ -230,12 +242,15 @@ returns-in_err-given-clause-asks g c =
     let p = err_from_is_err_and c.from_residual.result c.from_residual.ensures.1 in
     refusal_asks g.F.Folder.failures g.F.Folder.may_leave g.F.Folder.asked g.A.Actions.meanings c.args.tables.now.actions c.args.invocation.now c.from_residual.result p.0 c.args.folder.now c.args.folder.now p.1 (asks_nothing c.args.folder.now)
 
-pub returns-in_err-registry-clause-asks : goal.returns-in_err-registry-clause-asks
-returns-in_err-registry-clause-asks g c =
-    let p = err_from_is_err_and c.from_residual-in_err-registry.result c.from_residual-in_err-registry.ensures.1 in
-    refusal_asks g.F.Folder.failures g.F.Folder.may_leave g.F.Folder.asked g.A.Actions.meanings c.args.tables.now.actions c.args.invocation.now c.from_residual-in_err-registry.result p.0 c.args.folder.now c.read_registry.new.folder p.1 c.read_registry.ensures.asks
+pub returns-in_err-configured-clause-asks : goal.returns-in_err-configured-clause-asks
+returns-in_err-configured-clause-asks g c =
+    let p = err_from_is_err_and c.from_residual-in_err-configured.result c.from_residual-in_err-configured.ensures.1 in
+    refusal_asks g.F.Folder.failures g.F.Folder.may_leave g.F.Folder.asked g.A.Actions.meanings c.args.tables.now.actions c.args.invocation.now c.from_residual-in_err-configured.result p.0 c.args.folder.now c.read_registry.new.folder p.1 c.read_registry.ensures.asks
 
 pub returns-clause-asks : goal.returns-clause-asks
 returns-clause-asks g c =
     scripts_before g.F.Folder.failures g.F.Folder.may_leave g.F.Folder.asked g.A.Actions.meanings c.args.tables.now.actions c.args.invocation.now c.build_registered.result c.args.folder.now c.read_registry.new.folder c.build_registered.new.folder
-    c.read_registry.ensures.asks c.build_registered.ensures.asks
+    c.read_registry.ensures.asks
+    (subst (λ (given : handed.Tables _ _ _ _ _). InvocationAsks g.F.Folder.failures g.F.Folder.may_leave g.F.Folder.asked g.A.Actions.meanings given.actions c.args.invocation.now
+    c.build_registered.result c.read_registry.new.folder c.build_registered.new.folder)
+    c.in_ok-configured.ensures.tables c.build_registered.ensures.asks)

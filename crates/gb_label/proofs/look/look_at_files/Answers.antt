@@ -10,6 +10,8 @@ use Rattle.gb_turn.specs.Reading.{Read, digests_in, prints_read}
 use Rattle.gb_label.specs.Looking.{IsHindered, lacks_source}
 use Rattle.gb_label.proofs.Cases.{by_source, first_in_front, hindered}
 use Rattle.gb_label.proofs.Sources.{same_source, source_read}
+use Rattle.gb_folder.proofs.Asked.{asks_nothing}
+use Rattle.gb_turn.proofs.Answering.{inputs_longer}
 use Rattle.gb_label.proofs.look.look_at_files.Goals as goal
 
 pub returns-in_err-inputs-clause-err : goal.returns-in_err-inputs-clause-err
@@ -47,3 +49,17 @@ returns-clause-case g c = λ tells.
       c.in_ok-inputs.ensures.prints tells,
       c.in_ok-inputs.ensures.seen tells,
     )
+
+-- what was found of the readings is that they give no source
+sourceless : (properties other : List FileProperty) (inputs seen : List Read) (found : Bool) → properties ≡ other → seen ≡ inputs → found ≡ lacks_source properties seen → found ≡ true
+    → lacks_source other inputs ≡ true
+sourceless properties other inputs seen found is same told decided =
+    ap (lacks_source other) (sym same) ∙ ap (λ ps. lacks_source ps seen) (sym is) ∙ sym told ∙ decided
+
+pub returns-then-is_without_source-clause-answered : goal.returns-then-is_without_source-clause-answered
+returns-then-is_without_source-clause-answered g c = (
+  c.in_ok-inputs.inputs.items,
+  inputs_longer (asks_nothing c.args.folder.now) c.check_outputs.ensures.asks c.args.task.now c.in_ok-inputs.inputs.items c.in_ok-inputs.ensures.answered,
+  sourceless c.as_slice.result.now c.args.task.now.files c.in_ok-inputs.inputs.items c.as_slice-2.result.now c.is_without_source.result c.as_slice.ensures
+      c.as_slice-2.ensures.value c.is_without_source.ensures c.if-is_without_source.true,
+)

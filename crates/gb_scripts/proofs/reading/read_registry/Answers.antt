@@ -64,7 +64,7 @@ returns-clause-said g c = λ tells.
     let F = g.F.Folder in
     let files = (F.contents c.args.folder.now).files in
     put_together (tables_of g.T.Transforms.meanings g.A.Actions.meanings c.args.tables.now) files c.args.given.items c.in_ok-settings.settings
-    (c.in_ok-settings.ensures.said tells) c.in_ok-projects.ensures.faults c.in_ok-scripts.scripts.items _ _ c.configure.result
+    (c.in_ok-settings.ensures.said tells) c.in_ok-projects.ensures.faults c.in_ok-scripts.scripts.items _ _ c.configure.result (λ configured. configured.registry)
     (scripts_here (F.contents c.read_settings_of.new.folder) (F.contents c.args.folder.now) c.as_slice.result.now (projects_of c.in_ok-settings.settings) (Ok c.in_ok-scripts.scripts.items)
     (c.read_settings_of.ensures.same tells) (c.as_slice.ensures.value ∙ c.in_ok-projects.ensures.projects) (c.in_ok-scripts.ensures.said tells))
     c.configure.ensures.registry c.configure.ensures.faults

@@ -13,7 +13,8 @@ use Rattle.gb_task.proofs.ByChanges.{reading_failed}
 use Rattle.gb_task.proofs.Later.{comes_later, due_since, turned_before}
 use Rattle.gb_task.proofs.Recorded.{seen_later}
 use Rattle.gb_folder.proofs.Asked.{asks_reading, asks_then}
-use Rattle.gb_task.proofs.Asking.{full_anew, going_anew, text_in_turn}
+use Rattle.gb_task.specs.Asking.{HasRead}
+use Rattle.gb_task.proofs.Asking.{anew_read, asks_once, full_anew, going_anew, text_in_turn}
 use Rattle.gb_task.proofs.changes.go_on.Goals as goal
 
 pub returns-in_err-inputs-clause-turn : goal.returns-in_err-inputs-clause-turn
@@ -67,10 +68,11 @@ returns-in-ByChanges-clause-asks g c = λ first before inputs outputs.
     let is_anew = subst (IsAnew c.args.options task c.args.last.now) c.in-ByChanges.is c.in_ok-inputs.ensures.anew in
     let was = subst (WasReadAnew F.failures F.may_leave F.asked first then task) c.in-ByChanges.is (c.in_ok-inputs.ensures.answered first before inputs outputs) in
     asks_then (asks_reading c.settle_anew.ensures.asks)
+    (asks_once (HasRead F.failures F.may_leave F.asked first task) _ (anew_read F.failures F.may_leave F.asked first c.args.options task c.args.last.now _ then is_anew was)
     (text_in_turn task _ _
     (λ bytes. going_anew F.failures F.may_leave F.asked first g.A.Actions.meanings c.args.table.now c.args.options task c.args.last.now
     c.in-ByChanges.inputs c.in-ByChanges.outputs c.in-ByChanges.changes then was bytes is_anew)
-    c.go_by.ensures.asks)
+    c.go_by.ensures.asks))
 
 pub returns-in-InFull-clause-asks : goal.returns-in-InFull-clause-asks
 returns-in-InFull-clause-asks g c = λ first before inputs outputs.
@@ -80,6 +82,7 @@ returns-in-InFull-clause-asks g c = λ first before inputs outputs.
     let was = subst (WasReadAnew F.failures F.may_leave F.asked first then task) c.in-InFull.is (c.in_ok-inputs.ensures.answered first before inputs outputs) in
     let is_anew = subst (IsAnew c.args.options task c.args.last.now) c.in-InFull.is c.in_ok-inputs.ensures.anew in
     asks_then (asks_reading c.settle_anew.ensures.asks)
+    (asks_once (HasRead F.failures F.may_leave F.asked first task) _ (anew_read F.failures F.may_leave F.asked first c.args.options task c.args.last.now _ then is_anew was)
     (text_in_turn task _ _
     (full_anew F.failures F.may_leave F.asked first g.A.Actions.meanings c.args.table.now c.args.options task c.args.last.now c.in-InFull.inputs then was is_anew)
-    c.run_on.ensures.asks)
+    c.run_on.ensures.asks))

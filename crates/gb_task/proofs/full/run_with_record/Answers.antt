@@ -11,7 +11,8 @@ use Rattle.gb_task.proofs.Later.{comes_later, turned_before}
 use Rattle.gb_task.proofs.Recorded.{seen_later}
 use Rattle.gb_task.proofs.Whole.{reading_failed}
 use Rattle.gb_folder.proofs.Asked.{asks_reading, asks_then}
-use Rattle.gb_task.proofs.Asking.{full_is_one, text_in_turn}
+use Rattle.gb_task.specs.Asking.{HasRead}
+use Rattle.gb_task.proofs.Asking.{asks_once, full_is_one, run_read, text_in_turn}
 use Rattle.gb_task.proofs.full.run_with_record.Goals as goal
 
 pub returns-in_err-inputs-clause-turn : goal.returns-in_err-inputs-clause-turn
@@ -49,7 +50,11 @@ returns-in_err-inputs-clause-asks g c = λ first before inputs. asks_reading c.c
 pub returns-clause-asks : goal.returns-clause-asks
 returns-clause-asks g c = λ first before inputs.
     let F = g.F.Folder in
+    let task = c.args.task.now in
+    let trees = c.in_ok-inputs.inputs.trees in
+    let read = c.complete_inputs.new.folder in
+    let were = c.in_ok-inputs.ensures.answered first before inputs in
     asks_then (asks_reading c.complete_inputs.ensures.asks)
-    (text_in_turn c.args.task.now _ _
-    (full_is_one F.failures F.may_leave F.asked first g.A.Actions.meanings c.args.table.now c.args.task.now c.in_ok-inputs.inputs.trees c.complete_inputs.new.folder
-    (c.in_ok-inputs.ensures.answered first before inputs) c.in_ok-inputs.ensures.named) c.run_on.ensures.asks)
+    (asks_once (HasRead F.failures F.may_leave F.asked first task) _ (run_read F.failures F.may_leave F.asked first task trees read were c.in_ok-inputs.ensures.named)
+    (text_in_turn task _ _
+    (full_is_one F.failures F.may_leave F.asked first g.A.Actions.meanings c.args.table.now task trees read were c.in_ok-inputs.ensures.named) c.run_on.ensures.asks))

@@ -5,9 +5,9 @@ use Rattle.gb_task.specs.Turned.{ComesAt}
 use Rattle.gb_task.proofs.Later.{copied_some, due_anew, due_in_full, due_to_go_on, inputs_read, inputs_stand, none_known, outputs_read, outputs_stand}
 use Rattle.gb_task.proofs.turn.run.Goals.{in-Some+else-goes_by_changes, in_default}
 use Rattle.gb_folder.specs.Calls.{Asks}
-use Rattle.gb_task.specs.Asking.{IsTextOf, in_turn_with}
+use Rattle.gb_task.specs.Asking.{HasRead, IsTextOf, in_turn_with, once}
 use Rattle.gb_task.proofs.Answered.{outputs_answered}
-use Rattle.gb_task.proofs.Asking.{anew_of_task, full_of_task, one_writer, text_in_turn}
+use Rattle.gb_task.proofs.Asking.{anew_of_task, full_of_task, one_writer, text_once}
 use Rattle.gb_task.proofs.turn.run.Goals as goal
 
 pub take_turn_by_changes-requires-clause-inputs : goal.take_turn_by_changes-requires-clause-inputs
@@ -53,9 +53,10 @@ returns-then-goes_by_changes-clause-asks g c = λ first before inputs was.
     let changes = c.goes_by_changes.ensures.decided c.if-goes_by_changes.true in
     let outputs = outputs_answered F.failures F.may_leave F.asked first c.args.folder.now c.args.options task (option_copied c.args.last) c.args.seen.inputs.items c.args.decision changes.0 c.args.seen.outputs.items changes.1 was in
     subst (λ (o : Option (Bor Record)). Asks F.failures F.may_leave F.asked
-    (in_turn_with task (IsTextOf F.failures F.may_leave F.asked first g.A.Actions.meanings c.args.table.now c.args.options task (option_copied o)))
+    (once (HasRead F.failures F.may_leave F.asked first task)
+    (in_turn_with task (IsTextOf F.failures F.may_leave F.asked first g.A.Actions.meanings c.args.table.now c.args.options task (option_copied o))))
     c.args.folder.now c.take_turn_by_changes.new.folder) (sym c.in-Some.is)
-    (text_in_turn task _ _
+    (text_once (HasRead F.failures F.may_leave F.asked first task) task _ _
     (anew_of_task F.failures F.may_leave F.asked first g.A.Actions.meanings c.args.table.now c.args.options task _
     (λ kinds agrees. one_writer kinds task c.args.decision changes.0 changes.1 (c.goes_by_changes.ensures.agreed kinds agrees ∙ c.if-goes_by_changes.true)))
     (c.take_turn_by_changes.ensures.asks first before inputs outputs))
@@ -63,6 +64,6 @@ returns-then-goes_by_changes-clause-asks g c = λ first before inputs was.
 pub returns-clause-asks : goal.returns-clause-asks
 returns-clause-asks g c = λ first before inputs was.
     let F = g.F.Folder in
-    text_in_turn c.args.task.now _ _
+    text_once (HasRead F.failures F.may_leave F.asked first c.args.task.now) c.args.task.now _ _
     (full_of_task F.failures F.may_leave F.asked first g.A.Actions.meanings c.args.table.now c.args.options c.args.task.now (option_copied c.args.last))
     (c.take_full_turn.ensures.asks first before inputs)

@@ -8,7 +8,8 @@ use Rattle.gb_task.proofs.Answering.{cleared_answers, run_answers, told_answers}
 use Rattle.gb_task.proofs.Later.{cleared_started, comes_later, copied_some, run_started, told_turned, turned_before}
 use Rattle.gb_task.proofs.Recorded.{seen_later}
 use Rattle.gb_folder.proofs.Asked.{asks_reading, asks_then}
-use Rattle.gb_task.proofs.Asking.{taken_in_turn}
+use Rattle.gb_task.specs.Asking.{HasRead}
+use Rattle.gb_task.proofs.Asking.{asks_once, source_read, taken_in_turn}
 use Rattle.gb_task.proofs.turn.take_turn.Goals as goal
 
 pub returns-in-Told-clause-blame : goal.returns-in-Told-clause-blame
@@ -86,7 +87,13 @@ pub returns-in-Told-clause-asks : goal.returns-in-Told-clause-asks
 returns-in-Told-clause-asks g c = asks_reading c.settle.ensures.asks
 
 pub returns-in-Sourceless-clause-asks : goal.returns-in-Sourceless-clause-asks
-returns-in-Sourceless-clause-asks g c = asks_then (asks_reading c.settle.ensures.asks) (taken_in_turn c.args.task.now _ c.take_turn_without_source.ensures.asks)
+returns-in-Sourceless-clause-asks g c =
+    let F = g.F.Folder in
+    let task = c.args.task.now in
+    asks_then (asks_reading c.settle.ensures.asks)
+    (asks_once (HasRead F.failures F.may_leave F.asked c.args.folder.now task) _
+    (source_read F.failures F.may_leave F.asked c.args.folder.now task c.settle.new.folder c.in-Sourceless.ensures.answered)
+    (taken_in_turn task _ c.take_turn_without_source.ensures.asks))
 
 pub returns-in-Due-clause-asks : goal.returns-in-Due-clause-asks
 returns-in-Due-clause-asks g c =

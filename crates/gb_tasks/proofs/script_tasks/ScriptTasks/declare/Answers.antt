@@ -14,9 +14,9 @@ use Rattle.gb_tasks.proofs.script_tasks.ScriptTasks.declare.Goals as goal
 
 pub invariant_of-result : goal.invariant_of-result
 invariant_of-result g c =
-    let source = c.args.registry.now in
+    let source = c.args.configured.now.registry in
     let tables = tables_of g.T.Transforms.meanings g.A.Actions.meanings in
-    let space : c.in_ok-workspace.workspace ≡ record { tables = c.args.tables.now; source = source } = c.in_ok-workspace.ensures in
+    let space : c.in_ok-workspace.workspace ≡ record { tables = c.args.configured.now.tables.now; source = source } = c.in_ok-workspace.ensures in
     let named : AreNamed source =
     read_named source (scripts_in c.scripts.result.now) c.scripts.ensures.read
     (sym (ap (list_all is_named) c.scripts.ensures.said) ∙ c.read_names.ensures) in
@@ -26,5 +26,5 @@ invariant_of-result g c =
       words = c.in_ok-default_tasks.ensures ∙ sym (ap (λ (s : Space _ _ _ _ _). default_tasks s.source.said) space);
       ordered =
           subst (λ (s : Space _ _ _ _ _). IsRegistry (registry_said (tables s.tables) s.source)) (sym space)
-          (registry_is_sound (tables c.args.tables.now) source named c.requires.good);
+          (registry_is_sound (tables c.args.configured.now.tables.now) source named c.args.configured.now.good);
     }
