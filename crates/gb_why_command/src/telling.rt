@@ -1,5 +1,5 @@
 //! What is told of what is asked for.
-ghost use Rattle.std.specs.Prelude.{◌≡◌, [], false, IfErr, IfOk, IsTrue};
+ghost use Rattle.std.specs.Prelude.{◌≡◌, false, IfErr, IfOk, IsTrue};
 ghost use Rattle.std.specs.List.{AllByRecursion};
 ghost use Rattle.gb_execute.specs.Building.{IsBuildable};
 ghost use Rattle.gb_folder.specs.Calls.{Asks, no_change};
@@ -7,7 +7,6 @@ ghost use Rattle.gb_invoke.specs.Asking.{AreBuildable};
 ghost use Rattle.gb_invoke.specs.Refusing.{IsUnread};
 ghost use Rattle.gb_plan.specs.Graph.{IsRegistry, order};
 ghost use Rattle.gb_project.specs.Registered.{registry_said};
-ghost use Rattle.gb_registry.specs.Configure.{configure_faults};
 ghost use Rattle.gb_registry.specs.Tables.{tables_of};
 ghost use Rattle.gb_why_command.specs.Told.{AreTold, AreToldOf, IsAnswerTo, IsNotTold};
 
@@ -26,7 +25,7 @@ use gb_order::tasks::Tasks;
 use gb_plan::plan::Planned;
 use gb_provider::transforms::Transforms;
 use gb_records::reading::read_records;
-use gb_registry::registry::Registry;
+use gb_registry::configured::Configured;
 use gb_report::report::Options;
 use gb_scripts::reading::read_registry;
 use gb_tasks::script_tasks::ScriptTasks;
@@ -47,41 +46,40 @@ pub(crate) fn tell<A: Actions, T: Transforms, F: Folder>(
         result (F.failures folder.new) }
 {
     let given = copy_given(alloc, &asked.properties)?;
-    let registry = read_registry::<A, T, F>(alloc, folder, tables, given)?;
-    tell_registered::<A, T, F>(alloc, folder, tables, &registry, asked)
+    let configured = read_registry::<A, T, F>(alloc, folder, tables, given)?;
+    tell_registered::<A, T, F>(alloc, folder, &configured, asked)
 }
 
 /// Tells what is asked of the tasks of these scripts.
 fn tell_registered<A: Actions, T: Transforms, F: Folder>(
     alloc: Global,
     folder: &mut F,
-    tables: &Handed<A, T>,
-    registry: &Registry,
+    configured: &Configured<'_, A, T>,
     asked: &Invocation,
 ) -> Answer
-    requires { configure_faults (tables_of T.meanings A.meanings tables.now) registry.now ≡ [] }
     ensures asks { Asks F.failures F.may_leave F.asked no_change folder.old folder.new }
     ensures same { IsTrue F.tells → F.contents folder.new ≡ F.contents folder.old }
-    ensures sound { IfOk result (λ _.
-        IsRegistry (registry_said (tables_of T.meanings A.meanings tables.now) registry.now)) }
-    ensures told { IfOk result (λ told. AreToldOf F.tells A.meanings tables.now.actions
-        (registry_said (tables_of T.meanings A.meanings tables.now) registry.now)
+    ensures sound { let tables = tables_of T.meanings A.meanings configured.now.tables.now in
+        IfOk result (λ _. IsRegistry (registry_said tables configured.now.registry)) }
+    ensures told { let tables = tables_of T.meanings A.meanings configured.now.tables.now in
+        IfOk result (λ told. AreToldOf F.tells A.meanings configured.now.tables.now.actions
+        (registry_said tables configured.now.registry)
         asked.now.requested asked.now.excluded asked.now.options
         (record { contents = F.contents folder.old; failures = F.failures folder.old })
         (F.failures folder.new) told.items) }
-    ensures not_told { IfErr result
-        (IsNotTold (registry_said (tables_of T.meanings A.meanings tables.now) registry.now)
+    ensures not_told { let tables = tables_of T.meanings A.meanings configured.now.tables.now in
+        IfErr result (IsNotTold (registry_said tables configured.now.registry)
         asked.now.requested asked.now.excluded (F.failures folder.old) (F.failures folder.new)) }
 {
-    let _scripts = registry.scripts();
-    let mut tasks = ScriptTasks::<A, T>::declare(alloc, tables, registry)?;
+    let _scripts = configured.registry.scripts();
+    let mut tasks = ScriptTasks::declare(alloc, configured)?;
     let requested = asked.requested.as_slice();
     let excluded = asked.excluded.as_slice();
     tell_requested::<A, F, _>(
         alloc,
         folder,
         &mut tasks,
-        &tables.actions,
+        &configured.tables.actions,
         requested,
         excluded,
         asked.options,

@@ -16,33 +16,33 @@ use Rattle.gb_why_command.proofs.telling.tell_registered.Goals as goal
 pub returns-in_err-tasks-clause-not_told : goal.returns-in_err-tasks-clause-not_told
 returns-in_err-tasks-clause-not_told g c =
     let failures = g.F.Folder.failures c.args.folder.now in
-    let tables = tables_of g.T.Transforms.meanings g.A.Actions.meanings c.args.tables.now in
+    let tables = tables_of g.T.Transforms.meanings g.A.Actions.meanings c.args.configured.now.tables.now in
     let p = err_from_is_err_and c.from_residual.result c.from_residual.ensures.1 in
-    subst (λ (r : Answer). IfErr r (IsNotTold (registry_said tables c.args.registry.now) c.args.asked.now.requested c.args.asked.now.excluded failures failures)) (sym p.1)
+    subst (λ (r : Answer). IfErr r (IsNotTold (registry_said tables c.args.configured.now.registry) c.args.asked.now.requested c.args.asked.now.excluded failures failures)) (sym p.1)
     (inl (inl p.2))
 
 pub tell_requested-requires : goal.tell_requested-requires
 tell_requested-requires g c =
-    let tables = tables_of g.T.Transforms.meanings g.A.Actions.meanings c.args.tables.now in
-    let same : registry_in g.T.Transforms.meanings g.A.Actions.meanings c.in_ok-tasks.tasks.workspace ≡ registry_said tables c.args.registry.now = c.in_ok-tasks.ensures.registry in
-    subst (AreBuildable g.A.Actions.meanings c.args.tables.now.actions) (sym same)
-    (are_buildable tables c.args.registry.now (scripts_in c.scripts-scripts.result.now) c.scripts-scripts.ensures.read (subst IsRegistry same c.in_ok-tasks.tasks.ordered))
+    let tables = tables_of g.T.Transforms.meanings g.A.Actions.meanings c.args.configured.now.tables.now in
+    let same : registry_in g.T.Transforms.meanings g.A.Actions.meanings c.in_ok-tasks.tasks.workspace ≡ registry_said tables c.args.configured.now.registry = c.in_ok-tasks.ensures.registry in
+    subst (AreBuildable g.A.Actions.meanings c.args.configured.now.tables.now.actions) (sym same)
+    (are_buildable tables c.args.configured.now.registry (scripts_in c.scripts-scripts.result.now) c.scripts-scripts.ensures.read (subst IsRegistry same c.in_ok-tasks.tasks.ordered))
 
 pub returns-clause-sound : goal.returns-clause-sound
 returns-clause-sound g c =
-    let tables = tables_of g.T.Transforms.meanings g.A.Actions.meanings c.args.tables.now in
-    let same : registry_in g.T.Transforms.meanings g.A.Actions.meanings c.in_ok-tasks.tasks.workspace ≡ registry_said tables c.args.registry.now = c.in_ok-tasks.ensures.registry in
-    ok_always (IsRegistry (registry_said tables c.args.registry.now)) c.tell_requested.result (subst IsRegistry same c.in_ok-tasks.tasks.ordered)
+    let tables = tables_of g.T.Transforms.meanings g.A.Actions.meanings c.args.configured.now.tables.now in
+    let same : registry_in g.T.Transforms.meanings g.A.Actions.meanings c.in_ok-tasks.tasks.workspace ≡ registry_said tables c.args.configured.now.registry = c.in_ok-tasks.ensures.registry in
+    ok_always (IsRegistry (registry_said tables c.args.configured.now.registry)) c.tell_requested.result (subst IsRegistry same c.in_ok-tasks.tasks.ordered)
 
 pub returns-clause-told : goal.returns-clause-told
 returns-clause-told g c =
     let F = g.F.Folder in
     let meanings = g.A.Actions.meanings in
-    let rows = c.args.tables.now.actions in
+    let rows = c.args.configured.now.tables.now.actions in
     let asked = c.args.asked.now in
-    let tables = tables_of g.T.Transforms.meanings meanings c.args.tables.now in
+    let tables = tables_of g.T.Transforms.meanings meanings c.args.configured.now.tables.now in
     let declared = registry_in g.T.Transforms.meanings meanings c.in_ok-tasks.tasks.workspace in
-    let same : declared ≡ registry_said tables c.args.registry.now = c.in_ok-tasks.ensures.registry in
+    let same : declared ≡ registry_said tables c.args.configured.now.registry = c.in_ok-tasks.ensures.registry in
     let old : Shown = shows (F.contents c.args.folder.now) (F.failures c.args.folder.now) in
     let after = F.failures c.tell_requested.new.folder in
     let result : Answer = c.tell_requested.result in
@@ -55,9 +55,9 @@ pub returns-clause-not_told : goal.returns-clause-not_told
 returns-clause-not_told g c =
     let F = g.F.Folder in
     let asked = c.args.asked.now in
-    let tables = tables_of g.T.Transforms.meanings g.A.Actions.meanings c.args.tables.now in
+    let tables = tables_of g.T.Transforms.meanings g.A.Actions.meanings c.args.configured.now.tables.now in
     let declared = registry_in g.T.Transforms.meanings g.A.Actions.meanings c.in_ok-tasks.tasks.workspace in
-    let same : declared ≡ registry_said tables c.args.registry.now = c.in_ok-tasks.ensures.registry in
+    let same : declared ≡ registry_said tables c.args.configured.now.registry = c.in_ok-tasks.ensures.registry in
     let before = F.failures c.args.folder.now in
     let after = F.failures c.tell_requested.new.folder in
     let result : Answer = c.tell_requested.result in
