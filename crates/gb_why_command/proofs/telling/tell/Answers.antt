@@ -8,7 +8,7 @@ use Rattle.gb_project.specs.Registered.{registry_said}
 use Rattle.gb_registry.specs.Tables.{tables_of}
 use Rattle.gb_registry.specs.declared.tables.Tables as handed
 use Rattle.gb_why_command.specs.Told.{Answer, AreToldOf, IsAnswerTo, IsNotTold, in_earnest}
-use Rattle.gb_why_command.proofs.Telling.{answers_it, shows}
+use Rattle.gb_why_command.proofs.Told.{answers_it, shows}
 use Rattle.gb_why_command.proofs.telling.tell.Goals as goal
 
 pub returns-in_err-given-clause-answer : goal.returns-in_err-given-clause-answer

@@ -15,7 +15,7 @@ use Rattle.gb_plan.specs.declared.plan.Planned.{Planned}
 use Rattle.gb_records.specs.Answered.{WasAnswered}
 use Rattle.gb_records.specs.Said.{IsReadAt}
 use Rattle.gb_why_command.specs.Told.{Answer}
-use Rattle.gb_why_command.proofs.Telling.{as_long, foretold_since}
+use Rattle.gb_why_command.proofs.Told.{as_long, foretold_since}
 use Rattle.gb_why_command.proofs.telling.tell_planned.Goals as goal
 
 pub returns-in_err-records-clause-unread : goal.returns-in_err-records-clause-unread

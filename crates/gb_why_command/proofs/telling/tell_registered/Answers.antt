@@ -10,7 +10,7 @@ use Rattle.gb_registry.specs.Seen.{scripts_in}
 use Rattle.gb_registry.specs.Tables.{tables_of}
 use Rattle.gb_tasks.specs.Scripts.{registry_in}
 use Rattle.gb_why_command.specs.Told.{Answer, AreToldOf, IsNotTold}
-use Rattle.gb_why_command.proofs.Telling.{ok_always, shows}
+use Rattle.gb_why_command.proofs.Told.{ok_always, shows}
 use Rattle.gb_why_command.proofs.telling.tell_registered.Goals as goal
 
 pub returns-in_err-tasks-clause-not_told : goal.returns-in_err-tasks-clause-not_told

@@ -9,7 +9,7 @@ use Rattle.gb_meaning.specs.Edits.{Shown}
 use Rattle.gb_plan.specs.Graph.{Plan}
 use Rattle.gb_plan.specs.declared.plan.Planned.{Planned}
 use Rattle.gb_why_command.specs.Told.{Answer, AreTold, AreToldOf, IsNotTold}
-use Rattle.gb_why_command.proofs.Telling.{err_more, ok_more, shows}
+use Rattle.gb_why_command.proofs.Told.{err_more, ok_more, shows}
 use Rattle.gb_why_command.proofs.telling.tell_requested.Goals as goal
 
 pub returns-in_err-plan-clause-not_told : goal.returns-in_err-plan-clause-not_told
