@@ -72,7 +72,11 @@ const WORDS: [Row<'static>; 6] = [
     ("gen --rerun-tasks", ":gen runs: --rerun-tasks\n", 0),
     ("-m gen", ":gen UP-TO-DATE\n", 0),
     ("gen -x gen", "", 0),
-    ("other", "REFUSED 52 task not found other\nBUILD FAILED\n", 1),
+    (
+        "other",
+        "REFUSED 52 task not found other\nBUILD FAILED\n",
+        1,
+    ),
     ("gen --why", "REFUSED 96 usage\nBUILD FAILED\n", 2),
 ];
 
