@@ -1,7 +1,7 @@
 -- What is told of a plan is told of what was asked for, and what is told later of the folder as it stood before.
 use Rattle.std.specs.Prelude.{ℕ, ◌≡◌, ◌≤◌, Bool, IsTrue, List, [], ◌∷◌, length, Option, Result, Ok, Err, IfErr, IfOk}
 use Rattle.std.specs.List.{AllZip, zip}
-use Rattle.std.proofs.Common.{refl, sym, ap, subst, suc, inl, inr, arith}
+use Rattle.std.proofs.Common.{refl, ap, subst, suc, arith}
 use Rattle.gb_action.specs.Meanings.{Meanings}
 use Rattle.gb_folder.specs.Files.{Contents}
 use Rattle.gb_foretell.specs.Foretold.{AreForetold, IsForetold}

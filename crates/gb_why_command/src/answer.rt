@@ -1,5 +1,5 @@
 //! What is printed of an answer, and its status.
-ghost use Rattle.std.specs.Prelude.{◌≡◌, ◌++◌, IfOk, OnOk, string_bytes};
+ghost use Rattle.std.specs.Prelude.{◌≡◌, IfOk};
 ghost use Rattle.std.specs.List.{flat_map};
 ghost use Rattle.gb_printer.specs.Printing.{Prints};
 ghost use Rattle.gb_why_command.specs.Line.{line_text};

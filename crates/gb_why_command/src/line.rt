@@ -1,5 +1,5 @@
 //! The line of a task.
-ghost use Rattle.std.specs.Prelude.{◌≡◌, ◌++◌, ◌∷◌, [], OnOk, string_bytes};
+ghost use Rattle.std.specs.Prelude.{◌≡◌, ◌++◌, OnOk, string_bytes};
 ghost use Rattle.gb_why_command.specs.Line.{after_text, coming_text, line_text, more_text, reasons_text};
 ghost use Rattle.gb_why_command.specs.Line.{runs_text, way};
 
