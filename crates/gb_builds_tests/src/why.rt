@@ -1,0 +1,220 @@
+//! What `gb_why` tells of tasks; that of a whole folder on a disk is told by the run of its own crate.
+use crate::building::{Step, go_on, is_told, words_of};
+use crate::ending::FailingWriter;
+use crate::offering::{Handed, offered};
+use gb_action::actions::Actions;
+use gb_core::place::Place;
+use gb_folder::folder::Folder;
+use gb_folder::memory::MemoryFolder;
+use gb_kinds::builtin::Builtin;
+use gb_printer::page::Page;
+use gb_provider::transforms::Transforms;
+use gb_why_command::run::run;
+use std::alloc::Global;
+use std::test::Fail;
+
+const SCRIPT: &str = "register gen : writeText(\"abc\") { outputFile out = file(\"build/a.txt\") }";
+
+const EXECUTED: &str = "> Task :gen\nBUILD SUCCESSFUL\n1 actionable task: 1 executed\n";
+
+const BUILT: [Step<'static>; 2] = [("put build.gb", SCRIPT, ""), ("run gen", "", EXECUTED)];
+
+/// What is printed of words, and the status.
+fn answered<A: Actions, T: Transforms>(
+    alloc: Global,
+    folder: &mut MemoryFolder,
+    tables: &Handed<A, T>,
+    words: &str,
+) -> Result<(String, u8), Fail> {
+    let given = words_of(alloc, words)?;
+    let mut out = Vec::new(alloc);
+    let status = run::<A, T, MemoryFolder, Page<&mut Vec<u8>>>(
+        alloc,
+        folder,
+        Ok(given),
+        &mut Page::new(&mut out),
+        tables,
+    );
+    match status {
+        Some(status) => Ok((String::from_utf8(out)?, status)),
+        None => Err(Fail::new("not printed")),
+    }
+}
+
+/// Fails where something else is told of words.
+fn is_why<A: Actions, T: Transforms>(
+    alloc: Global,
+    folder: &mut MemoryFolder,
+    tables: &Handed<A, T>,
+    words: &str,
+    expected: &str,
+) -> Result<(), Fail> {
+    let (text, _) = answered::<A, T>(alloc, folder, tables, words)?;
+    is_told(expected, text.as_str())
+}
+
+/// The folder after these events.
+fn folder_after<A: Actions, T: Transforms>(
+    alloc: Global,
+    tables: &Handed<A, T>,
+    steps: &[Step<'_>],
+) -> Result<MemoryFolder, Fail> {
+    let mut folder = MemoryFolder::new(alloc);
+    go_on::<A, T, MemoryFolder>(alloc, &mut folder, tables, steps)?;
+    Ok(folder)
+}
+
+/// Words over the folder after a build, what is told of them, and the status.
+type Row<'a> = (&'a str, &'a str, u8);
+
+const WORDS: [Row<'static>; 6] = [
+    ("gen", ":gen UP-TO-DATE\n", 0),
+    ("gen --rerun-tasks", ":gen runs: --rerun-tasks\n", 0),
+    ("-m gen", ":gen UP-TO-DATE\n", 0),
+    ("gen -x gen", "", 0),
+    (
+        "other",
+        "REFUSED 52 task not found other\nBUILD FAILED\n",
+        1,
+    ),
+    ("gen --why", "REFUSED 96 usage\nBUILD FAILED\n", 2),
+];
+
+/// Fails where a row is answered otherwise.
+fn holds<A: Actions, T: Transforms>(
+    alloc: Global,
+    folder: &mut MemoryFolder,
+    tables: &Handed<A, T>,
+    row: &Row<'_>,
+) -> Result<(), Fail> {
+    let (text, status) = answered::<A, T>(alloc, folder, tables, row.0)?;
+    is_told(row.1, text.as_str())?;
+    if status == row.2 {
+        Ok(())
+    } else {
+        Err(Fail::new(status))
+    }
+}
+
+#[test]
+fn words_are_answered_with_a_status(rt: HostRuntime) -> Result<(), Fail> {
+    let alloc = rt.alloc();
+    let tables = offered(alloc)?;
+    let mut folder = folder_after::<Builtin, Builtin>(alloc, &tables, &BUILT)?;
+    for row in &WORDS {
+        holds::<Builtin, Builtin>(alloc, &mut folder, &tables, row)?;
+    }
+    Ok(())
+}
+
+/// The form and the task of a record, its seal, and what is told of the task at whose place it stands.
+type Recorded<'a> = (&'a str, &'a str, &'a str, &'a str);
+
+/// A record of the older form, one of a form that is none, one of another task, and a damaged one.
+const RECORDS: [Recorded<'static>; 4] = [
+    (
+        "1",
+        ":gen",
+        "d075510cbf1b60d97c23d1462bc14617e7d32f2285ef1b385b1956761cf96c72",
+        ":gen UP-TO-DATE\n",
+    ),
+    (
+        "9",
+        ":gen",
+        "73d3b568b800a9f690218e02fdc3a01e95673da6bf443bc6357df72a9bb84b19",
+        ":gen runs: no record\n",
+    ),
+    (
+        "1",
+        ":other",
+        "77ee1501d227481eb0caaaacd073c92638587c78dd5639c3797398cd90960d36",
+        ":gen runs: no record\n",
+    ),
+    (
+        "1",
+        ":gen",
+        "d175510cbf1b60d97c23d1462bc14617e7d32f2285ef1b385b1956761cf96c72",
+        ":gen runs: no record\n",
+    ),
+];
+
+/// The text of a record of a run that wrote what the script says.
+fn record(alloc: Global, form: &str, task: &str, seal: &str) -> Result<String, Fail> {
+    let mut text = String::new(alloc);
+    for part in [
+        "{\"form\":",
+        form,
+        ",\"tasks\":[{\"actions\":[{\"args\":[{\"text\":\"abc\"}],\"kind\":\"writeText\"}],\
+         \"files\":[],\"outputs\":[{\"name\":\"out\",\"place\":\"build/a.txt\",\"prints\":[[\"\",\
+         \"ba7816bf8f01cfea414140de5dae2223b00361a396177a9cb410ff61f20015ad\"]],\"shape\":\"file\"}],\
+         \"task\":\"",
+        task,
+        "\",\"values\":[]}]}\n",
+        seal,
+        "\n",
+    ] {
+        text.push_str(part)?;
+    }
+    Ok(text)
+}
+
+/// Puts bytes at a place, also at one that is the tool's own.
+fn put(alloc: Global, folder: &mut MemoryFolder, place: &str, bytes: &[u8]) -> Result<(), Fail> {
+    Ok(folder.write(&Place::read(alloc, place)?, bytes, 10_000_000)?)
+}
+
+/// Fails where something else is told with this record.
+fn counts<A: Actions, T: Transforms>(
+    alloc: Global,
+    folder: &mut MemoryFolder,
+    tables: &Handed<A, T>,
+    row: &Recorded<'_>,
+) -> Result<(), Fail> {
+    let text = record(alloc, row.0, row.1, row.2)?;
+    put(alloc, folder, ".gb/tasks/gen.record", text.as_bytes())?;
+    is_why::<A, T>(alloc, folder, tables, "gen", row.3)
+}
+
+#[test]
+fn records_count_as_for_builds(rt: HostRuntime) -> Result<(), Fail> {
+    let alloc = rt.alloc();
+    let tables = offered(alloc)?;
+    let mut folder = folder_after::<Builtin, Builtin>(alloc, &tables, &BUILT)?;
+    for row in &RECORDS {
+        counts::<Builtin, Builtin>(alloc, &mut folder, &tables, row)?;
+    }
+    Ok(())
+}
+
+#[test]
+fn an_output_that_is_too_large_is_told(rt: HostRuntime) -> Result<(), Fail> {
+    let alloc = rt.alloc();
+    let tables = offered(alloc)?;
+    let mut folder = folder_after::<Builtin, Builtin>(alloc, &tables, &BUILT)?;
+    let large = vec![in alloc; b'x'; 8_388_609]?;
+    put(alloc, &mut folder, "build/a.txt", large.as_slice())?;
+    is_why::<Builtin, Builtin>(
+        alloc,
+        &mut folder,
+        &tables,
+        "gen",
+        ":gen runs: outputs are too large or too many\n",
+    )
+}
+
+/// Fails where what cannot be printed has a status.
+fn unprinted<A: Actions, T: Transforms>(alloc: Global, tables: &Handed<A, T>) -> Result<(), Fail> {
+    let mut folder = MemoryFolder::new(alloc);
+    let words = Ok(Vec::new(alloc));
+    let mut page = Page::new(FailingWriter);
+    match run::<A, T, _, _>(alloc, &mut folder, words, &mut page, tables) {
+        None => Ok(()),
+        Some(status) => Err(Fail::new(status)),
+    }
+}
+
+#[test]
+fn what_cannot_be_printed_has_no_status(rt: HostRuntime) -> Result<(), Fail> {
+    let tables = offered(rt.alloc())?;
+    unprinted::<Builtin, Builtin>(rt.alloc(), &tables)
+}

@@ -1,0 +1,45 @@
+-- The line of a task: what its turn would come to, and why it would run.
+use Rattle.std.specs.Prelude.{ℕ, ◌==◌, Bool, List, [], ◌∷◌, ◌++◌, Option, Some, None, if◌then◌else◌}
+use Rattle.std.specs.Prelude.{codes, decimal, length}
+use Rattle.gb_foretell.specs.declared.coming.Coming.{Coming}
+use Rattle.gb_foretell.specs.declared.coming.Coming.TheVariants as comings
+use Rattle.gb_foretell.specs.declared.coming.Foretold.{Foretold}
+use Rattle.gb_plan.specs.Task.{Path}
+use Rattle.gb_reason.specs.Text.{reason_text}
+use Rattle.gb_reason.specs.declared.reason.Reason.{Reason}
+use Rattle.gb_report.specs.Fault.{fault_text}
+use Rattle.gb_report.specs.Report.{line}
+
+-- how many more reasons there are, if any
+abbrev pub more_text : ℕ → List ℕ
+more_text count = if count == 0 then [] else codes ", and " ++ decimal count ++ codes " more"
+
+-- the first reason, and how many more there are
+abbrev pub reasons_text : List Reason → List ℕ
+reasons_text [] = []
+reasons_text (first ∷ others) = reason_text first ++ more_text (length others)
+
+-- that a task runs, by changes or in full
+abbrev pub way : Bool → List ℕ
+way by_changes = if by_changes then codes " runs by changes: " else codes " runs: "
+
+abbrev pub runs_text : Bool → List Reason → List ℕ
+runs_text by_changes reasons = way by_changes ++ reasons_text reasons
+
+-- what stands behind the path of a task
+abbrev pub coming_text : Coming → List ℕ
+coming_text comings.Skips = codes " SKIPPED: onlyIf is false"
+coming_text comings.HasNoActions = codes " has no actions"
+coming_text comings.HasNoSource = codes " NO-SOURCE"
+coming_text (comings.CannotRead fault) = codes " cannot be read: " ++ fault_text fault
+coming_text comings.UpToDate = codes " UP-TO-DATE"
+coming_text comings.HasGrown = codes " runs: outputs are too large or too many"
+coming_text (comings.Runs by_changes reasons) = runs_text by_changes reasons.items
+
+-- the task after which it may come to something else, if there is one
+abbrev pub after_text : Option Path → List ℕ
+after_text None = []
+after_text (Some path) = codes " (after " ++ path ++ codes ")"
+
+abbrev pub line_text : Foretold → List ℕ
+line_text told = line (told.path ++ coming_text told.coming ++ after_text told.after)
