@@ -2,6 +2,8 @@ pub mod ByFileAnswers
 pub mod CarriedFound
 pub mod CarriedLaw
 pub mod CarriedLines
+pub mod Differing
+pub mod AnewAnswers
 pub mod FileLaw
 pub mod Filtered
 pub mod Carrying

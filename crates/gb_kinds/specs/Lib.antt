@@ -8,3 +8,4 @@ pub mod Functions
 pub mod ReplyProps
 pub mod FunctionNames
 pub mod Own
+pub mod Anew

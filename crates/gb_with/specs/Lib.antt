@@ -4,3 +4,4 @@ pub mod Own
 pub mod FileKinds
 pub mod Functions
 pub mod TreeKinds
+pub mod Renamed
