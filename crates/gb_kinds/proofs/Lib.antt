@@ -4,6 +4,7 @@ pub mod CarriedLaw
 pub mod CarriedLines
 pub mod Differing
 pub mod AnewAnswers
+pub mod ByPath
 pub mod FileLaw
 pub mod Filtered
 pub mod Carrying
