@@ -1,4 +1,4 @@
-//! An argument that a script may give or leave out.
+//! An argument that a script may give or leave out: the name of the token of `template`.
 use crate::offering::{Handed, Kinds, offered};
 use crate::steps::{Step, go_on, stands};
 use gb_action::actions::Actions;
@@ -8,12 +8,10 @@ use gb_provider::transforms::Transforms;
 use std::alloc::Global;
 use std::test::Fail;
 
-const PAGE: &str = "<p>A</p>\n";
-
 const DONE: &str = "> Task :t\nBUILD SUCCESSFUL\n1 actionable task: 1 executed\n";
 
-/// The name of the token is left out, given as it is then, and given otherwise; and one too many is given.
-const STEPS: [Step<'static>; 9] = [
+/// It is left out.
+const LEFT_OUT: [Step<'static>; 4] = [
     Step::Put("pages/a.md", b"A"),
     Step::Put("layout.html", b"<p>{{page}}</p>\n"),
     Step::Put(
@@ -22,12 +20,20 @@ const STEPS: [Step<'static>; 9] = [
 inputFiles layout from file(\"layout.html\") outputDir out = dir(\"build/t\") }",
     ),
     Step::Run("t", 1, DONE),
+];
+
+/// The one that is meant then is given: the task runs, as its action differs, and makes the same.
+const GIVEN: [Step<'static>; 2] = [
     Step::Put(
         "build.gb",
         b"register t : template(\"page\") { inputFiles src from dir(\"pages\") \
 inputFiles layout from file(\"layout.html\") outputDir out = dir(\"build/t\") }",
     ),
     Step::Run("t", 1, DONE),
+];
+
+/// Another one is given, and then one too many.
+const OTHERS: [Step<'static>; 4] = [
     Step::Put(
         "build.gb",
         b"register t : template(\"text\") { inputFiles src from dir(\"pages\") \
@@ -44,10 +50,12 @@ inputFiles layout from file(\"layout.html\") outputDir out = dir(\"build/t\") }"
         b"register t : template(\"page\", \"text\") { inputFiles src from dir(\"pages\") \
 inputFiles layout from file(\"layout.html\") outputDir out = dir(\"build/t\") }",
     ),
+    Step::Run(
+        "t",
+        0,
+        "REFUSED 43 bad argument :t template\nBUILD FAILED\n",
+    ),
 ];
-
-/// The same again, and one too many.
-const REFUSED: [Step<'static>; 1] = [Step::Run("t", 0, "REFUSED\n")];
 
 /// Fails where something else is told or stands.
 fn may_be_left_out<A: Actions, T: Transforms>(
@@ -55,12 +63,11 @@ fn may_be_left_out<A: Actions, T: Transforms>(
     tables: &Handed<A, T>,
 ) -> Result<(), Fail> {
     let mut folder = MemoryFolder::new(alloc);
-    go_on::<A, T, MemoryFolder>(alloc, &mut folder, tables, &STEPS[..4])?;
-    stands(alloc, &mut folder, "build/t/a.html", PAGE)?;
-    go_on::<A, T, MemoryFolder>(alloc, &mut folder, tables, &STEPS[4..6])?;
-    stands(alloc, &mut folder, "build/t/a.html", PAGE)?;
-    go_on::<A, T, MemoryFolder>(alloc, &mut folder, tables, &STEPS[6..])?;
-    go_on::<A, T, MemoryFolder>(alloc, &mut folder, tables, &REFUSED)
+    go_on::<A, T, MemoryFolder>(alloc, &mut folder, tables, &LEFT_OUT)?;
+    stands(alloc, &mut folder, "build/t/a.html", "<p>A</p>\n")?;
+    go_on::<A, T, MemoryFolder>(alloc, &mut folder, tables, &GIVEN)?;
+    stands(alloc, &mut folder, "build/t/a.html", "<p>A</p>\n")?;
+    go_on::<A, T, MemoryFolder>(alloc, &mut folder, tables, &OTHERS)
 }
 
 #[test]

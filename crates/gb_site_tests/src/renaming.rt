@@ -61,7 +61,12 @@ fn are_renamed<A: Actions, T: Transforms>(
 ) -> Result<(), Fail> {
     let mut folder = MemoryFolder::new(alloc);
     go_on::<A, T, MemoryFolder>(alloc, &mut folder, tables, &PAGES)?;
-    stand(alloc, &mut folder, "build/p", "build/p/a.html\nbuild/p/d/b.html\n")?;
+    stand(
+        alloc,
+        &mut folder,
+        "build/p",
+        "build/p/a.html\nbuild/p/d/b.html\n",
+    )?;
     stands(alloc, &mut folder, "build/p/a.html", "<h1>A</h1>\n")?;
     go_on::<A, T, MemoryFolder>(alloc, &mut folder, tables, &MET)?;
     go_on::<A, T, MemoryFolder>(alloc, &mut folder, tables, &OTHERS)?;
