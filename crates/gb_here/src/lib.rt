@@ -13,4 +13,4 @@
 pub mod here;
 mod lock;
 pub mod refused;
-pub mod words;
+mod words;

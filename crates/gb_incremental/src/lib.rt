@@ -8,11 +8,11 @@
 #![tactic(auto)]
 
 pub mod asking;
-pub mod checking;
+mod checking;
 pub mod laws;
-pub mod planning;
-pub mod reply;
+mod planning;
+mod reply;
 pub mod run;
 mod standing;
-pub mod stepping;
-pub mod turns;
+mod stepping;
+mod turns;

@@ -3,12 +3,12 @@
 
 pub mod given;
 pub mod laws;
-pub mod listing;
-pub mod making;
-pub mod properties;
+mod listing;
+mod making;
+mod properties;
 pub mod rows;
 pub mod scripts;
 pub mod site;
-pub mod sources;
-pub mod statements;
-pub mod steps;
+mod sources;
+mod statements;
+mod steps;

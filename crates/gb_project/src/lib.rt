@@ -1,12 +1,12 @@
 //! What the tasks of a build declare, with their expressions evaluated.
 #![tactic(auto)]
 
-pub mod clauses;
+mod clauses;
 pub mod declaring;
-pub mod headings;
-pub mod joining;
+mod headings;
+mod joining;
 pub mod laws;
-pub mod naming;
-pub mod picks;
+mod naming;
+mod picks;
 pub mod registered;
-pub mod shape;
+mod shape;

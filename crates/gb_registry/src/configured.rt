@@ -8,10 +8,13 @@ use crate::tables::Tables;
 use gb_action::actions::Actions;
 use gb_provider::transforms::Transforms;
 
-/// What scripts register, where they have no fault by these tables.
+/// Scripts without a fault by these tables.
 #[derive(Drop)]
 pub struct Configured<'a, A: Actions, T: Transforms> {
+    /// The actions and functions that they may name.
     pub tables: &'a Tables<A::Stored, T::Map, T::FlatMap, T::Zip, T::Test>,
+    /// What they register.
     pub registry: Registry,
+    // They have no fault by these tables.
     pub ghost good: { configure_faults (tables_of T.meanings A.meanings tables.now) registry ≡ [] },
 }

@@ -2,16 +2,16 @@
 #![tactic(auto)]
 
 pub mod checking;
-pub mod configure;
+mod configure;
 pub mod configured;
 pub mod laws;
-pub mod missing;
+mod missing;
 pub mod names;
 pub mod paths;
 pub mod project;
 pub mod projects;
 pub mod registry;
-pub mod seen;
+mod seen;
 pub mod tables;
 pub mod tasks;
 pub mod texts;

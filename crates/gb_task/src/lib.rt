@@ -7,13 +7,13 @@
 #![tactic(auto)]
 
 mod adding;
-pub mod anew;
-pub mod changes;
+mod anew;
+mod changes;
 mod clearing;
-pub mod full;
+mod full;
 mod going;
 mod keeping;
 pub mod laws;
-pub mod settle;
-pub mod sourceless;
+mod settle;
+mod sourceless;
 pub mod turn;

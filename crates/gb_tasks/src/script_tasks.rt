@@ -1,5 +1,5 @@
 //! Tasks of scripts, as a plan asks for them.
-ghost use Rattle.std.specs.Prelude.{◌≡◌, [], IfOk};
+ghost use Rattle.std.specs.Prelude.{◌≡◌, IfOk};
 ghost use Rattle.gb_plan.specs.Graph.{IsRegistry};
 ghost use Rattle.gb_registry.specs.Said.{paths_of};
 ghost use Rattle.gb_registry.specs.Select.{default_tasks as default_tasks_said};

@@ -6,7 +6,7 @@
 #![tactic(auto)]
 
 mod completing;
-pub mod fault;
+mod fault;
 pub mod inputs;
 pub mod outputs;
 pub mod prints;

@@ -5,5 +5,5 @@
 #![tactic(auto)]
 
 pub mod laws;
-pub mod values;
+mod values;
 pub mod words;

@@ -2,11 +2,11 @@
 #![tactic(auto)]
 
 mod blocks;
-pub mod entry;
+mod entry;
 pub mod laws;
 mod outputs;
 mod properties;
 mod registering;
-pub mod scripts;
-pub mod tasks;
+mod scripts;
+mod tasks;
 pub mod workspace;

@@ -4,7 +4,7 @@ use Rattle.gb_script.proofs.lexing.content.Goals as goal
 
 pub returns-then-begins-clause-exact : goal.returns-then-begins-clause-exact
 returns-then-begins-clause-exact c =
-    rw (c.new.ensures, c.past_first.ensures.rest)
+    rw (c.in_ok-new.ensures, c.past_first.ensures.rest)
     (closes _ _ c.runs.rest.now c.plain_run.result.0.now c.plain_run.result.1.now _ c.runs.invariant.so_far c.plain_run.ensures.run c.plain_run.ensures.rest c.in_ok-push_str.ensures.bytes (sym c.begins.ensures ∙ c.if-begins.true))
 
 pub returns-in_default-clause-exact : goal.returns-in_default-clause-exact
