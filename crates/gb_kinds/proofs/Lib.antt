@@ -2,9 +2,6 @@ pub mod ByFileAnswers
 pub mod CarriedFound
 pub mod CarriedLaw
 pub mod CarriedLines
-pub mod Differing
-pub mod AnewAnswers
-pub mod ByPath
 pub mod FileLaw
 pub mod Filtered
 pub mod Carrying

@@ -8,7 +8,7 @@ use Rattle.std.specs.FinMap.Entries.{is_sorted}
 use Rattle.gb_core.specs.Lists.{byte_order}
 use Rattle.gb_action.specs.Files.{Tree, Trees, file_at, tree_at}
 use Rattle.gb_action.specs.Meanings.{Making}
-use Rattle.gb_action.specs.Outputs.{written_at, stands_at, is_removed, names_only}
+use Rattle.gb_action.specs.Outputs.{written_at, stands_at, left_at, is_named, is_removed, names_only}
 use Rattle.gb_action.specs.Replies.{Answers, CarriesOver, FollowsOn, made_for}
 use Rattle.gb_action.specs.Shapes.{source, target}
 use Rattle.gb_action.specs.declared.output.OutputFiles.{OutputFiles}
@@ -19,19 +19,12 @@ use Rattle.gb_kinds.specs.Builtin.{prints_changes}
 use Rattle.gb_kinds.specs.ByFile.{file_of, holds, where_new}
 use Rattle.gb_kinds.specs.Remade.{as_made, outdated, renewed, standing, IsRemade}
 use Rattle.gb_kinds.proofs.ByFileAnswers.{all_declared, both, removed_there, same_ok, written_there, is_output}
-use Rattle.gb_kinds.specs.Own.{are_own, moved, own_by_file}
-use Rattle.gb_kinds.proofs.Differing.{NamesDifferences, carries_over}
 use Rattle.gb_kinds.proofs.FileLaw.{itself}
-use Rattle.gb_kinds.proofs.RemadeLaw.{gone, new_at, stood_at, wrote}
+use Rattle.gb_kinds.proofs.RemadeLaw.{gone, leaves, names_differences, new_at, stood_at, wrote}
 use Rattle.gb_kinds.proofs.Writing.{written_at-by_file}
 
-pub true_T : (b : Bool) → IsTrue b → T b
+true_T : (b : Bool) → IsTrue b → T b
 true_T b e = subst T (sym e) tt
-
--- the path is one of these, whichever is compared with which
-pub flipped : (path : List ℕ) (paths : List (List ℕ)) → list_any (λ (p : List ℕ). bytes_eq p path) paths ≡ list_any (bytes_eq path) paths
-flipped path [] = refl
-flipped path (p ∷ paths) = ap (λ b. b || list_any (λ (q : List ℕ). bytes_eq q path) paths) (nat_list_eq_equiv.symm p path) ∙ ap (λ b. bytes_eq path p || b) (flipped path paths)
 
 -- ---- The outputs that are named
 
@@ -43,13 +36,13 @@ module _ (outputs : List OutputFiles) (declared : list_any (λ (output : OutputF
         | false ↦ both outputs declared (is_output outputs declared target) true declared refl
       ]
 
-  pub renewed_there : (made : Tree) → written_there outputs declared (renewed outputs made) ≡ true
+  renewed_there : (made : Tree) → written_there outputs declared (renewed outputs made) ≡ true
   renewed_there [] = refl
   renewed_there (file ∷ made) =
       list_all-append (λ (written : Written). is_output outputs declared written.output) (where_new file.0 (stands_at outputs target file.0) file.1) (renewed outputs made)
       ∙ both outputs declared _ _ (one_there file.0 (stands_at outputs target file.0) file.1) (renewed_there made)
 
-  pub outdated_there : (made : Tree) (paths : List (List ℕ)) → removed_there outputs declared (outdated outputs made paths) ≡ true
+  outdated_there : (made : Tree) (paths : List (List ℕ)) → removed_there outputs declared (outdated outputs made paths) ≡ true
   outdated_there made [] = refl
   outdated_there made (path ∷ paths) = by (stale path) (outdated_there made paths)
     where
@@ -85,12 +78,16 @@ module _ (outputs : List OutputFiles) (made : Tree) (looked_at : List (List ℕ)
   not_gone true = refl
   not_gone false = refl
 
+  flipped : (paths : List (List ℕ)) → list_any (λ (p : List ℕ). bytes_eq p path) paths ≡ list_any (bytes_eq path) paths
+  flipped [] = refl
+  flipped (p ∷ paths) = ap (λ b. b || list_any (λ (q : List ℕ). bytes_eq q path) paths) (nat_list_eq_equiv.symm p path) ∙ ap (λ b. bytes_eq path p || b) (flipped paths)
+
   right_gone : IsRightAt outputs made looked_at now path
       → (list_any (λ (p : List ℕ). bytes_eq p path) looked_at && (is_some stood_there && not (is_some (file_at made path)))) ≡ (is_some stood_there && not (is_some (file_at now path)))
   right_gone (inl (there, same)) =
-      ap (λ b. b && (is_some stood_there && not (is_some (file_at made path)))) (flipped path looked_at ∙ there) ∙ ap (λ o. is_some stood_there && not (is_some o)) same
+      ap (λ b. b && (is_some stood_there && not (is_some (file_at made path)))) (flipped looked_at ∙ there) ∙ ap (λ o. is_some stood_there && not (is_some o)) same
   right_gone (inr (apart, none, same)) =
-      ap (λ b. b && (is_some stood_there && not (is_some (file_at made path)))) (flipped path looked_at ∙ apart)
+      ap (λ b. b && (is_some stood_there && not (is_some (file_at made path)))) (flipped looked_at ∙ apart)
       ∙ sym (ap (λ o. is_some stood_there && not (is_some o)) (sym (stood_at outputs target path ∙ same)) ∙ not_gone (is_some stood_there))
 
 -- ---- Answers
@@ -113,23 +110,56 @@ module _ (make : Tree → Tree) (sorted : (tree : Tree) → IsTrue (is_sorted by
         same None = refl
         same (Some x) = refl
 
-    names : request.changes.incremental ≡ true → (old : Trees) → FollowsOn makes request old → NamesDifferences request reply (file_at now)
-    names changed old follows = record {
-      writes = λ output path.
+    module _ (changed : request.changes.incremental ≡ true) (old : Trees) (follows : FollowsOn makes request old) (after : List Written) (makes_after : made_for makes request ≡ Ok after) (output path : List ℕ) where
+      at : IsRightAt request.outputs remade looked_at now path
+      at = right changed old follows path
+
+      abbrev stood : Option (List ℕ)
+      stood = stands_at request.outputs target path
+
+      same : bytes_eq target output ≡ true → stands_at request.outputs output path ≡ stood
+      same e = ap (λ name. stands_at request.outputs name path) (sym ((bytes_decides target output).0 e))
+
+      alone : bytes_eq target output ≡ false → stands_at request.outputs output path ≡ None
+      alone e =
+          follows.stands output path
+          ∙ ap (λ files. written_at files output path) (sym (same_ok follows.was_made))
+          ∙ made_at (tree_at old source) output path
+          ∙ ap (λ b. if b then file_at (make (tree_at old source)) path else None) e
+
+      written : written_at reply.writes output path ≡ (if bytes_eq target output then new_at stood (file_at now path) else None)
+      written =
           ap (λ writes. written_at writes output path) (is_remade.writes changed)
           ∙ wrote request.outputs output path remade (true_T _ (in_order changed))
-          ∙ ap (λ o. if bytes_eq target output then o else None) (right_new request.outputs remade looked_at now path (right changed old follows path));
-      removes = λ output path.
+          ∙ ap (λ o. if bytes_eq target output then o else None) (right_new request.outputs remade looked_at now path at)
+
+      removed : is_removed reply.removes output path ≡ (bytes_eq target output && (is_some stood && not (is_some (file_at now path))))
+      removed =
           ap (λ removes. is_removed removes output path) (is_remade.removes changed)
           ∙ gone request.outputs output path remade looked_at
-          ∙ ap (λ b. bytes_eq target output && b) (right_gone request.outputs remade looked_at now path (right changed old follows path));
+          ∙ ap (λ b. bytes_eq target output && b) (right_gone request.outputs remade looked_at now path at)
+
+      after_is : (if bytes_eq target output then file_at now path else None) ≡ written_at after output path
+      after_is = sym (made_at (tree_at request.files source) output path) ∙ ap (λ files. written_at files output path) (same_ok makes_after)
+
+      carried : left_at reply request.outputs output path ≡ written_at after output path
+      carried =
+          ap (λ w. option_or w (if is_removed reply.removes output path then None else stands_at request.outputs output path)) written
+          ∙ ap (λ b. option_or (if bytes_eq target output then new_at stood (file_at now path) else None) (if b then None else stands_at request.outputs output path)) removed
+          ∙ leaves (bytes_eq target output) stood (stands_at request.outputs output path) (file_at now path) same alone
+          ∙ after_is
+
+      frugal : is_named reply output path ≡ true → stands_at request.outputs output path ≡ written_at after output path → ⊥
+      frugal named equal =
+          names_differences (bytes_eq target output) stood (stands_at request.outputs output path) (file_at now path) same alone
+          (subst (λ b. (is_some (if bytes_eq target output then new_at stood (file_at now path) else None) || b) ≡ true) removed (subst (λ w. (is_some w || is_removed reply.removes output path) ≡ true) written named))
+          (equal ∙ sym after_is)
+
+    carries_over : request.changes.incremental ≡ true → CarriesOver makes request reply
+    carries_over changed = record {
+      carried = λ old follows after makes_after output path. carried changed old follows after makes_after output path;
+      frugal = λ old follows after makes_after output path named equal. frugal changed old follows after makes_after output path named equal;
     }
-
-    makes_own : (trees : Trees) (written : List Written) → makes request.args request.values trees ≡ Ok written → are_own true written ≡ true
-    makes_own trees written made = moved true _ written made (own_by_file (λ bytes. bytes) (make (tree_at trees source)))
-
-    makes_now : (after : List Written) → made_for makes request ≡ Ok after → (path : List ℕ) → written_at after target path ≡ file_at now path
-    makes_now after makes_after path = ap (λ files. written_at files target path) (sym (same_ok makes_after)) ∙ made_at (tree_at request.files source) target path
 
     named : list_any (λ (output : OutputFiles). bytes_eq output.name target) request.outputs ≡ true → names_only request.outputs reply ≡ true
     named declared = by request.changes.incremental refl
@@ -149,7 +179,7 @@ module _ (make : Tree → Tree) (sorted : (tree : Tree) → IsTrue (is_sorted by
       succeeds = λ r e. refl;
       removes_nothing = λ r e full. ap (λ x. x.removes) (sym (same_ok e)) ∙ is_remade.keeps full;
       in_full = λ r e full. ap Ok (ap as_made (sym (made_in_full full)) ∙ sym (is_remade.in_full full) ∙ ap (λ x. x.writes) (same_ok e));
-      by_changes = λ r e changed. subst (CarriesOver makes request) (same_ok e) (carries_over makes request reply (file_at now) makes_own makes_now (names changed));
+      by_changes = λ r e changed. subst (CarriesOver makes request) (same_ok e) (carries_over changed);
       declared = λ r e. subst (λ x. names_only request.outputs x ≡ true) (same_ok e) (named declared);
       prints_lines = λ r e. ap (λ x. x.lines) (sym (same_ok e)) ∙ is_remade.lines;
       failed = λ text e. absurd cc;

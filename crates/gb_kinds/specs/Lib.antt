@@ -8,4 +8,3 @@ pub mod Functions
 pub mod ReplyProps
 pub mod FunctionNames
 pub mod Own
-pub mod Anew

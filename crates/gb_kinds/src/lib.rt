@@ -7,7 +7,6 @@
 //! The functions of values, of which properties and providers are made, have the same form.
 #![tactic(auto)]
 
-pub mod anew;
 pub mod arguments;
 pub mod builtin;
 pub mod by_file;

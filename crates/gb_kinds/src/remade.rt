@@ -66,7 +66,7 @@ fn as_made(alloc: Global, made: Index) -> Result<Writes, AllocError>
 }
 
 /// What does not stand so already.
-pub fn renewed(alloc: Global, request: &Request, made: Index) -> Result<Writes, AllocError>
+fn renewed(alloc: Global, request: &Request, made: Index) -> Result<Writes, AllocError>
     ensures { IfOk result (λ writes. writes ≡ renewed request.now.outputs (index_files made)) }
 {
     let output = output_name(alloc)?;
@@ -85,7 +85,7 @@ pub fn renewed(alloc: Global, request: &Request, made: Index) -> Result<Writes, 
 }
 
 /// What stands at one of the paths and is made no more.
-pub fn outdated(
+fn outdated(
     alloc: Global,
     request: &Request,
     made: &Index,

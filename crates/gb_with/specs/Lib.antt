@@ -5,3 +5,4 @@ pub mod FileKinds
 pub mod Functions
 pub mod TreeKinds
 pub mod Renamed
+pub mod Anew

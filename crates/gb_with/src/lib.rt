@@ -8,6 +8,7 @@
 //! kinds of all.
 #![tactic(auto)]
 
+pub mod anew;
 pub mod beside;
 pub mod both;
 pub mod by_file;

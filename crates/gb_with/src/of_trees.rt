@@ -7,13 +7,13 @@ ghost use Rattle.gb_kinds.specs.Builtin.{of_files};
 ghost use Rattle.gb_with.specs.TreeKinds.{of_checks, nothing, makes_of_trees, makes_nothing, prints_nothing};
 ghost use Rattle.gb_with.specs.TreeKinds.{of_trees-own, nothing_made-own};
 
+use crate::anew::reply_anew;
 use crate::stored::{Call, OwnAction};
 use crate::tree_kind::{CheckKind, TreeKind};
 use gb_action::actions::Actions;
 use gb_action::reply::{ActionFault, Lines, Removals, Reply, Writes};
 use gb_action::request::Request;
 use gb_action::shape::{ArgList, Shape};
-use gb_kinds::anew::reply_anew;
 use gb_kinds::shapes::of_files;
 use std::alloc::{AllocError, Global};
 use std::marker::PhantomData;

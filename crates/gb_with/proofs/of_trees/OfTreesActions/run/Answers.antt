@@ -2,7 +2,7 @@ use Rattle.std.proofs.Common.{refl, ap}
 use Rattle.gb_action.specs.declared.output.Form.TheVariants.{Dir}
 use Rattle.gb_action.proofs.Asked.{declares_target}
 use Rattle.gb_kinds.specs.Builtin.{of_files}
-use Rattle.gb_kinds.proofs.AnewAnswers.{anew-answers}
+use Rattle.gb_with.proofs.AnewAnswers.{anew-answers}
 use Rattle.gb_with.specs.TreeKinds.{makes_of_trees, of_trees-own, prints_nothing, written_or}
 use Rattle.gb_with.proofs.of_trees.OfTreesActions.run.Goals as goal
 
