@@ -41,7 +41,7 @@ inputFiles layout from file(\"layout.html\") outputDir out = dir(\"build/t\") }"
     ),
     Step::Run(
         "t",
-        1,
+        0,
         "> Task :t FAILED\nFAILED :t: 42 layout.html: no {{text}}\nBUILD FAILED\n\
 1 actionable task: 1 executed\n",
     ),

@@ -27,7 +27,7 @@ const MET: [Step<'static>; 4] = [
     Step::Put("pages/d/b.md", b"# B\n"),
     Step::Run(
         "pages",
-        1,
+        0,
         "> Task :pages FAILED\nFAILED :pages: 42 d/b.markdown and d/b.md: both at d/b.html\nBUILD FAILED\n\
 1 actionable task: 1 executed\n",
     ),
@@ -40,7 +40,7 @@ const OTHERS: [Step<'static>; 6] = [
     Step::Put("pages/notes.txt", b"N\n"),
     Step::Run(
         "pages",
-        1,
+        0,
         "> Task :pages FAILED\nFAILED :pages: 42 notes.txt: no path of its own\nBUILD FAILED\n\
 1 actionable task: 1 executed\n",
     ),

@@ -133,7 +133,8 @@ fn a_layout_is_laid_out_in_full(rt: HostRuntime) -> Result<(), Fail> {
         &tables,
         &LAID_OUT,
         &AFTER_LAYOUT,
-        "put build/laid-out/a.html\nput build/laid-out/b.html\nput build/laid-out/c.html\n",
+        "del build/laid-out/a.html\ndel build/laid-out/b.html\ndel build/laid-out/c.html\n\
+put build/laid-out/a.html\nput build/laid-out/b.html\nput build/laid-out/c.html\n",
     )?;
     Ok(())
 }
