@@ -1,8 +1,8 @@
 //! Files that are made of files, at paths of their own.
-ghost use Rattle.std.specs.Prelude.{◌≡◌, None, Ok, MatchResult};
+ghost use Rattle.std.specs.Prelude.{◌≡◌, ◌++◌, ◌∷◌, [], None, Ok, MatchResult, OnOk};
 ghost use Rattle.std.specs.BTreeMap.{get};
 ghost use Rattle.gb_core.specs.Lists.{byte_order};
-ghost use Rattle.gb_with.specs.Renamed.{all_renamed, new_path};
+ghost use Rattle.gb_with.specs.Renamed.{all_renamed, new_path, taking};
 ghost use Rattle.gb_with.specs.TreeKinds.{IsFailure};
 
 use crate::file_kind::Renaming;
@@ -61,10 +61,27 @@ fn all_renamed<K: Renaming>(
     let mut made = Vec::new(alloc);
     for (path, bytes) in files {
         let new = new_path::<K>(alloc, &taken, path)?;
-        taken.insert(new.copy()?, path.copy()?)?;
-        made.push((new, maker.apply(alloc, bytes.as_slice())?))?;
+        let edited = maker.apply(alloc, bytes.as_slice())?;
+        put(&mut taken, &mut made, new, edited, path)?;
     }
     Ok(made)
+}
+
+/// Puts a file with these bytes at a new path, which is made of the one at another path.
+fn put(
+    taken: &mut Taken,
+    made: &mut Made,
+    new: RelPath,
+    bytes: Bytes,
+    path: &RelPath,
+) -> Result<(), AllocError>
+    ensures taken { OnOk result ((other : _)
+        → get byte_order taken.new other ≡ taking (get byte_order taken.old) new path.now other) }
+    ensures made { OnOk result (made.new.items ≡ made.old.items ++ (new, bytes) ∷ []) }
+{
+    taken.insert(new.copy()?, path.copy()?)?;
+    made.push((new, bytes))?;
+    Ok(())
 }
 
 /// The path of the file that is made of the one at a path: one at which none is made yet.

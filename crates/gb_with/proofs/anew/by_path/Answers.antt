@@ -12,7 +12,7 @@ loop-path-preserved-in_ok-insert c = record {
   ordered = ordered c.insert.new.self.entries c.in_ok-insert.ensures.ordered;
   files = λ path.
       put_one c.loop-path.made.entries c.insert.new.self.entries c.in-Some.path c.in-Some.bytes c.next.new.self.rest.items path (c.in_ok-insert.ensures.updates.0 path)
-      ∙ ap (λ files. option_or (written_at (as_made files) target path) (file_at c.loop-path.made.entries path)) (sym c.in-Some.ensures.steps)
+      ∙ ap (λ files. option_or (written_at (as_made files) target path) (file_at c.loop-path.made.entries path)) (sym c.in-Some.ensures.steps.0)
       ∙ c.loop-path.invariant.files path;
 }
 
@@ -21,6 +21,6 @@ loop-path-preserved c = record {
   ordered = ordered c.insert.new.self.entries c.in_ok-insert.ensures.ordered;
   files = λ path.
       put_one c.loop-path.made.entries c.insert.new.self.entries c.in-Some.path c.in-Some.bytes c.next.new.self.rest.items path (c.in_ok-insert.ensures.updates.0 path)
-      ∙ ap (λ files. option_or (written_at (as_made files) target path) (file_at c.loop-path.made.entries path)) (sym c.in-Some.ensures.steps)
+      ∙ ap (λ files. option_or (written_at (as_made files) target path) (file_at c.loop-path.made.entries path)) (sym c.in-Some.ensures.steps.0)
       ∙ c.loop-path.invariant.files path;
 }
