@@ -26,7 +26,8 @@ pub type Pages = Both<
 
 /// The table of all kinds of pages, each in its first version.
 pub fn page_actions(alloc: Global) -> Result<ActionTable<<Pages as Actions>::Stored>, TableFault>
-    ensures { IfOk result (λ table. table ≡ (codes "markdown", First 1) ∷ (codes "htmlPages", Second (First 1))
+    ensures { IfOk result (λ table. table ≡ (codes "markdown", First 1)
+        ∷ (codes "htmlPages", Second (First 1))
         ∷ (codes "template", Second (Second (First 1)))
         ∷ (codes "index", Second (Second (Second (First 1))))
         ∷ (codes "checkPages", Second (Second (Second (Second 1)))) ∷ []) }

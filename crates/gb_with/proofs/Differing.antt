@@ -12,7 +12,6 @@ use Rattle.gb_action.specs.declared.reply.Written.{Written}
 use Rattle.gb_action.specs.declared.request.Request.{Request}
 use Rattle.gb_kinds.specs.Own.{are_own}
 use Rattle.gb_kinds.proofs.RemadeLaw.{leaves, names_differences, new_at}
-use Rattle.gb_kinds.proofs.Writing.{or_none}
 
 both_true : (a b c : Bool) → ((a && b) && c) ≡ true → (a ≡ true) × (c ≡ true)
 both_true true true c e = (refl, e)

@@ -35,7 +35,8 @@ abbrev pub taking : Taken → List ℕ → List ℕ → Taken
 taking taken new path other = if bytes_eq new other then Some path else taken other
 
 -- a file with these bytes at a path, in front of what is made then
-abbrev pub made_at : List ℕ → Result (List ℕ) (List ℕ) → (List ℕ → Result Tree (List ℕ)) → Result Tree (List ℕ)
+abbrev pub made_at : List ℕ → Result (List ℕ) (List ℕ) → (List ℕ → Result Tree (List ℕ))
+    → Result Tree (List ℕ)
 made_at bytes (Err text) others = Err text
 made_at bytes (Ok new) others = onto (Ok (new, bytes)) (others new)
 

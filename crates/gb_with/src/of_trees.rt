@@ -18,8 +18,8 @@ use gb_kinds::shapes::of_files;
 use std::alloc::{AllocError, Global};
 use std::marker::PhantomData;
 
-/// The one kind that makes files of all files as `K` does. Asked for changes it writes those that do not stand
-/// so already, and removes what it makes no more.
+/// The one kind that makes files of all files as `K` does. Asked for changes it writes those that do not
+/// stand so already, and removes what it makes no more.
 #[derive(Drop)]
 pub struct OfTrees<K>(PhantomData<K>);
 

@@ -19,8 +19,8 @@ use std::alloc::{AllocError, Global};
 use std::collections::BTreeMap;
 use std::marker::PhantomData;
 
-/// The kind of whole trees that makes a file of each file of `src` as `K` does, at the path that `K` gives it.
-/// It fails where a file has no path, and where two files have one.
+/// The kind of whole trees that makes a file of each file of `src` as `K` does, at the path that `K` gives
+/// it. It fails where a file has no path, and where two files have one.
 #[derive(Drop)]
 pub struct Renamed<K>(PhantomData<K>);
 

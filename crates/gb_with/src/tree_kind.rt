@@ -13,8 +13,8 @@ use gb_core::text::Text;
 use std::alloc::{AllocError, Global};
 
 /// A kind that makes files beneath `out` of all files that its task has, or fails. It reads `src`, and other
-/// properties of the task by their names. Where anything changed it makes all of them; where the properties that
-/// changed are incremental, those alone are written that do not stand so already.
+/// properties of the task by their names. Where anything changed it makes all of them; where the properties
+/// that changed are incremental, those alone are written that do not stand so already.
 pub trait TreeKind: Drop {
     ghost use Rattle.std.specs.Prelude.{◌≡◌, ℕ, List, Result, true, Ok, IfOk, MatchResult};
     ghost use Rattle.gb_core.specs.declared.value.Value.{Value};
