@@ -26,13 +26,13 @@ register html : markdown {
     inputFiles src incremental from dir("pages")
     outputDir out = buildDir.map(child("html"))
 }
-register laidOut : template("page") {
-    inputFiles src from task("html").flatMap(output("out"))
+register laidOut : template {
+    inputFiles src incremental from task("html").flatMap(output("out"))
     inputFiles layout from file("layout.html")
     outputDir out = buildDir.map(child("laid-out"))
 }
 register all : index("All pages") {
-    inputFiles src from dir("pages")
+    inputFiles src incremental from dir("pages")
     outputDir out = buildDir.map(child("all"))
 }
 register site : copyFiles {

@@ -2,6 +2,7 @@
 use Rattle.std.specs.Prelude.{ℕ, ◌-◌, ◌&&◌, Bool, List, [], ◌∷◌, ◌++◌, if◌then◌else◌, codes, bytes_eq, length}
 use Rattle.std.specs.Prelude.{take, drop, Option, None, Some, Result, Ok, Err, is_some}
 use Rattle.std.specs.List.{flat_map}
+use Rattle.std.specs.Option.{option_or}
 use Rattle.std.specs.Str.{is_utf8}
 use Rattle.memchr.specs.Find.{first_of, matches}
 use Rattle.bstr.specs.Text.{replaced_at}
@@ -10,6 +11,7 @@ use Rattle.gb_core.specs.declared.value.Value.{Value}
 use Rattle.gb_action.specs.Files.{Tree, Trees, tree_at}
 use Rattle.gb_action.specs.Shapes.{source}
 use Rattle.gb_kinds.specs.Builtin.{first_text}
+use Rattle.gb_with.specs.Renamed.{onto}
 use Rattle.gb_pages.specs.Pieces.{Piece, Open, Close, Link, Text, written}
 use Rattle.gb_pages.specs.declared.page.Element.TheVariants as elements
 
@@ -17,15 +19,28 @@ use Rattle.gb_pages.specs.declared.page.Element.TheVariants as elements
 abbrev pub as_path : List ℕ → Option (List ℕ)
 as_path text = if is_utf8 text && is_rel_path text then Some text else None
 
+-- what stands before an ending
+abbrev pub before : List ℕ → List ℕ → Option (List ℕ)
+before ending path =
+    if bytes_eq (drop (length path - length ending) path) ending
+    then Some (take (length path - length ending) path) else None
+
 -- what stands before `.md`
 abbrev pub stem : List ℕ → Option (List ℕ)
-stem path =
-    if bytes_eq (drop (length path - 3) path) (codes ".md") then Some (take (length path - 3) path) else None
+stem path = before (codes ".md") path
+
+-- the same, or what stands before `.markdown`
+abbrev pub front : List ℕ → Option (List ℕ)
+front path = option_or (stem path) (before (codes ".markdown") path)
 
 -- the path of the page of a text: `.html` stands in place of `.md`
 abbrev pub page_path : Option (List ℕ) → Option (List ℕ)
 page_path None = None
-page_path (Some front) = as_path (front ++ codes ".html")
+page_path (Some text) = as_path (text ++ codes ".html")
+
+-- where the page of a text stands by itself
+abbrev pub html_path : List ℕ → Option (List ℕ)
+html_path path = page_path (front path)
 
 -- ---- Pages in a layout
 
@@ -45,20 +60,10 @@ abbrev pub page_at : List ℕ → List ℕ → List ℕ × List ℕ → Option (
 page_at sign layout file None = Err (file.0 ++ codes ": no path of a page")
 page_at sign layout file (Some path) = Ok (path, filled sign layout file.1)
 
-abbrev pub onto : Result (List ℕ × List ℕ) (List ℕ) → Result Tree (List ℕ) → Result Tree (List ℕ)
-onto (Err text) others = Err text
-onto (Ok page) (Err text) = Err text
-onto (Ok page) (Ok pages) = Ok (page ∷ pages)
-
 abbrev pub all_pages : List ℕ → List ℕ → Tree → Result Tree (List ℕ)
 all_pages sign layout [] = Ok []
 all_pages sign layout (file ∷ files) =
     onto (page_at sign layout file (page_path (stem file.0))) (all_pages sign layout files)
-
--- pages behind those that are made
-abbrev pub behind : Tree → Result Tree (List ℕ) → Result Tree (List ℕ)
-behind made (Err text) = Err text
-behind made (Ok pages) = Ok (made ++ pages)
 
 -- the pages of all files in a layout that has a token
 abbrev pub in_layout : List ℕ → Tree → List ℕ → List ℕ → Result Tree (List ℕ)
@@ -74,18 +79,23 @@ abbrev pub laid_out : List ℕ → Tree → Tree → Result Tree (List ℕ)
 laid_out name files [] = Err (codes "no layout")
 laid_out name files (layout ∷ others) = unless_more others (in_layout (token name) files layout.0 layout.1)
 
+-- the name of the token: the argument, or `page` where it is left out
+abbrev pub token_name : List Value → List ℕ
+token_name [] = codes "page"
+token_name (argument ∷ others) = first_text (argument ∷ others)
+
 abbrev pub templated : List Value → Trees → Result Tree (List ℕ)
 templated arguments trees =
-    laid_out (first_text arguments) (tree_at trees source) (tree_at trees (codes "layout"))
+    laid_out (token_name arguments) (tree_at trees source) (tree_at trees (codes "layout"))
 
 -- ---- The page that links all pages
 
 abbrev pub entry : Option (List ℕ) → Option (List ℕ) → List Piece
-entry (Some front) (Some path) =
-    Open elements.Item ∷ Link path ∷ Text front ∷ Close elements.Anchor ∷ Close elements.Item
+entry (Some text) (Some path) =
+    Open elements.Item ∷ Link path ∷ Text text ∷ Close elements.Anchor ∷ Close elements.Item
     ∷ Text (10 ∷ []) ∷ []
 entry None path = []
-entry (Some front) None = []
+entry (Some text) None = []
 
 abbrev pub entries : Tree → List Piece
 entries files = flat_map (λ file. entry (stem file.0) (page_path (stem file.0))) files

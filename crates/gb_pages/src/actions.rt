@@ -12,27 +12,38 @@ use gb_with::beside::{beside, only};
 use gb_with::both::Both;
 use gb_with::by_file::ByFile;
 use gb_with::of_trees::{Checks, OfTrees};
+use gb_with::renamed::Renamed;
 use std::alloc::Global;
 
 /// All kinds of pages.
 pub type Pages = Both<
     ByFile<Markdown>,
-    Both<OfTrees<Template>, Both<OfTrees<Index>, Checks<CheckPages>>>,
+    Both<
+        OfTrees<Renamed<Markdown>>,
+        Both<OfTrees<Template>, Both<OfTrees<Index>, Checks<CheckPages>>>,
+    >,
 >;
 
 /// The table of all kinds of pages, each in its first version.
 pub fn page_actions(alloc: Global) -> Result<ActionTable<<Pages as Actions>::Stored>, TableFault>
-    ensures { IfOk result (λ table. table ≡ (codes "markdown", First 1) ∷ (codes "template", Second (First 1))
-        ∷ (codes "index", Second (Second (First 1)))
-        ∷ (codes "checkPages", Second (Second (Second 1))) ∷ []) }
+    ensures { IfOk result (λ table. table ≡ (codes "markdown", First 1)
+        ∷ (codes "htmlPages", Second (First 1))
+        ∷ (codes "template", Second (Second (First 1)))
+        ∷ (codes "index", Second (Second (Second (First 1))))
+        ∷ (codes "checkPages", Second (Second (Second (Second 1)))) ∷ []) }
 {
     let markdown = only::<ByFile<Markdown>>(alloc, "markdown", 1)?;
+    let pages = only::<OfTrees<Renamed<Markdown>>>(alloc, "htmlPages", 1)?;
     let template = only::<OfTrees<Template>>(alloc, "template", 1)?;
     let index = only::<OfTrees<Index>>(alloc, "index", 1)?;
     let check = only::<Checks<CheckPages>>(alloc, "checkPages", 1)?;
     beside(
         alloc,
         markdown,
-        beside(alloc, template, beside(alloc, index, check)?)?,
+        beside(
+            alloc,
+            pages,
+            beside(alloc, template, beside(alloc, index, check)?)?,
+        )?,
     )
 }

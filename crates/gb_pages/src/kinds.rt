@@ -1,14 +1,17 @@
 //! The kinds of actions that make pages.
 
 use crate::markdown::html;
+use crate::paths::{front, page_path};
 use gb_action::shape::ArgList;
 use gb_action::values::Arguments;
 use gb_core::bytes::Bytes;
+use gb_core::place::RelPath;
 use gb_kinds::edit::FileMaker;
-use gb_with::file_kind::FileKind;
+use gb_with::file_kind::{FileKind, Renaming};
 use std::alloc::{AllocError, Global};
 
-/// The kind `markdown`, without arguments: the page of each text.
+/// The kind `markdown`, without arguments: the page of each text, at the same path; and the kind
+/// `htmlPages`, at the path with `.html` in place of `.md` or `.markdown`.
 #[derive(Drop)]
 pub struct Markdown;
 
@@ -36,5 +39,15 @@ impl FileKind for Markdown {
 
     fn of_call(_alloc: Global, _arguments: &Arguments) -> Result<Markdown, AllocError> {
         Ok(Markdown)
+    }
+}
+
+impl Renaming for Markdown {
+    ghost use Rattle.gb_pages.specs.Paths.{html_path};
+
+    ghost renamed = { html_path };
+
+    fn renamed(alloc: Global, path: &RelPath) -> Result<Option<RelPath>, AllocError> {
+        page_path(alloc, front(path.as_str().as_bytes()))
     }
 }

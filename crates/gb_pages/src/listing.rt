@@ -6,7 +6,6 @@ ghost use Rattle.gb_pages.specs.Pieces.{written};
 
 use crate::page::{Element, close, link, open, text};
 use crate::paths::{page_path, stem};
-use crate::template::files_of;
 use gb_action::reply::ActionFault;
 use gb_action::shape::{Arg, ArgList};
 use gb_action::snapshot::Snapshots;
@@ -15,7 +14,7 @@ use gb_core::bytes::Bytes;
 use gb_core::place::RelPath;
 use gb_kinds::arguments::first_text;
 use gb_kinds::names::{rel_path, source_name};
-use gb_with::tree_kind::TreeKind;
+use gb_with::tree_kind::{TreeKind, files_of};
 use std::alloc::{AllocError, Global};
 
 /// The kind `index(TITLE)`: a page `index.html` with a link to the page of each text of `src`.

@@ -1,7 +1,7 @@
 //! Where pages stand.
 ghost use Rattle.std.specs.Prelude.{◌≡◌, IfOk};
 ghost use Rattle.std.specs.Option.{option_copied};
-ghost use Rattle.gb_pages.specs.Paths.{as_path, stem, page_path};
+ghost use Rattle.gb_pages.specs.Paths.{as_path, front, stem, page_path};
 
 use gb_core::place::{PlaceFault, RelPath};
 use std::alloc::{AllocError, Global};
@@ -12,6 +12,16 @@ pub(crate) fn stem(path: &[u8]) -> Option<&[u8]>
     ensures { option_copied result ≡ stem path.now }
 {
     path.strip_suffix(b".md")
+}
+
+/// The same, or what stands before `.markdown`.
+pub(crate) fn front(path: &[u8]) -> Option<&[u8]>
+    ensures { option_copied result ≡ front path.now }
+{
+    match stem(path) {
+        Some(text) => Some(text),
+        None => path.strip_suffix(b".markdown"),
+    }
 }
 
 /// The path of the page of a text, by what stands before `.md` in the path of that.

@@ -1,8 +1,8 @@
 //! Pages in a layout: the kind `template`.
 ghost use Rattle.std.specs.Prelude.{◌≡◌, ◌++◌, ℕ, List, Result, Ok, Err, codes, string_bytes, IfOk};
 ghost use Rattle.std.specs.Prelude.{MatchResult};
-ghost use Rattle.gb_action.specs.Files.{Tree, tree_at};
-ghost use Rattle.gb_pages.specs.Paths.{token, has_token, in_layout, all_pages, laid_out};
+ghost use Rattle.gb_action.specs.Files.{Tree};
+ghost use Rattle.gb_pages.specs.Paths.{token, token_name, has_token, in_layout, all_pages, laid_out};
 ghost use Rattle.gb_with.specs.TreeKinds.{IsFailure};
 
 use crate::paths::{page_path, stem};
@@ -17,11 +17,11 @@ use gb_core::place::RelPath;
 use gb_core::text::Text;
 use gb_kinds::arguments::first_text;
 use gb_kinds::names::source_name;
-use gb_with::tree_kind::TreeKind;
+use gb_with::tree_kind::{TreeKind, files_of};
 use std::alloc::{AllocError, Global};
 
 /// The kind `template(NAME)`: each page of `src`, with `.html` in place of `.md`, in place of each `{{NAME}}`
-/// of the one file of `layout`.
+/// of the one file of `layout`. `NAME` may be left out: it is `page` then.
 #[derive(Drop)]
 pub struct Template;
 
@@ -31,23 +31,23 @@ type Made = Vec<(RelPath, Bytes)>;
 impl TreeKind for Template {
     ghost use Rattle.std.specs.Prelude.{[], ◌∷◌};
     ghost use Rattle.gb_action.specs.declared.shape.Arg.TheVariants as args;
-    ghost use Rattle.gb_action.specs.declared.shape.Parameter.TheVariants.{Required};
+    ghost use Rattle.gb_action.specs.declared.shape.Parameter.TheVariants.{Optional};
     ghost use Rattle.gb_pages.specs.Paths.{templated};
 
-    ghost takes = { Required args.Line ∷ [] };
+    ghost takes = { Optional args.Line ∷ [] };
 
     ghost makes = { templated };
 
     fn takes(alloc: Global) -> Result<ArgList, AllocError> {
         let mut list = ArgList::new(alloc);
-        list.push(Arg::Line)?;
+        list.push_optional(Arg::Line)?;
         Ok(list)
     }
 
     fn make(alloc: Global, arguments: &Arguments, trees: &Snapshots) -> Result<Made, ActionFault> {
         let files = files_of(trees, &source_name(alloc)?);
         let layouts = files_of(trees, &layout_name(alloc)?);
-        laid_out(alloc, first_text(arguments), files, layouts)
+        laid_out(alloc, token_name(arguments), files, layouts)
     }
 }
 
@@ -58,13 +58,13 @@ fn layout_name(alloc: Global) -> Result<Name, AllocError>
     Name::read(alloc, "layout").map_err(|_| AllocError)
 }
 
-/// All files of a property.
-pub fn files_of<'a>(trees: &'a Snapshots, name: &Name) -> &'a [(RelPath, Bytes)]
-    ensures { result.now ≡ tree_at trees.now name.now }
+/// The name of the token: the argument, or `page` where it is left out.
+fn token_name(arguments: &Arguments) -> &str
+    ensures { result.now ≡ token_name arguments.now }
 {
-    match trees.get(name) {
-        Some(files) => files.as_slice(),
-        None => &[],
+    match arguments.as_slice().first() {
+        None => "page",
+        Some(_) => first_text(arguments),
     }
 }
 

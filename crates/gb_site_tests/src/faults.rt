@@ -3,6 +3,7 @@ use crate::offering::{Handed, Kinds, offered};
 use crate::sites::{FIRST, IDLE, written};
 use crate::steps::{Step, go_on};
 use gb_action::actions::Actions;
+use gb_folder::memory::MemoryFolder;
 use gb_kinds::builtin::Builtin;
 use gb_provider::transforms::Transforms;
 use std::alloc::Global;
@@ -82,7 +83,7 @@ fn are_told<A: Actions, T: Transforms>(
     steps: &[Step<'_>],
 ) -> Result<(), Fail> {
     let mut folder = written::<A, T>(alloc, tables)?;
-    go_on::<A, T>(alloc, &mut folder, tables, steps)
+    go_on::<A, T, MemoryFolder>(alloc, &mut folder, tables, steps)
 }
 
 #[test]

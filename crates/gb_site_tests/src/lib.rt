@@ -8,9 +8,15 @@ mod counting;
 #[cfg(test)]
 mod faults;
 #[cfg(test)]
+mod leaving_out;
+#[cfg(test)]
 mod names;
 #[cfg(test)]
 mod offering;
+#[cfg(test)]
+mod renaming;
+#[cfg(test)]
+mod rewritten;
 #[cfg(test)]
 mod sites;
 #[cfg(test)]

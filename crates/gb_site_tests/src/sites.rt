@@ -15,13 +15,13 @@ register html : markdown {
     inputFiles src incremental from dir(\"pages\")
     outputDir out = dir(\"build/html\")
 }
-register laidOut : template(\"page\") {
-    inputFiles src from task(\"html\").flatMap(output(\"out\"))
+register laidOut : template {
+    inputFiles src incremental from task(\"html\").flatMap(output(\"out\"))
     inputFiles layout from file(\"layout.html\")
     outputDir out = dir(\"build/laid-out\")
 }
 register all : index(\"All\") {
-    inputFiles src from dir(\"pages\")
+    inputFiles src incremental from dir(\"pages\")
     outputDir out = dir(\"build/all\")
 }
 register site : copyFiles {
@@ -82,7 +82,7 @@ pub fn written<A: Actions, T: Transforms>(
     tables: &Handed<A, T>,
 ) -> Result<MemoryFolder, Fail> {
     let mut folder = MemoryFolder::new(alloc);
-    go_on::<A, T>(alloc, &mut folder, tables, &PAGES)?;
+    go_on::<A, T, MemoryFolder>(alloc, &mut folder, tables, &PAGES)?;
     Ok(folder)
 }
 
@@ -92,7 +92,7 @@ fn is_first<A: Actions, T: Transforms>(
     folder: &mut MemoryFolder,
     tables: &Handed<A, T>,
 ) -> Result<(), Fail> {
-    go_on::<A, T>(alloc, folder, tables, &BUILDS)?;
+    go_on::<A, T, MemoryFolder>(alloc, folder, tables, &BUILDS)?;
     stands(
         alloc,
         folder,
@@ -113,14 +113,14 @@ fn follows<A: Actions, T: Transforms>(
     folder: &mut MemoryFolder,
     tables: &Handed<A, T>,
 ) -> Result<(), Fail> {
-    go_on::<A, T>(alloc, folder, tables, &EDIT)?;
+    go_on::<A, T, MemoryFolder>(alloc, folder, tables, &EDIT)?;
     stands(
         alloc,
         folder,
         "build/site/b.html",
         "<body><h1>B</h1>\n<p><em>new</em></p>\n</body>\n",
     )?;
-    go_on::<A, T>(alloc, folder, tables, &REMOVAL)?;
+    go_on::<A, T, MemoryFolder>(alloc, folder, tables, &REMOVAL)?;
     stand(
         alloc,
         folder,

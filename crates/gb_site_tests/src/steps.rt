@@ -24,21 +24,21 @@ pub enum Step<'a> {
 }
 
 /// Takes these steps, and fails at the first build that tells something else.
-pub fn go_on<A: Actions, T: Transforms>(
+pub fn go_on<A: Actions, T: Transforms, F: Folder>(
     alloc: Global,
-    folder: &mut MemoryFolder,
+    folder: &mut F,
     tables: &Handed<A, T>,
     steps: &[Step<'_>],
 ) -> Result<(), Fail> {
     for step in steps {
-        take::<A, T>(alloc, folder, tables, step)?;
+        take::<A, T, F>(alloc, folder, tables, step)?;
     }
     Ok(())
 }
 
-fn take<A: Actions, T: Transforms>(
+fn take<A: Actions, T: Transforms, F: Folder>(
     alloc: Global,
-    folder: &mut MemoryFolder,
+    folder: &mut F,
     tables: &Handed<A, T>,
     step: &Step<'_>,
 ) -> Result<(), Fail> {
@@ -52,36 +52,36 @@ fn take<A: Actions, T: Transforms>(
             Ok(folder.remove(&place)?)
         }
         Step::Run(words, executed, text) => {
-            build::<A, T>(alloc, folder, tables, words, *executed, text)
+            build::<A, T, F>(alloc, folder, tables, words, *executed, text)
         }
     }
 }
 
 /// Builds what the words ask for, beside one listener, and fails where something else is told.
-fn build<A: Actions, T: Transforms>(
+fn build<A: Actions, T: Transforms, F: Folder>(
     alloc: Global,
-    folder: &mut MemoryFolder,
+    folder: &mut F,
     tables: &Handed<A, T>,
     words: &str,
     executed: u64,
     text: &str,
 ) -> Result<(), Fail> {
     let mut listeners = vec![in alloc; Counting::new(alloc)]?;
-    let told = told_beside::<A, T>(alloc, folder, tables, words, &mut listeners)?;
+    let told = told_beside::<A, T, F>(alloc, folder, tables, words, &mut listeners)?;
     is_told(text, told.as_str())?;
     have_counted(executed, listeners.as_slice())
 }
 
 /// What is told of the words, while these listen.
-fn told_beside<A: Actions, T: Transforms>(
+fn told_beside<A: Actions, T: Transforms, F: Folder>(
     alloc: Global,
-    folder: &mut MemoryFolder,
+    folder: &mut F,
     tables: &Handed<A, T>,
     words: &str,
     listeners: &mut Vec<Counting>,
 ) -> Result<String, Fail> {
     let invocation = read(alloc, words_of(alloc, words)?)?;
-    let answer = invoke::<A, T, MemoryFolder, Counting, Silent>(
+    let answer = invoke::<A, T, F, Counting, Silent>(
         alloc,
         folder,
         tables,

@@ -55,8 +55,8 @@ fn each_other_version_runs_once_more(rt: HostRuntime) -> Result<(), Fail> {
     let mut folder = MemoryFolder::new(alloc);
     let first = offered(alloc, 1)?;
     let next = offered(alloc, 2)?;
-    go_on::<Kind, Builtin>(alloc, &mut folder, &first, &SITE)?;
-    go_on::<Kind, Builtin>(alloc, &mut folder, &first, &ONCE)?;
-    go_on::<Kind, Builtin>(alloc, &mut folder, &next, &ONCE)?;
-    go_on::<Kind, Builtin>(alloc, &mut folder, &first, &ONCE)
+    go_on::<Kind, Builtin, MemoryFolder>(alloc, &mut folder, &first, &SITE)?;
+    go_on::<Kind, Builtin, MemoryFolder>(alloc, &mut folder, &first, &ONCE)?;
+    go_on::<Kind, Builtin, MemoryFolder>(alloc, &mut folder, &next, &ONCE)?;
+    go_on::<Kind, Builtin, MemoryFolder>(alloc, &mut folder, &first, &ONCE)
 }

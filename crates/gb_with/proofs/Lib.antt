@@ -1,2 +1,6 @@
+pub mod AnewAnswers
+pub mod ByPath
+pub mod Differing
 pub mod Meant
+pub mod Renaming
 pub mod Shared

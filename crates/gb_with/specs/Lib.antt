@@ -4,3 +4,5 @@ pub mod Own
 pub mod FileKinds
 pub mod Functions
 pub mod TreeKinds
+pub mod Renamed
+pub mod Anew

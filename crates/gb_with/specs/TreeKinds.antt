@@ -3,15 +3,14 @@ use Rattle.std.specs.Prelude.{ℕ, ◌≡◌, true, false, List, [], Option, Non
 use Rattle.gb_core.specs.declared.value.Value.{Value}
 use Rattle.gb_action.specs.Files.{Tree, Trees}
 use Rattle.gb_action.specs.Meanings.{Making, Printing, Values}
-use Rattle.gb_action.specs.declared.output.Form.{Form}
 use Rattle.gb_action.specs.declared.reply.ActionFault.{ActionFault}
 use Rattle.gb_action.specs.declared.reply.ActionFault.TheVariants.{ActionFailed, OutOfMemory}
 use Rattle.gb_action.specs.declared.reply.Reply.{Reply}
 use Rattle.gb_action.specs.declared.reply.Written.{Written}
 use Rattle.gb_action.specs.declared.shape.Parameter.{Parameter}
 use Rattle.gb_action.specs.declared.shape.Shape.{Shape}
-use Rattle.gb_kinds.specs.ByFile.{by_file}
 use Rattle.gb_kinds.specs.Own.{are_own, moved, own_by_file}
+use Rattle.gb_kinds.specs.Remade.{as_made}
 use Rattle.std.proofs.Common.{refl}
 
 -- the failure is the one that is meant, unless it is want of memory
@@ -19,19 +18,16 @@ abbrev pub IsFailure : {A : Type 0} → ActionFault → Result A (List ℕ) → 
 IsFailure (ActionFailed text) meant = meant ≡ Err text
 IsFailure OutOfMemory meant = Unit {0}
 
--- a kind that reads files, and runs in full
-abbrev pub in_full : List Parameter → Option Form → Shape
-in_full args out = record { args = args; src = true; out = out; incremental = false }
+-- a kind that reads files, and makes none
+abbrev pub of_checks : List Parameter → Shape
+of_checks args = record { args = args; src = true; out = None; incremental = false }
 
--- files of the output that kinds write
-abbrev pub as_written : Tree → List Written
-as_written files = by_file (λ bytes. bytes) files
-
-abbrev pub reply_of : Tree → Reply
-reply_of files = record { removes = []; writes = as_written files; lines = [] }
+-- the reply that does nothing
+abbrev pub nothing : Reply
+nothing = record { removes = []; writes = []; lines = [] }
 
 abbrev pub written_or : Result Tree (List ℕ) → Result (List Written) (List ℕ)
-written_or (Ok files) = Ok (as_written files)
+written_or (Ok files) = Ok (as_made files)
 written_or (Err text) = Err text
 
 abbrev pub makes_of_trees : (List Value → Trees → Result Tree (List ℕ)) → Making
@@ -53,7 +49,7 @@ prints_nothing arguments values trees changes = []
 written-own : (made : Result Tree (List ℕ)) (written : List Written) → written_or made ≡ Ok written
     → are_own true written ≡ true
 written-own (Ok files) written e =
-    moved true (as_written files) written e (own_by_file (λ bytes. bytes) files)
+    moved true (as_made files) written e (own_by_file (λ bytes. bytes) files)
 written-own (Err text) written e = absurd (cc)
 
 pub of_trees-own : (makes : List Value → Trees → Result Tree (List ℕ)) (arguments : List Value)

@@ -1,6 +1,7 @@
 //! What one writes for a kind that makes a file of each file.
 use gb_action::shape::ArgList;
 use gb_action::values::Arguments;
+use gb_core::place::RelPath;
 use gb_kinds::edit::FileMaker;
 use std::alloc::{AllocError, Global};
 
@@ -27,4 +28,16 @@ pub trait FileKind: FileMaker + Drop {
         requires { args_fit takes arguments.now ≡ true }
         ensures { IfOk result (λ maker. (bytes : List ℕ) → Self.edited maker bytes
             ≡ makes arguments.now bytes) };
+}
+
+/// A kind that makes a file of each file of `src`, at a path of its own beneath `out`.
+pub trait Renaming: FileKind {
+    ghost use Rattle.std.specs.Prelude.{◌≡◌, ℕ, List, Option, IfOk};
+
+    /// The path at which a file is made of the one at a path, if one is made of it.
+    ghost renamed: { List ℕ → Option (List ℕ) };
+
+    /// The path at which a file is made of the one at this path, if one is made of it.
+    fn renamed(alloc: Global, path: &RelPath) -> Result<Option<RelPath>, AllocError>
+        ensures { IfOk result (λ new. new ≡ renamed path.now) };
 }

@@ -2,15 +2,19 @@
 //!
 //! Who has a function on bytes writes it as a [`file_kind::FileKind`] and has with it a kind of actions:
 //! [`by_file::ByFile`] gives its shape, what it makes and prints, its answers to changes, and that it
-//! writes nothing but its own output, all proved here once. [`both::Both`] puts naming types side by side,
-//! so that one table holds the kinds of all.
+//! writes nothing but its own output, all proved here once. [`of_trees::OfTrees`] does the same for a
+//! [`tree_kind::TreeKind`], which works on all files at once; [`renamed::Renamed`] is one that makes a file
+//! of each file at a path of its own. [`both::Both`] puts naming types side by side, so that one table holds
+//! the kinds of all.
 #![tactic(auto)]
 
+pub mod anew;
 pub mod beside;
 pub mod both;
 pub mod by_file;
 pub mod file_kind;
 pub mod functions;
 pub mod of_trees;
+pub mod renamed;
 pub mod stored;
 pub mod tree_kind;

@@ -1,26 +1,25 @@
 //! The naming types of kinds that work on all their files at once.
-ghost use Rattle.std.specs.Prelude.{◌≡◌, ◌≤◌, ℕ, None, Some, IfOk};
+ghost use Rattle.std.specs.Prelude.{◌≡◌, ◌≤◌, ℕ};
 ghost use Rattle.gb_action.specs.Meanings.{shape_of, makes_of, prints_of};
 ghost use Rattle.gb_action.specs.Replies.{Answers};
 ghost use Rattle.gb_action.specs.Shapes.{IsAsked};
-ghost use Rattle.gb_action.specs.declared.output.Form.TheVariants.{Dir};
-ghost use Rattle.gb_with.specs.TreeKinds.{in_full, reply_of, makes_of_trees, makes_nothing, prints_nothing};
+ghost use Rattle.gb_kinds.specs.Builtin.{of_files};
+ghost use Rattle.gb_with.specs.TreeKinds.{of_checks, nothing, makes_of_trees, makes_nothing, prints_nothing};
 ghost use Rattle.gb_with.specs.TreeKinds.{of_trees-own, nothing_made-own};
 
+use crate::anew::reply_anew;
 use crate::stored::{Call, OwnAction};
 use crate::tree_kind::{CheckKind, TreeKind};
 use gb_action::actions::Actions;
-use gb_action::output::Form;
-use gb_action::reply::{ActionFault, Lines, Removals, Reply, Writes, Written};
+use gb_action::reply::{ActionFault, Lines, Removals, Reply, Writes};
 use gb_action::request::Request;
 use gb_action::shape::{ArgList, Shape};
-use gb_core::bytes::Bytes;
-use gb_core::place::RelPath;
-use gb_kinds::names::output_name;
+use gb_kinds::shapes::of_files;
 use std::alloc::{AllocError, Global};
 use std::marker::PhantomData;
 
-/// The one kind that makes files of all files as `K` does.
+/// The one kind that makes files of all files as `K` does. Asked for changes it writes those that do not
+/// stand so already, and removes what it makes no more.
 #[derive(Drop)]
 pub struct OfTrees<K>(PhantomData<K>);
 
@@ -28,42 +27,34 @@ pub struct OfTrees<K>(PhantomData<K>);
 #[derive(Drop)]
 pub struct Checks<K>(PhantomData<K>);
 
-/// The shape of a kind that reads files, and runs in full.
-fn in_full(args: ArgList, out: Option<Form>) -> Shape
-    ensures { result ≡ in_full args out }
+/// The shape of a kind that reads files, and makes none.
+fn of_checks(args: ArgList) -> Shape
+    ensures { result ≡ of_checks args }
 {
     Shape {
         args,
         src: true,
-        out,
+        out: None,
         incremental: false,
     }
 }
 
-/// The reply that writes these files, and does nothing else.
-fn reply_of(alloc: Global, files: Vec<(RelPath, Bytes)>) -> Result<Reply, AllocError>
-    ensures { IfOk result (λ reply. reply ≡ reply_of files.items) }
+/// The reply that does nothing.
+fn nothing(alloc: Global) -> Reply
+    ensures { result ≡ nothing }
 {
-    let mut writes = Writes::new(alloc);
-    for (path, bytes) in files {
-        writes.push(Written {
-            output: output_name(alloc)?,
-            path,
-            bytes,
-        })?;
-    }
-    Ok(Reply {
+    Reply {
         removes: Removals::new(alloc),
-        writes,
+        writes: Writes::new(alloc),
         lines: Lines::new(alloc),
-    })
+    }
 }
 
 impl<K: TreeKind> Call for OfTrees<K> {
-    ghost shape = { in_full K.takes (Some Dir) };
+    ghost shape = { of_files K.takes };
 
     fn shape(alloc: Global) -> Result<Shape, AllocError> {
-        Ok(in_full(K::takes(alloc)?, Some(Form::Dir)))
+        Ok(of_files(K::takes(alloc)?))
     }
 }
 
@@ -73,7 +64,7 @@ impl<K: TreeKind> Actions for OfTrees<K> {
     ghost meanings = { record {
       kind = λ stored. 0;
       version = λ stored. stored;
-      shape = λ kind. in_full K.takes (Some Dir);
+      shape = λ kind. of_files K.takes;
       makes = λ kind. makes_of_trees K.makes;
       prints = λ kind. prints_nothing;
     } };
@@ -94,17 +85,17 @@ impl<K: TreeKind> Actions for OfTrees<K> {
         request: &Request,
     ) -> Result<Reply, ActionFault> {
         match K::make(alloc, &request.args, &request.files) {
-            Ok(files) => Ok(reply_of(alloc, files)?),
+            Ok(files) => Ok(reply_anew(alloc, request, files)?),
             Err(fault) => Err(fault),
         }
     }
 }
 
 impl<K: CheckKind> Call for Checks<K> {
-    ghost shape = { in_full K.takes None };
+    ghost shape = { of_checks K.takes };
 
     fn shape(alloc: Global) -> Result<Shape, AllocError> {
-        Ok(in_full(K::takes(alloc)?, None))
+        Ok(of_checks(K::takes(alloc)?))
     }
 }
 
@@ -114,7 +105,7 @@ impl<K: CheckKind> Actions for Checks<K> {
     ghost meanings = { record {
       kind = λ stored. 0;
       version = λ stored. stored;
-      shape = λ kind. in_full K.takes None;
+      shape = λ kind. of_checks K.takes;
       makes = λ kind. makes_nothing K.finds;
       prints = λ kind. prints_nothing;
     } };
@@ -135,7 +126,7 @@ impl<K: CheckKind> Actions for Checks<K> {
         request: &Request,
     ) -> Result<Reply, ActionFault> {
         match K::find(alloc, &request.args, &request.files)? {
-            None => Ok(reply_of(alloc, Vec::new(alloc))?),
+            None => Ok(nothing(alloc)),
             Some(text) => Err(ActionFault::ActionFailed(text)),
         }
     }

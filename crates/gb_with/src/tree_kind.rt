@@ -1,15 +1,20 @@
 //! What one writes for a kind that works on all its files at once.
+ghost use Rattle.std.specs.Prelude.{◌≡◌};
+ghost use Rattle.gb_action.specs.Files.{tree_at};
+
 use gb_action::reply::ActionFault;
 use gb_action::shape::ArgList;
 use gb_action::snapshot::Snapshots;
 use gb_action::values::Arguments;
 use gb_core::bytes::Bytes;
+use gb_core::name::Name;
 use gb_core::place::RelPath;
 use gb_core::text::Text;
 use std::alloc::{AllocError, Global};
 
 /// A kind that makes files beneath `out` of all files that its task has, or fails. It reads `src`, and other
-/// properties of the task by their names; where anything changed, it runs in full.
+/// properties of the task by their names. Where anything changed it makes all of them; where the properties
+/// that changed are incremental, those alone are written that do not stand so already.
 pub trait TreeKind: Drop {
     ghost use Rattle.std.specs.Prelude.{◌≡◌, ℕ, List, Result, true, Ok, IfOk, MatchResult};
     ghost use Rattle.gb_core.specs.declared.value.Value.{Value};
@@ -66,4 +71,14 @@ pub trait CheckKind: Drop {
     ) -> Result<Option<Text>, AllocError>
         requires { args_fit takes arguments.now ≡ true }
         ensures { IfOk result (λ found. found ≡ finds arguments.now trees.now) };
+}
+
+/// All files of a property.
+pub fn files_of<'a>(trees: &'a Snapshots, name: &Name) -> &'a [(RelPath, Bytes)]
+    ensures { result.now ≡ tree_at trees.now name.now }
+{
+    match trees.get(name) {
+        Some(files) => files.as_slice(),
+        None => &[],
+    }
 }

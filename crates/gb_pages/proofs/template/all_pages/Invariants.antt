@@ -1,5 +1,6 @@
 use Rattle.std.proofs.Common.{◌≡◌, drop}
-use Rattle.gb_pages.specs.Paths.{all_pages, behind}
+use Rattle.gb_with.specs.Renamed.{behind}
+use Rattle.gb_pages.specs.Paths.{all_pages}
 use Rattle.gb_pages.proofs.template.all_pages.Given as goal
 
 abbrev pub invariant-loop-path : goal.invariant-loop-path

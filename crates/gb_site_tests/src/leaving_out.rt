@@ -1,0 +1,77 @@
+//! An argument that a script may give or leave out: the name of the token of `template`.
+use crate::offering::{Handed, Kinds, offered};
+use crate::steps::{Step, go_on, stands};
+use gb_action::actions::Actions;
+use gb_folder::memory::MemoryFolder;
+use gb_kinds::builtin::Builtin;
+use gb_provider::transforms::Transforms;
+use std::alloc::Global;
+use std::test::Fail;
+
+const DONE: &str = "> Task :t\nBUILD SUCCESSFUL\n1 actionable task: 1 executed\n";
+
+/// It is left out.
+const LEFT_OUT: [Step<'static>; 4] = [
+    Step::Put("pages/a.md", b"A"),
+    Step::Put("layout.html", b"<p>{{page}}</p>\n"),
+    Step::Put(
+        "build.gb",
+        b"register t : template { inputFiles src from dir(\"pages\") \
+inputFiles layout from file(\"layout.html\") outputDir out = dir(\"build/t\") }",
+    ),
+    Step::Run("t", 1, DONE),
+];
+
+/// The one that is meant then is given: the task runs, as its action differs, and makes the same.
+const GIVEN: [Step<'static>; 2] = [
+    Step::Put(
+        "build.gb",
+        b"register t : template(\"page\") { inputFiles src from dir(\"pages\") \
+inputFiles layout from file(\"layout.html\") outputDir out = dir(\"build/t\") }",
+    ),
+    Step::Run("t", 1, DONE),
+];
+
+/// Another one is given, and then one too many.
+const OTHERS: [Step<'static>; 4] = [
+    Step::Put(
+        "build.gb",
+        b"register t : template(\"text\") { inputFiles src from dir(\"pages\") \
+inputFiles layout from file(\"layout.html\") outputDir out = dir(\"build/t\") }",
+    ),
+    Step::Run(
+        "t",
+        0,
+        "> Task :t FAILED\nFAILED :t: 42 layout.html: no {{text}}\nBUILD FAILED\n\
+1 actionable task: 1 executed\n",
+    ),
+    Step::Put(
+        "build.gb",
+        b"register t : template(\"page\", \"text\") { inputFiles src from dir(\"pages\") \
+inputFiles layout from file(\"layout.html\") outputDir out = dir(\"build/t\") }",
+    ),
+    Step::Run(
+        "t",
+        0,
+        "REFUSED 43 bad argument :t template\nBUILD FAILED\n",
+    ),
+];
+
+/// Fails where something else is told or stands.
+fn may_be_left_out<A: Actions, T: Transforms>(
+    alloc: Global,
+    tables: &Handed<A, T>,
+) -> Result<(), Fail> {
+    let mut folder = MemoryFolder::new(alloc);
+    go_on::<A, T, MemoryFolder>(alloc, &mut folder, tables, &LEFT_OUT)?;
+    stands(alloc, &mut folder, "build/t/a.html", "<p>A</p>\n")?;
+    go_on::<A, T, MemoryFolder>(alloc, &mut folder, tables, &GIVEN)?;
+    stands(alloc, &mut folder, "build/t/a.html", "<p>A</p>\n")?;
+    go_on::<A, T, MemoryFolder>(alloc, &mut folder, tables, &OTHERS)
+}
+
+#[test]
+fn an_argument_may_be_left_out(rt: HostRuntime) -> Result<(), Fail> {
+    let tables = offered(rt.alloc())?;
+    may_be_left_out::<Kinds, Builtin>(rt.alloc(), &tables)
+}

@@ -1,0 +1,80 @@
+//! Pages at paths of their own: the kind `htmlPages`.
+use crate::offering::{Handed, Kinds, offered};
+use crate::steps::{Step, go_on, stand, stands};
+use gb_action::actions::Actions;
+use gb_folder::memory::MemoryFolder;
+use gb_kinds::builtin::Builtin;
+use gb_provider::transforms::Transforms;
+use std::alloc::Global;
+use std::test::Fail;
+
+/// A task of pages, and two pages.
+const PAGES: [Step<'static>; 4] = [
+    Step::Put(
+        "build.gb",
+        b"register pages : htmlPages { inputFiles src incremental from dir(\"pages\") \
+outputDir out = dir(\"build/p\") }",
+    ),
+    Step::Put("pages/a.md", b"# A\n"),
+    Step::Put("pages/d/b.markdown", b"# B\n"),
+    Step::Run("pages", 1, DONE),
+];
+
+const DONE: &str = "> Task :pages\nBUILD SUCCESSFUL\n1 actionable task: 1 executed\n";
+
+/// Two pages of one name, and what stands behind that; then one of them goes.
+const MET: [Step<'static>; 4] = [
+    Step::Put("pages/d/b.md", b"# B\n"),
+    Step::Run(
+        "pages",
+        0,
+        "> Task :pages FAILED\nFAILED :pages: 42 d/b.markdown and d/b.md: both at d/b.html\nBUILD FAILED\n\
+1 actionable task: 1 executed\n",
+    ),
+    Step::Delete("pages/d/b.markdown"),
+    Step::Run("pages", 1, DONE),
+];
+
+/// A file that is no page, and a page that goes.
+const OTHERS: [Step<'static>; 6] = [
+    Step::Put("pages/notes.txt", b"N\n"),
+    Step::Run(
+        "pages",
+        0,
+        "> Task :pages FAILED\nFAILED :pages: 42 notes.txt: no path of its own\nBUILD FAILED\n\
+1 actionable task: 1 executed\n",
+    ),
+    Step::Delete("pages/notes.txt"),
+    Step::Delete("pages/a.md"),
+    Step::Run("pages", 1, DONE),
+    Step::Run(
+        "pages",
+        0,
+        "> Task :pages UP-TO-DATE\nBUILD SUCCESSFUL\n1 actionable task: 1 up-to-date\n",
+    ),
+];
+
+/// Fails where something else is told or stands.
+fn are_renamed<A: Actions, T: Transforms>(
+    alloc: Global,
+    tables: &Handed<A, T>,
+) -> Result<(), Fail> {
+    let mut folder = MemoryFolder::new(alloc);
+    go_on::<A, T, MemoryFolder>(alloc, &mut folder, tables, &PAGES)?;
+    stand(
+        alloc,
+        &mut folder,
+        "build/p",
+        "build/p/a.html\nbuild/p/d/b.html\n",
+    )?;
+    stands(alloc, &mut folder, "build/p/a.html", "<h1>A</h1>\n")?;
+    go_on::<A, T, MemoryFolder>(alloc, &mut folder, tables, &MET)?;
+    go_on::<A, T, MemoryFolder>(alloc, &mut folder, tables, &OTHERS)?;
+    stand(alloc, &mut folder, "build/p", "build/p/d/b.html\n")
+}
+
+#[test]
+fn two_pages_of_one_name_are_told(rt: HostRuntime) -> Result<(), Fail> {
+    let tables = offered(rt.alloc())?;
+    are_renamed::<Kinds, Builtin>(rt.alloc(), &tables)
+}

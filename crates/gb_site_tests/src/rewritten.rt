@@ -1,0 +1,140 @@
+//! What builds of an edited site write, read off a folder that notes it.
+use crate::offering::{Handed, Kinds, offered};
+use crate::sites::written;
+use crate::steps::{Step, go_on, is_told};
+use gb_action::actions::Actions;
+use gb_folder::memory::MemoryFolder;
+use gb_folder::noted::{Note, NotedFolder};
+use gb_kinds::builtin::Builtin;
+use gb_provider::transforms::Transforms;
+use std::alloc::{AllocError, Global};
+use std::test::Fail;
+
+/// The site, with a third page.
+const BUILT: [Step<'static>; 2] = [
+    Step::Put("pages/c.md", b"# C\n"),
+    Step::Run(
+        "site",
+        4,
+        "> Task :all\n> Task :html\nADDED a.md\nADDED b.md\nADDED c.md\n> Task :laidOut\n> Task :site\n\
+ADDED a.html\nADDED b.html\nADDED c.html\nADDED index.html\nBUILD SUCCESSFUL\n\
+4 actionable tasks: 4 executed\n",
+    ),
+];
+
+/// One page is edited.
+const EDITED: [Step<'static>; 1] = [Step::Put("pages/b.md", b"# B\n*new*\n")];
+
+/// What is told of it.
+const AFTER_EDIT: [Step<'static>; 1] = [Step::Run(
+    "site",
+    4,
+    "> Task :all\n> Task :html\nMODIFIED b.md\n> Task :laidOut\n> Task :site\nMODIFIED b.html\n\
+BUILD SUCCESSFUL\n4 actionable tasks: 4 executed\n",
+)];
+
+/// One page is removed.
+const REMOVED: [Step<'static>; 1] = [Step::Delete("pages/a.md")];
+
+/// What is told of it.
+const AFTER_REMOVAL: [Step<'static>; 1] = [Step::Run(
+    "site",
+    4,
+    "> Task :all\n> Task :html\nREMOVED a.md\n> Task :laidOut\n> Task :site\nREMOVED a.html\n\
+MODIFIED index.html\nBUILD SUCCESSFUL\n4 actionable tasks: 4 executed\n",
+)];
+
+/// The layout is edited, which is no property whose changes are told: all pages are made anew.
+const LAID_OUT: [Step<'static>; 1] = [Step::Put("layout.html", b"<html>{{page}}</html>\n")];
+
+/// What is told of it.
+const AFTER_LAYOUT: [Step<'static>; 1] = [Step::Run(
+    "laidOut",
+    1,
+    "> Task :html UP-TO-DATE\n> Task :laidOut\nBUILD SUCCESSFUL\n\
+2 actionable tasks: 1 executed, 1 up-to-date\n",
+)];
+
+/// The changes that were asked for beneath `build`, each on a line.
+fn shown(alloc: Global, notes: &[Note]) -> Result<String, AllocError> {
+    let mut out = String::new(alloc);
+    for note in notes {
+        let place = note.place.as_str();
+        if place.starts_with("build/") {
+            let word = if note.next.is_some() { "put " } else { "del " };
+            out.push_str(word)?;
+            out.push_str(place)?;
+            out.push_str("\n")?;
+        }
+    }
+    Ok(out)
+}
+
+/// Fails where a build behind this edit tells or changes something else.
+fn changes<A: Actions, T: Transforms>(
+    alloc: Global,
+    mut folder: MemoryFolder,
+    tables: &Handed<A, T>,
+    edit: &[Step<'_>],
+    build: &[Step<'_>],
+    expected: &str,
+) -> Result<MemoryFolder, Fail> {
+    go_on::<A, T, MemoryFolder>(alloc, &mut folder, tables, edit)?;
+    let mut noted = NotedFolder::new(alloc, folder);
+    go_on::<A, T, NotedFolder<MemoryFolder>>(alloc, &mut noted, tables, build)?;
+    let text = shown(alloc, noted.notes())?;
+    is_told(expected, text.as_str())?;
+    Ok(noted.into_inner())
+}
+
+/// A site with three pages.
+fn built<A: Actions, T: Transforms>(
+    alloc: Global,
+    tables: &Handed<A, T>,
+) -> Result<MemoryFolder, Fail> {
+    let mut folder = written::<A, T>(alloc, tables)?;
+    go_on::<A, T, MemoryFolder>(alloc, &mut folder, tables, &BUILT)?;
+    Ok(folder)
+}
+
+#[test]
+fn an_edit_writes_its_page_alone(rt: HostRuntime) -> Result<(), Fail> {
+    let alloc = rt.alloc();
+    let tables = offered(alloc)?;
+    let folder = built::<Kinds, Builtin>(alloc, &tables)?;
+    let folder = changes::<Kinds, Builtin>(
+        alloc,
+        folder,
+        &tables,
+        &EDITED,
+        &AFTER_EDIT,
+        "put build/html/b.md\nput build/laid-out/b.html\nput build/site/b.html\n",
+    )?;
+    changes::<Kinds, Builtin>(
+        alloc,
+        folder,
+        &tables,
+        &REMOVED,
+        &AFTER_REMOVAL,
+        "put build/all/index.html\ndel build/html/a.md\ndel build/laid-out/a.html\n\
+del build/site/a.html\nput build/site/index.html\n",
+    )?;
+    Ok(())
+}
+
+#[test]
+fn a_layout_is_laid_out_in_full(rt: HostRuntime) -> Result<(), Fail> {
+    let alloc = rt.alloc();
+    let tables = offered(alloc)?;
+    let folder = built::<Kinds, Builtin>(alloc, &tables)?;
+    changes::<Kinds, Builtin>(
+        alloc,
+        folder,
+        &tables,
+        &LAID_OUT,
+        &AFTER_LAYOUT,
+        "del build/laid-out/a.html\ndel build/laid-out/b.html\ndel build/laid-out/c.html\n\
+put build/laid-out/a.html\nput build/laid-out/b.html\nput build/laid-out/c.html\n",
+    )?;
+    Ok(())
+}

@@ -1,0 +1,43 @@
+-- Kinds that make all their files anew: what they reply to changes goes by what stands, not by the changes.
+use Rattle.std.specs.Prelude.{◌≡◌, ℕ, true, false, List, [], ◌∷◌, if◌then◌else◌, is_some, IsTrue}
+use Rattle.std.specs.List.{flat_map}
+use Rattle.std.specs.FinMap.Entries.{is_sorted}
+use Rattle.gb_core.specs.Lists.{byte_order}
+use Rattle.gb_action.specs.Files.{Tree, file_at}
+use Rattle.gb_action.specs.Outputs.{written_at}
+use Rattle.gb_action.specs.Shapes.{target}
+use Rattle.gb_action.specs.declared.output.OutputFiles.{OutputFiles}
+use Rattle.gb_action.specs.declared.reply.OutputPath.{OutputPath}
+use Rattle.gb_action.specs.declared.reply.Reply.{Reply}
+use Rattle.gb_action.specs.declared.request.Request.{Request}
+use Rattle.gb_kinds.specs.Remade.{as_made, renewed, standing}
+
+-- the reply that writes these files, and does nothing else
+abbrev pub all_of : Tree → Reply
+all_of files = record { removes = []; writes = as_made files; lines = [] }
+
+-- the path, unless a file is made there
+abbrev pub unless_made : Tree → List ℕ → List OutputPath
+unless_made made path =
+    if is_some (file_at made path) then [] else record { output = target; path = path } ∷ []
+
+-- of the files that stand those that are made no more
+abbrev pub made_no_more : Tree → Tree → List OutputPath
+made_no_more stood made = flat_map (λ file. unless_made made file.0) stood
+
+-- The reply that takes what stands to these files: it removes those that stand and are made no more, and
+-- writes those that do not stand so already. Each path is looked at once, by what is made there in the end,
+-- in the order of paths.
+pub record IsDifference (files : Tree) (outputs : List OutputFiles) (reply : Reply) : Type 0 where
+  pub made : Tree
+  pub in_order : IsTrue (is_sorted byte_order made)
+  pub is_made : (path : List ℕ) → file_at made path ≡ written_at (as_made files) target path
+  pub removes : reply.removes ≡ made_no_more (standing outputs) made
+  pub writes : reply.writes ≡ renewed outputs made
+  pub lines : reply.lines ≡ []
+
+-- The reply of a kind that makes these files: all of them, or the difference to what stands. It prints
+-- nothing.
+pub record IsAnew (files : Tree) (request : Request) (reply : Reply) : Type 0 where
+  pub in_full : request.changes.incremental ≡ false → reply ≡ all_of files
+  pub by_changes : request.changes.incremental ≡ true → IsDifference files request.outputs reply
