@@ -42,13 +42,6 @@ HasRead {F = F} failures may_leave asked old task =
     × (map (λ tree. tree.0) trees ≡ seen_files task.files))
     ⊎ ((read : F) × WasSourceless failures may_leave asked old read task)
 
--- a turn in which that was not answered asks for no change
-abbrev pub UnreadTurnsKeep : {F : Type 0} → (F → ℕ) → (F → Tearing) → (F → Call → F → Type 0) → Type 0
-UnreadTurnsKeep {F = F} failures may_leave asked =
-    (task : Task) (permit : Permit) (old new : F) → ¬ HasRead failures may_leave asked old task
-    → Asks failures may_leave asked (once (HasRead failures may_leave asked old task) permit) old new
-    → Asks failures may_leave asked no_change old new
-
 -- ---- The text of a record, by the run that it is put in for
 
 -- of a run in full on these trees: whatever kinds the table agrees with, the record has the digests of what
@@ -114,3 +107,15 @@ unfoldable pub IsTextOf : {F S : Type 0} → (F → ℕ) → (F → Tearing) →
     → Rows S → Options → Task → Option Remembered → Bytes → Type 0
 IsTextOf failures may_leave asked old meanings rows options task last bytes =
     IsTextFrom failures may_leave asked old meanings rows options task last bytes
+
+-- ---- What is kept
+
+-- a turn in which what it goes by was not answered asks for no change
+abbrev pub UnreadTurnsKeep : {F S : Type 0} → (F → ℕ) → (F → Tearing) → (F → Call → F → Type 0) → Meanings S
+    → Type 0
+UnreadTurnsKeep {F = F} {S = S} failures may_leave asked meanings =
+    (rows : Rows S) (options : Options) (task : Task) (last : Option Remembered) (old new : F)
+    → ¬ HasRead failures may_leave asked old task
+    → Asks failures may_leave asked (once (HasRead failures may_leave asked old task) (in_turn_with task
+    (IsTextOf failures may_leave asked old meanings rows options task last))) old new
+    → Asks failures may_leave asked no_change old new

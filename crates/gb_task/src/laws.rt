@@ -22,6 +22,6 @@ pub fn up_to_date_is_made<F: Folder>()
 
 /// A turn that ends before what it goes by was answered, for want of memory or by a fault of the device, asks
 /// for no change: the task's record and outputs are kept.
-pub fn unread_turns_keep<F: Folder>()
-    ensures { UnreadTurnsKeep F.failures F.may_leave F.asked }
+pub fn unread_turns_keep<A: Actions, F: Folder>()
+    ensures { UnreadTurnsKeep F.failures F.may_leave F.asked A.meanings }
 {}

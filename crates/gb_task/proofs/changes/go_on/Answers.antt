@@ -9,6 +9,7 @@ use Rattle.gb_turn.specs.Reading.{seen_of}
 use Rattle.gb_task.specs.Anew.{IsAsBefore, IsAnew}
 use Rattle.gb_task.specs.Current.{WasReadAnew}
 use Rattle.gb_task.specs.Turned.{HasTurned, report_of, setting_with}
+use Rattle.gb_task.specs.declared.anew.Anew.TheVariants as anew
 use Rattle.gb_task.proofs.ByChanges.{reading_failed}
 use Rattle.gb_task.proofs.Later.{comes_later, due_since, turned_before}
 use Rattle.gb_task.proofs.Recorded.{seen_later}
@@ -68,7 +69,7 @@ returns-in-ByChanges-clause-asks g c = λ first before inputs outputs.
     let is_anew = subst (IsAnew c.args.options task c.args.last.now) c.in-ByChanges.is c.in_ok-inputs.ensures.anew in
     let was = subst (WasReadAnew F.failures F.may_leave F.asked first then task) c.in-ByChanges.is (c.in_ok-inputs.ensures.answered first before inputs outputs) in
     asks_then (asks_reading c.settle_anew.ensures.asks)
-    (asks_once (HasRead F.failures F.may_leave F.asked first task) _ (anew_read F.failures F.may_leave F.asked first c.args.options task c.args.last.now _ then is_anew was)
+    (asks_once (HasRead F.failures F.may_leave F.asked first task) _ (anew_read F.failures F.may_leave F.asked first c.args.options task c.args.last.now (anew.ByChanges c.in-ByChanges.inputs c.in-ByChanges.outputs c.in-ByChanges.changes) then is_anew was)
     (text_in_turn task _ _
     (λ bytes. going_anew F.failures F.may_leave F.asked first g.A.Actions.meanings c.args.table.now c.args.options task c.args.last.now
     c.in-ByChanges.inputs c.in-ByChanges.outputs c.in-ByChanges.changes then was bytes is_anew)
@@ -82,7 +83,7 @@ returns-in-InFull-clause-asks g c = λ first before inputs outputs.
     let was = subst (WasReadAnew F.failures F.may_leave F.asked first then task) c.in-InFull.is (c.in_ok-inputs.ensures.answered first before inputs outputs) in
     let is_anew = subst (IsAnew c.args.options task c.args.last.now) c.in-InFull.is c.in_ok-inputs.ensures.anew in
     asks_then (asks_reading c.settle_anew.ensures.asks)
-    (asks_once (HasRead F.failures F.may_leave F.asked first task) _ (anew_read F.failures F.may_leave F.asked first c.args.options task c.args.last.now _ then is_anew was)
+    (asks_once (HasRead F.failures F.may_leave F.asked first task) _ (anew_read F.failures F.may_leave F.asked first c.args.options task c.args.last.now (anew.InFull c.in-InFull.inputs) then is_anew was)
     (text_in_turn task _ _
     (full_anew F.failures F.may_leave F.asked first g.A.Actions.meanings c.args.table.now c.args.options task c.args.last.now c.in-InFull.inputs then was is_anew)
     c.run_on.ensures.asks))

@@ -2,4 +2,4 @@ use Rattle.gb_task.proofs.Asking.{asks_never}
 use Rattle.gb_task.proofs.laws.unread_turns_keep.Goals as goal
 
 pub returns : goal.returns
-returns c = λ returned. λ task permit old new never asks. asks_never _ permit never asks
+returns c = λ returned. λ rows options task last old new never asks. asks_never _ _ never asks
