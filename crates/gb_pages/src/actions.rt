@@ -15,14 +15,11 @@ use gb_with::of_trees::{Checks, OfTrees};
 use gb_with::renamed::Renamed;
 use std::alloc::Global;
 
+/// The kinds that work on all pages at once, at paths that they know.
+type AtOnce = Both<OfTrees<Template>, Both<OfTrees<Index>, Checks<CheckPages>>>;
+
 /// All kinds of pages.
-pub type Pages = Both<
-    ByFile<Markdown>,
-    Both<
-        OfTrees<Renamed<Markdown>>,
-        Both<OfTrees<Template>, Both<OfTrees<Index>, Checks<CheckPages>>>,
-    >,
->;
+pub type Pages = Both<ByFile<Markdown>, Both<OfTrees<Renamed<Markdown>>, AtOnce>>;
 
 /// The table of all kinds of pages, each in its first version.
 pub fn page_actions(alloc: Global) -> Result<ActionTable<<Pages as Actions>::Stored>, TableFault>
@@ -34,16 +31,16 @@ pub fn page_actions(alloc: Global) -> Result<ActionTable<<Pages as Actions>::Sto
 {
     let markdown = only::<ByFile<Markdown>>(alloc, "markdown", 1)?;
     let pages = only::<OfTrees<Renamed<Markdown>>>(alloc, "htmlPages", 1)?;
+    beside(alloc, markdown, beside(alloc, pages, at_once(alloc)?)?)
+}
+
+/// The table of those that work on all pages at once.
+fn at_once(alloc: Global) -> Result<ActionTable<<AtOnce as Actions>::Stored>, TableFault>
+    ensures { IfOk result (λ table. table ≡ (codes "template", First 1)
+        ∷ (codes "index", Second (First 1)) ∷ (codes "checkPages", Second (Second 1)) ∷ []) }
+{
     let template = only::<OfTrees<Template>>(alloc, "template", 1)?;
     let index = only::<OfTrees<Index>>(alloc, "index", 1)?;
     let check = only::<Checks<CheckPages>>(alloc, "checkPages", 1)?;
-    beside(
-        alloc,
-        markdown,
-        beside(
-            alloc,
-            pages,
-            beside(alloc, template, beside(alloc, index, check)?)?,
-        )?,
-    )
+    beside(alloc, template, beside(alloc, index, check)?)
 }
