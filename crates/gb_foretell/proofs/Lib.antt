@@ -1,2 +1,2 @@
 mod Marking
-mod Telling
+pub mod Telling
