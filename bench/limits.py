@@ -22,12 +22,13 @@ def script(text, words):
 def outputs_at_one_place(n):
     """One task with n outputs at one place."""
     outputs = "".join(f'outputDir o{it} = file("build/o")\n' for it in range(n))
-    return script("register t {\n" + outputs + "}\n", "t")
+    return script('register t : printLine("done") {\n' + outputs + "}\n", "t")
 
 
 def tasks_at_one_place(n):
     """n tasks that write one place."""
-    tasks = "".join(f'register t{it} {{ outputDir o = file("build/o") }}\n' for it in range(n))
+    tasks = "".join(
+        f'register t{it} : printLine("done") {{ outputDir o = file("build/o") }}\n' for it in range(n))
     needs = ", ".join(f'"t{it}"' for it in range(n))
     return script(tasks + f"register all {{ dependsOn {needs} }}\n", "all")
 
@@ -60,10 +61,10 @@ def tasks_of_a_text(n):
 
 
 def words_again(n):
-    """256 projects with a task each, and n default tasks of one name."""
-    settings = "".join(f'include "p{it}"\n' for it in range(256))
+    """255 projects with a task each, and n default tasks of one name."""
+    settings = "".join(f'include "p{it}"\n' for it in range(255))
     lines = ["put settings.gb " + settings.replace("\n", "\\n")]
-    lines += [f'put p{it}/build.gb register a\\n' for it in range(256)]
+    lines += [f'put p{it}/build.gb register a {{ }}\\n' for it in range(255)]
     names = ", ".join('"a"' for _ in range(n))
     return "\n".join(lines) + "\n" + script(f"defaultTasks {names}\n", "-m")
 
