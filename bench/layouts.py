@@ -1,58 +1,31 @@
 #!/usr/bin/env python3
-"""layouts.py GB [LAYOUT..]: times the built gb on folders that ask much of one part of it, in some sizes.
+"""layouts.py GB [LAYOUT..]: times the built gb on folders that ask much of one part of it, each in two sizes.
 
-Times are in ms, the best of five runs; a first build is one run. Behind each stands in brackets the processor
-time of that run, user and system, of its children too. Folders are made in the temporary folder (TMPDIR).
+Told is the least processor time of five runs (user and system, of all children too) and, in brackets, the least
+wall time, in ms; a first build is one run. Folders are made in the temporary folder (TMPDIR). The folders of
+sums.py, beside sha256sum, are a chain of copies and one task that copies many files; here are other kinds.
 """
-import os, pathlib, random, resource, subprocess, sys, tempfile, time
+import pathlib
+import random
+import tempfile
 
-GB, ASKED = str(pathlib.Path(sys.argv[1]).resolve()), sys.argv[2:]
+from measured import SUMS, files, keep, lay_out, least, rounded, run, words_given, written
 
-
-def busy():
-    """The processor time of all children that have ended, in s."""
-    used = resource.getrusage(resource.RUSAGE_CHILDREN)
-    return used.ru_utime + used.ru_stime
+ROUNDS = 5
 
 
-def took(words, runs=5, before=lambda run: None):
-    """The best of some runs; `before` is called before each one, with its number."""
-    best = None
-    for run in range(runs):
-        before(run)
-        begin, began = time.monotonic(), busy()
-        done = subprocess.run(words, stdout=subprocess.PIPE, text=True)
-        spent = 1000 * (time.monotonic() - begin), 1000 * (busy() - began)
-        best = spent if best is None else min(best, spent)
-    if done.returncode:
-        sys.exit(f"{words}: status {done.returncode}\n{done.stdout[-300:]}")
-    return f"{best[0]:.1f} ({best[1]:.1f})"
-
-
-def script(text):
-    pathlib.Path("build.gb").write_text(text)
-
-
-def values(count, first, follow):
-    lines = [f"property p0 set p0 = \"{first}\""]
-    lines += [f"property p{it} set p{it} = {follow(f'p{it - 1}')}" for it in range(1, count)]
-    script("\n".join(lines) + f"\nregister t {{ doLast printLine(p{count - 1}) }}\n")
-    return [("read", took([GB, "t"]))]
-
-
-def zips(count):
-    """Properties, each the one before joined to itself."""
-    return values(count, "", lambda it: f"{it}.zip({it}, concat)")
-
-
-def steps(count):
-    """Properties, each by 60 steps from the one before."""
-    return values(count, "x", lambda it: it + ".map(nonEmpty)" * 60)
+def values(first, follow):
+    """Properties, each made of the one before."""
+    def made(count):
+        lines = [f'property p0 set p0 = "{first}"']
+        lines += [f"property p{it} set p{it} = {follow(f'p{it - 1}')}" for it in range(1, count)]
+        return "\n".join(lines) + f"\nregister t {{ doLast printLine(p{count - 1}) }}\n", ["t"]
+    return made
 
 
 def plan(needs_of):
     """Tasks that need others; each reads what the last of these makes."""
-    def plans(count):
+    def made(count):
         lines = []
         for it in range(count):
             needs = needs_of(it, count)
@@ -60,9 +33,8 @@ def plan(needs_of):
             named = ", ".join(f'"{name}"' for name in needs)
             after = f"dependsOn {named} " if needs else ""
             lines.append(f'register t{it}:sums{{{after}inputFiles src from {source} outputDir out=dir("build/{it}")}}')
-        script("\n".join(lines) + "\n")
-        return [("dry run", took([GB, "-m", f"t{count - 1}"]))]
-    return plans
+        return "\n".join(lines) + "\n", ["-m", f"t{count - 1}"]
+    return made
 
 
 def clauses(count):
@@ -75,68 +47,66 @@ def clauses(count):
             f'onlyIf p.map(nonEmpty) is equals("true") inputFiles src from {source} '
             f'outputDir out=buildDir.map(child("{it}")) mustRunAfter "a" finalizedBy "e"}}'
         )
-    script("\n".join(lines) + "\n")
-    return [("dry run", took([GB, "-m", f"t{count - 1}"]))]
+    return "\n".join(lines) + "\n", ["-m", f"t{count - 1}"]
 
 
-def words(number):
+def read_alone(made):
+    """The cost of a build that reads no file but its script."""
+    def costs(gb, folder, count):
+        script, words = made(count)
+        (folder / "build.gb").write_text(script)
+        return least({"read": lambda: run([gb, *words], folder)}, ROUNDS)
+    return costs
+
+
+def text(number):
+    """1 KiB of words of five letters."""
     drawn = random.Random(number)
     return bytes(32 if it % 6 == 5 else drawn.choice(b"aeot") for it in range(1024))
 
 
-def edit(run):
-    pathlib.Path("src/0/0").write_bytes(words(-1 - run))
+def built_and_edited(kind):
+    """The costs of one task of files of words, and of sha256sum over its inputs and outputs."""
+    def edited(gb, folder, layout):
+        written(folder / layout.edited, text(random.random()))
+        return run([gb, layout.task], folder)
+
+    def costs(gb, folder, count):
+        layout = files(count, kind)
+        lay_out(folder, layout)
+        for number, source in enumerate(layout.sources):
+            written(folder / source, text(number))
+        found = {"first build": run([gb, layout.task], folder)}
+        return found | least({
+            "nothing to do": lambda: run([gb, layout.task], folder),
+            "one edit": lambda: edited(gb, folder, layout),
+            "sha256sum": lambda: run(SUMS, folder),
+        }, ROUNDS)
+    return costs
 
 
-def built_and_edited(task):
-    """The times of a first build, of one with nothing to do and of one after an edit of `src/0/0`."""
-    told = [("first build", took([GB, task], 1)), ("nothing to do", took([GB, task]))]
-    told += [("one edit", took([GB, task], before=edit))]
-    sums = took(["sh", "-c", "find src build -type f -print0 | xargs -0 sha256sum >/dev/null"])
-    return told + [("sha256sum", sums)]
-
-
-def files_of(kind, incremental):
-    """A task of files of 1 KiB, 256 in a folder."""
-    def built(count):
-        for it in range(count):
-            folder = pathlib.Path("src", str(it // 256))
-            folder.mkdir(parents=True, exist_ok=True)
-            (folder / f"{it}").write_bytes(words(it))
-        script(f'register t:{kind}{{inputFiles src {incremental} from dir("src") outputDir out=dir("build/o")}}\n')
-        return built_and_edited("t")
-    return built
-
-
-def copied(count):
-    """A chain of tasks, each of which copies the file that the one before made."""
-    lines = []
-    for it in range(count):
-        source = f'task("t{it - 1}").flatMap(output("out"))' if it else 'dir("src")'
-        reads = f"inputFiles src incremental from {source}"
-        lines.append(f'register t{it}:copyFiles{{{reads} outputDir out=dir("build/{it}")}}')
-    script("\n".join(lines) + "\n")
-    pathlib.Path("src/0").mkdir(parents=True)
-    edit(5)
-    return built_and_edited(f"t{count - 1}")
+def before(it, number):
+    return [f"t{of}" for of in range(max(0, it - number), it)]
 
 
 LAYOUTS = {
-    "zips": (zips, 512, 1024),
-    "steps": (steps, 512, 1024),
-    "chain": (plan(lambda it, count: [f"t{it - 1}"] if it else []), 2048, 4096),
-    "fan": (plan(lambda it, count: [f"t{of}" for of in range(it)] if it == count - 1 else []), 2048, 4096),
-    "needs": (plan(lambda it, count: [f"t{of}" for of in range(max(0, it - 12), it)]), 2048, 4096),
-    "clauses": (clauses, 1024, 2048),
-    "copies": (files_of("copyFiles", "incremental"), 10000, 20000, 65536),
-    "sums": (files_of("sums", "incremental"), 10000, 20000),
-    "words": (files_of("wordIndex", "incremental"), 1000, 2000),
-    "copied": (copied, 1024, 2048),
+    "zips": (read_alone(values("", lambda it: f"{it}.zip({it}, concat)")), 512, 1024),
+    "steps": (read_alone(values("x", lambda it: it + ".map(nonEmpty)" * 60)), 512, 1024),
+    "chain": (read_alone(plan(lambda it, count: before(it, 1))), 2048, 4096),
+    "fan": (read_alone(plan(lambda it, count: before(it, it) if it == count - 1 else [])), 2048, 4096),
+    "needs": (read_alone(plan(lambda it, count: before(it, 12))), 2048, 4096),
+    "clauses": (read_alone(clauses), 1024, 2048),
+    "sums": (built_and_edited("sums"), 10000, 20000),
+    "words": (built_and_edited("wordIndex"), 1000, 2000),
 }
-for name in ASKED or LAYOUTS:
-    layout, *counts = LAYOUTS[name]
+given = words_given(__doc__, layout="of " + ", ".join(LAYOUTS))
+rows = []
+for name in given.layout or LAYOUTS:
+    costs_of, *counts = LAYOUTS[name]
     for count in counts:
         with tempfile.TemporaryDirectory() as room:
-            os.chdir(room)
-            print(f"{name} {count}:", ", ".join(f"{what} {time}" for what, time in layout(count)), flush=True)
-            os.chdir("/")
+            costs = costs_of(given.gb, pathlib.Path(room), count)
+        told = ", ".join(f"{what} {it.processor:.1f} ({it.wall:.1f})" for what, it in costs.items())
+        print(f"{name} {count}:", told, flush=True)
+        rows.append({"layout": name, "count": count, "costs": rounded(costs)})
+keep("layouts", given, rows)

@@ -5,16 +5,21 @@
     bench/pictures.py --check  fails where one is not what would be written
 
 layers: the crates by their groups in crates.txt. turn: what a task's turn comes to. record: a task's record
-where a build is stopped. cost: builds of 4,000 tasks, by the figures of docs/BENCHMARKS.md.
+where a build is stopped. By bench/figures.json: cost, what layouts cost beside sha256sum; growth, the same by the
+number of tasks; peers, what other tools cost.
 """
+import math
 import os
-import re
 import sys
 from xml.sax.saxutils import escape
+
+from figures import named, ratio, told_of
+from measured import kept
 
 ROOT = os.path.dirname(os.path.dirname(os.path.abspath(__file__)))
 PICTURES = os.path.join(ROOT, "docs", "pictures")
 INK, PALE, LINE, GREEN, RED = "#1f2933", "#eef2f6", "#8896a5", "#dff0e1", "#f8e1de"
+DARK_GREEN, DARK_RED = "#2f7d3b", "#b04a3a"
 FONT = 'font-family="Helvetica, Arial, sans-serif"'
 
 
@@ -46,6 +51,13 @@ class Picture:
         self.parts.append(
             f'<line x1="{x}" y1="{y}" x2="{to_x}" y2="{to_y}" stroke="{INK}" marker-end="url(#tip)"/>'
         )
+
+    def rule(self, x, y, to_x, to_y, ink=LINE):
+        self.height = max(self.height, y + 12, to_y + 12)
+        self.parts.append(f'<line x1="{x}" y1="{y}" x2="{to_x}" y2="{to_y}" stroke="{ink}"/>')
+
+    def dot(self, x, y, ink):
+        self.parts.append(f'<circle cx="{x}" cy="{y}" r="3" fill="{ink}"/>')
 
     def svg(self):
         head = (
@@ -175,41 +187,114 @@ def record():
     return picture
 
 
-def figures():
-    """The rows of the table of builds: a label, and its time in ms with 4,000 tasks."""
-    text = read("docs/BENCHMARKS.md")
-    rows = re.findall(r"(?m)^\| (.*?) \| [\d,]+ \| ([\d,]+) \|$", text.partition("| 4,000 tasks |")[2])
-    return {label.replace("`", ""): int(time.replace(",", "")) for label, time in rows}
+def bars(picture, y, rows, scale):
+    """Bars below one another: a name, a width before it is scaled, what is told of it and a colour."""
+    for name, width, told, fill in rows:
+        picture.text(330, y + 15, name, 12, "end")
+        picture.box(338, y, round(scale * width, 1), 20, fill)
+        picture.text(346 + round(scale * width, 1), y + 15, told, 12)
+        y += 24
+    return y
 
 
 def cost():
-    """Bars of the times, in multiples of sha256sum over all inputs and outputs."""
-    told = figures()
-    one = told["sha256sum of inputs and outputs"]
+    """Bars of processor times, in multiples of that of sha256sum over all inputs and outputs."""
+    figures = kept()["sums"]
+    rows = [row for row in figures["rows"] if row["layout"] != "tasks" or row["count"] in (1000, 4000)]
+    rows = [row for row in rows if row["layout"] != "chain" or row["count"] in (1000, 4000)]
+    whats = {"nothing to do": GREEN, "one edit": PALE, "gb": GREEN}
+    scale = 380 / max(ratio(row, what) or 0 for row in rows for what in whats)
     picture = Picture(840)
-    head = "4,000 tasks, in multiples of sha256sum over all inputs and outputs"
+    head = "Processor time, in multiples of sha256sum over all inputs and outputs (the line: once)"
     picture.text(12, 26, head, 13, weight="bold")
-    y = 40
-    for end in ("nothing to do", "first build"):
-        picture.text(12, y + 16, end, 13, weight="bold")
-        y += 24
-        bars = [("sha256sum", one)] if end == "nothing to do" else []
-        bars += [(name, told[f"{name}, {end}"]) for name in ("ninja", "gb", "make")]
-        most = max(time for _, time in bars)
-        for name, time in bars:
-            picture.text(96, y + 16, name, 12, "end")
-            width = max(2, round(560 * time / most))
-            picture.box(104, y, width, 22, GREEN if name == "gb" else PALE)
-            picture.text(112 + width, y + 16, f"{time / one:.1f} ({time:,} ms)", 12)
-            y += 28
-        y += 10
+    picture.text(12, 44, told_of(figures), 11)
+    y = 58
+    for row in rows:
+        costs = row["costs"]
+        picture.text(12, y + 13, f"{named(row)}; sha256sum {costs['sha256sum']['processor']:,.0f} ms", 12, weight="bold")
+        made = []
+        for what, fill in whats.items():
+            if what in costs:
+                times, ms = ratio(row, what), costs[what]["processor"]
+                made.append((what, times, f"{times:.2f} ({ms:,.0f} ms)", fill))
+        end = bars(picture, y + 20, made, scale)
+        picture.rule(round(338 + scale, 1), y + 18, round(338 + scale, 1), end - 2, DARK_RED)
+        y = end + 8
+    return picture
+
+
+def marks(most):
+    """Up to seven round numbers up to this one."""
+    step = next(one * ten for ten in (1, 10, 100, 1000, 10000) for one in (1, 2, 5) if most <= 7 * one * ten)
+    return range(step, int(most) + 1, step)
+
+
+def line(picture, points, at, ink):
+    """A line through points."""
+    places = [at(*point) for point in points]
+    for start, end in zip(places, places[1:]):
+        picture.rule(*start, *end, ink)
+    for x, y in places:
+        picture.dot(x, y, ink)
+
+
+def growth():
+    """Processor time by the number of tasks, of gb with nothing to do and of sha256sum."""
+    figures = kept()["sums"]
+    lines = []
+    for layout, name in (("tasks", "tasks of one file each"), ("chain", "a chain of tasks")):
+        for what, ink in (("nothing to do", DARK_GREEN), ("sha256sum", DARK_RED)):
+            rows = [row for row in figures["rows"] if row["layout"] == layout]
+            points = [(row["count"], row["costs"][what]["processor"]) for row in rows]
+            lines.append((points, f"{'gb' if what == 'nothing to do' else what}, {name}", ink))
+    most = [max(point[of] for points, _, _ in lines for point in points) for of in (0, 1)]
+    picture = Picture(840)
+    picture.text(12, 26, "Processor time with nothing to do, by the number of tasks", 13, weight="bold")
+    picture.text(12, 44, told_of(figures), 11)
+
+    def at(count, ms):
+        return 70 + round(510 * count / most[0], 1), 380 - round(310 * ms / most[1], 1)
+
+    picture.rule(70, 380, 590, 380, INK)
+    picture.rule(70, 380, 70, 62, INK)
+    for count in marks(most[0]):
+        picture.text(at(count, 0)[0], 398, f"{count:,}", 12, "middle")
+    for ms in marks(most[1]):
+        picture.text(62, at(0, ms)[1] + 4, f"{ms:,} ms", 12, "end")
+    ends = 0
+    for points, name, ink in sorted(lines, key=lambda it: it[0][-1][1]):
+        line(picture, points, at, ink)
+        x, y = at(*points[-1])
+        ends = min(y + 4, ends - 18) if ends else y + 4
+        picture.text(x + 10, ends, name, 12, ink=ink)
+    return picture
+
+
+def peers():
+    """Bars of the processor times of tools that copy the same files, on a scale where each step is tenfold."""
+    figures = kept()["builds"]
+    picture = Picture(840)
+    picture.text(12, 26, "Processor time, each step of the scale tenfold", 13, weight="bold")
+    picture.text(12, 44, told_of(figures), 11)
+    y, layouts = 58, dict.fromkeys(named(row) for row in figures["rows"])
+    most = max(cost["processor"] for row in figures["rows"] for cost in row["costs"].values())
+    for layout in layouts:
+        for what in ("first build", "nothing to do", "one edit"):
+            picture.text(12, y + 13, f"{layout}: {what}", 12, weight="bold")
+            made = []
+            for row in figures["rows"]:
+                if named(row) == layout and what in row["costs"]:
+                    ms, fill = row["costs"][what]["processor"], GREEN if row["tool"] == "gb" else PALE
+                    made.append((row["tool"], math.log10(max(ms, 1.1)), f"{ms:,.0f} ms", fill))
+            y = bars(picture, y + 20, made, 400 / math.log10(most)) + 8
     return picture
 
 
 def main(words):
     os.makedirs(PICTURES, exist_ok=True)
     stale = []
-    for make in (layers, turn, record, cost):
+    measured = {cost: "sums", growth: "sums", peers: "builds"}
+    for make in (layers, turn, record, *(it for it, figures in measured.items() if figures in kept())):
         path = os.path.join(PICTURES, f"{make.__name__}.svg")
         text = make().svg()
         if words == ["--check"]:

@@ -1,120 +1,74 @@
 #!/usr/bin/env python3
-"""sums.py GB: processor time of the built gb beside that of sha256sum over all inputs and outputs.
+"""sums.py GB [LAYOUT..]: processor time of the built gb beside that of sha256sum over all inputs and outputs.
 
-Each time is user and system time of the program and its children, in ms, the least of some runs; those of a
-row are taken in turn, so that a busy machine is busy for all of them. Behind each stands how many times it is
-that of sha256sum. Folders are made in the temporary folder (TMPDIR); one on a disk shows what a disk costs.
+Each time is user and system time of the program and its children, in ms, the least of some runs, with the least
+wall time behind it; those of a row are taken in turn. Behind each stands how many times it is the processor time
+of sha256sum. Of a first build that is of copying the inputs and sha256sum of both. Folders are made in the
+temporary folder (TMPDIR); one on a disk shows what a disk costs.
 """
-import os
 import pathlib
 import shutil
-import subprocess
-import sys
 import tempfile
 
-GB = str(pathlib.Path(sys.argv[1]).resolve())
-SUMS = "find src build -type f -print0 | xargs -0 sha256sum"
-COPIED = "cp -r src copied; find src copied -type f -print0 | xargs -0 sha256sum"
+from measured import SUMS, chain, files, keep, lay_out, least, parts, rounded, run, tasks, words_given, written
+
+COPIED = ["sh", "-c", "cp -r src copied; find src copied -type f -print0 | xargs -0 sha256sum"]
+# The layouts by name: what makes them, in which sizes, and in how many rounds they are measured.
+LAYOUTS = {
+    "tasks": (tasks, [500, 1000, 2000, 3000, 4000], 7),
+    "chain": (chain, [500, 1000, 2000, 3000, 4000], 7),
+    "files": (files, [10000], 7),
+    "parts": (parts, [10000], 3),
+}
+FIRST_BUILD = ("tasks", 1000)
 
 
-def busy(words, folder):
-    """The processor time of a program, in ms."""
-    silent = {"stdout": subprocess.DEVNULL, "stderr": subprocess.DEVNULL}
-    process = subprocess.Popen(words, cwd=folder, **silent)
-    _, status, used = os.wait4(process.pid, 0)
-    if status:
-        sys.exit(f"{words[:3]}: status {status}")
-    return 1000 * (used.ru_utime + used.ru_stime)
+def told(name, count, costs):
+    """Prints a row, and gives it as it is kept."""
+    one = costs["sha256sum"].processor
+    row = [f"{what} {it.processor:.0f} ({it.processor / one:.2f}, wall {it.wall:.0f})" for what, it in costs.items()]
+    print(f"{name} {count}:", ", ".join(row), flush=True)
+    return {"layout": name, "count": count, "costs": rounded(costs)}
 
 
-def told(name, times, rounds=7):
-    """Prints the least of each of these, taken in turn, and its ratio to `sha256sum`."""
-    least = {}
-    for _ in range(rounds):
-        for what, time in times.items():
-            least[what] = min(time(), least.get(what, float("inf")))
-    sums = least["sha256sum"]
-    row = [f"{what} {it:.0f} ({it / sums:.2f})" for what, it in least.items()]
-    print(f"{name}:", ", ".join(row), flush=True)
+def edited(gb, folder, layout):
+    written(folder / layout.edited)
+    return run([gb, layout.task], folder)
 
 
-def written(place, number=1024):
-    place.parent.mkdir(parents=True, exist_ok=True)
-    place.write_bytes(os.urandom(number))
-
-
-def all_of(count):
-    return "register all { dependsOn " + ", ".join(f'"t{it}"' for it in range(count)) + " }\n"
-
-
-def copying(number, reads):
-    return f'register t{number} : copyFiles {{ {reads} outputDir out = dir("build/{number}") }}\n'
-
-
-def tasks(folder, count):
-    """Tasks that each copy a file, and one that needs all of them."""
-    for it in range(count):
-        written(folder / "src" / str(it))
-    lines = [copying(it, f'inputFiles src from file("src/{it}")') for it in range(count)]
-    return "all", "".join(lines) + all_of(count), "src/7"
-
-
-def chain(folder, count):
-    """Tasks that each copy what the one before made."""
-    written(folder / "src" / "0")
-    lines = []
-    for it in range(count):
-        source = f'task("t{it - 1}").flatMap(output("out"))' if it else 'dir("src")'
-        lines.append(copying(it, f"inputFiles src incremental from {source}"))
-    return f"t{count - 1}", "".join(lines), "src/0"
-
-
-def copies(folder, count):
-    """One incremental task of files, 256 in a folder."""
-    for it in range(count):
-        written(folder / "src" / str(it // 256) / str(it))
-    return "t0", copying(0, 'inputFiles src incremental from dir("src")'), "src/0/0"
-
-
-def parts(folder, count):
-    """A hundred tasks, each of a hundredth of one folder."""
-    for it in range(count):
-        written(folder / "src" / f"m{it * 100 // count}" / str(it))
-    lines = [copying(it, f'inputFiles src from dir("src") include "m{it}/**"') for it in range(100)]
-    return "all", "".join(lines) + all_of(100), "src/m0/0"
-
-
-def first_build(folder, task):
-    shutil.rmtree(folder / "build", ignore_errors=True)
-    shutil.rmtree(folder / ".gb", ignore_errors=True)
-    return busy([GB, task], folder)
+def first_build(gb, folder, layout):
+    for name in ("build", ".gb"):
+        shutil.rmtree(folder / name, ignore_errors=True)
+    return run([gb, layout.task], folder)
 
 
 def copied(folder):
     shutil.rmtree(folder / "copied", ignore_errors=True)
-    return busy(["sh", "-c", COPIED], folder)
+    return run(COPIED, folder)
 
 
-def edited(folder, task, place):
-    written(folder / place)
-    return busy([GB, task], folder)
-
-
-LAYOUTS = [(tasks, 1000), (tasks, 2000), (tasks, 4000), (chain, 1000), (chain, 4000),
-           (copies, 10000), (parts, 10000)]
-for layout, count in LAYOUTS:
+def measured(gb, name, count):
+    """The rows of a layout in one size."""
+    make, _, rounds = LAYOUTS[name]
+    layout = make(count)
     with tempfile.TemporaryDirectory() as room:
         folder = pathlib.Path(room)
-        task, script, place = layout(folder, count)
-        (folder / "build.gb").write_text(script)
-        busy([GB, task], folder)
-        told(f"{layout.__name__} {count}", {
-            "nothing to do": lambda: busy([GB, task], folder),
-            "one edit": lambda: edited(folder, task, place),
-            "sha256sum": lambda: busy(["sh", "-c", SUMS], folder),
-        }, 3 if layout is parts else 7)
-        if (layout, count) == (tasks, 1000):
-            told("first build of 1000", {
-                "gb": lambda: first_build(folder, task),
-                "sha256sum": lambda: copied(folder),
-            })
+        lay_out(folder, layout)
+        run([gb, layout.task], folder)
+        runs = {
+            "nothing to do": lambda: run([gb, layout.task], folder),
+            "one edit": lambda: edited(gb, folder, layout),
+            "sha256sum": lambda: run(SUMS, folder),
+        }
+        yield told(name, count, least(runs, rounds))
+        if (name, count) == FIRST_BUILD:
+            runs = {"gb": lambda: first_build(gb, folder, layout), "sha256sum": lambda: copied(folder)}
+            yield told("first build", count, least(runs, rounds))
+
+
+given = words_given(__doc__, layout="of " + ", ".join(LAYOUTS))
+rows = []
+for name in given.layout or LAYOUTS:
+    for count in LAYOUTS[name][1]:
+        rows += measured(given.gb, name, count)
+keep("sums", given, rows)

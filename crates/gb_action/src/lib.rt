@@ -15,7 +15,6 @@ pub mod change;
 pub mod files;
 pub mod laws;
 pub mod list;
-mod named;
 pub mod output;
 pub mod reply;
 pub mod request;

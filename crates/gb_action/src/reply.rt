@@ -1,12 +1,12 @@
 //! What an action answers.
-ghost use Rattle.std.specs.Prelude.{◌≡◌, [], ◌∷◌, ◌++◌, OnOk, OnErr};
+ghost use Rattle.std.specs.Prelude.{◌≡◌};
 
 use gb_core::bytes::Bytes;
 use gb_core::name::Name;
 use gb_core::place::RelPath;
+use gb_core::row::Row;
 use gb_core::text::{Text, Texts};
-use std::alloc::{AllocError, AllocFailed, Global};
-use std::marker::Model;
+use std::alloc::{AllocError, AllocFailed};
 use thiserror::Error;
 
 /// A file to write: the output, the path from its place (none for the place itself), the bytes.
@@ -21,46 +21,7 @@ pub struct Written {
 }
 
 /// Files to write, one after another: of two at one path the later counts.
-#[derive(Drop)]
-pub struct Writes {
-    files: Vec<Written>,
-}
-
-impl Model for Writes {
-    ghost use Rattle.std.specs.Prelude.{List};
-    ghost use Rattle.gb_action.specs.declared.reply.Written.{Written};
-
-    ghost Value = { List Written };
-
-    ghost view = { λ w. w.files.items };
-}
-
-impl Writes {
-    /// No file yet.
-    pub fn new(alloc: Global) -> Writes
-        ensures { result ≡ [] }
-    {
-        Writes {
-            files: Vec::new(alloc),
-        }
-    }
-
-    /// Puts a file behind the others.
-    pub fn push(&mut self, file: Written) -> Result<(), AllocError>
-        ensures ok { OnOk result (self.new ≡ self.old ++ file ∷ []) }
-        ensures err { OnErr result (self.new ≡ self.old) }
-    {
-        self.files.push(file)?;
-        Ok(())
-    }
-
-    /// The files in the order in which they are written.
-    pub fn as_slice(&self) -> &[Written]
-        ensures { result.now ≡ self.now }
-    {
-        self.files.as_slice()
-    }
-}
+pub type Writes = Row<Written>;
 
 /// A path of an output.
 #[derive(Drop)]
@@ -71,47 +32,8 @@ pub struct OutputPath {
     pub path: RelPath,
 }
 
-/// Files to remove.
-#[derive(Drop)]
-pub struct Removals {
-    paths: Vec<OutputPath>,
-}
-
-impl Model for Removals {
-    ghost use Rattle.std.specs.Prelude.{List};
-    ghost use Rattle.gb_action.specs.declared.reply.OutputPath.{OutputPath};
-
-    ghost Value = { List OutputPath };
-
-    ghost view = { λ r. r.paths.items };
-}
-
-impl Removals {
-    /// No path yet.
-    pub fn new(alloc: Global) -> Removals
-        ensures { result ≡ [] }
-    {
-        Removals {
-            paths: Vec::new(alloc),
-        }
-    }
-
-    /// Puts a path behind the others.
-    pub fn push(&mut self, path: OutputPath) -> Result<(), AllocError>
-        ensures ok { OnOk result (self.new ≡ self.old ++ path ∷ []) }
-        ensures err { OnErr result (self.new ≡ self.old) }
-    {
-        self.paths.push(path)?;
-        Ok(())
-    }
-
-    /// The paths in the order in which they are removed.
-    pub fn as_slice(&self) -> &[OutputPath]
-        ensures { result.now ≡ self.now }
-    {
-        self.paths.as_slice()
-    }
-}
+/// Files to remove, in the order in which they go.
+pub type Removals = Row<OutputPath>;
 
 /// Lines to print, without their line feeds.
 pub type Lines = Texts;

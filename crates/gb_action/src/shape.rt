@@ -1,6 +1,7 @@
 //! What the call of an action looks like.
 ghost use Rattle.std.specs.Prelude.{◌≡◌, [], ◌∷◌, ◌++◌, OnOk, OnErr};
-ghost use Rattle.gb_action.specs.Shapes.{arg_fits, arg_of, args_fit, fit, has_output, has_source, is_optional};
+ghost use Rattle.gb_action.specs.Shapes.{arg_fits, arg_of, args_fit, fit, has_output, has_source};
+ghost use Rattle.gb_action.specs.Shapes.{is_optional};
 ghost use Rattle.gb_action.specs.Shapes.{text_fits};
 ghost use Rattle.gb_action.specs.declared.shape.Parameter.TheVariants.{Optional, Required};
 

@@ -1,5 +1,4 @@
 //! Events over a folder, and what becomes of it.
-use crate::offering::Handed;
 use gb_action::actions::Actions;
 use gb_core::bytes::Bytes;
 use gb_core::place::Place;
@@ -9,6 +8,7 @@ use gb_folder::memory::MemoryFolder;
 use gb_listen::listener::{Recorder, TaskListener};
 use gb_meaning::events::{Answer, Event};
 use gb_provider::transforms::Transforms;
+use gb_registry::tables::Handed;
 use gb_report::render::{render, render_fault};
 use gb_words::words::read;
 use std::alloc::Global;

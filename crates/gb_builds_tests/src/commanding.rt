@@ -1,7 +1,7 @@
 //! What the words of a command come to in a folder on a disk.
 use crate::building::words_of;
 use crate::ending::FailingWriter;
-use crate::offering::{Handed, offered};
+use crate::offering::offered;
 use gb_action::actions::Actions;
 use gb_command::run::run;
 use gb_core::place::Place;
@@ -11,6 +11,7 @@ use gb_folder::memory::MemoryFolder;
 use gb_kinds::builtin::Builtin;
 use gb_printer::page::Page;
 use gb_provider::transforms::Transforms;
+use gb_registry::tables::Handed;
 use std::alloc::Global;
 use std::fs;
 use std::test::Fail;

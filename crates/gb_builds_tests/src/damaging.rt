@@ -1,12 +1,13 @@
 //! Builds over what stands in the way of records, over a damaged one, and of more than an output may hold.
 use crate::building::{Step, bytes_at, go_on, held, is_told, is_told_of};
-use crate::offering::{Handed, offered, offered_joining};
+use crate::offering::{offered, offered_joining};
 use gb_action::actions::Actions;
 use gb_core::place::Place;
 use gb_folder::folder::Folder;
 use gb_folder::memory::MemoryFolder;
 use gb_kinds::builtin::Builtin;
 use gb_provider::transforms::Transforms;
+use gb_registry::tables::Handed;
 use std::alloc::Global;
 use std::test::Fail;
 

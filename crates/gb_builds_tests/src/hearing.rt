@@ -1,7 +1,7 @@
 //! What listeners hear of builds of two tasks, over a device that fails and beside one that refuses.
 use crate::building::{Step, are_held, go_on, is_told, is_told_of, told_beside, told_of};
 use crate::listening::{Refusing, heard_by_each, heard_text};
-use crate::offering::{Handed, offered};
+use crate::offering::offered;
 use gb_action::actions::Actions;
 use gb_folder::faulty::{FaultMode, FaultyFolder};
 use gb_folder::folder::Folder;
@@ -9,6 +9,7 @@ use gb_folder::memory::MemoryFolder;
 use gb_kinds::builtin::Builtin;
 use gb_listen::listener::{Recorder, TaskListener};
 use gb_provider::transforms::Transforms;
+use gb_registry::tables::Handed;
 use std::alloc::Global;
 use std::test::Fail;
 

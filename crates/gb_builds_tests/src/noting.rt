@@ -2,7 +2,7 @@
 //! stopped, and one in whose folder somebody else writes before each call.
 use crate::building::{Step, go_on, told_of};
 use crate::disturbing::Disturbed;
-use crate::offering::{Handed, offered};
+use crate::offering::offered;
 use gb_action::actions::Actions;
 use gb_folder::faulty::{FaultMode, FaultyFolder};
 use gb_folder::folder::Folder;
@@ -10,6 +10,7 @@ use gb_folder::memory::MemoryFolder;
 use gb_folder::noted::{Note, NotedFolder};
 use gb_kinds::builtin::Builtin;
 use gb_provider::transforms::Transforms;
+use gb_registry::tables::Handed;
 use std::alloc::Global;
 use std::test::Fail;
 

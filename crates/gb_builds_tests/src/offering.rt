@@ -10,17 +10,9 @@ use gb_kinds::shapes::{
 };
 use gb_kinds::texts::write_text;
 use gb_provider::transforms::Transforms;
-use gb_registry::tables::Tables;
+use gb_registry::tables::{Handed, Tables};
 use std::alloc::Global;
 use std::test::Fail;
-
-pub type Handed<A, T> = Tables<
-    <A as Actions>::Stored,
-    <T as Transforms>::Map,
-    <T as Transforms>::FlatMap,
-    <T as Transforms>::Zip,
-    <T as Transforms>::Test,
->;
 
 fn writing(alloc: Global) -> Result<StoredAction, Fail> {
     let shape = write_text_shape(alloc)?;

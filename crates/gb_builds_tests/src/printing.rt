@@ -1,6 +1,6 @@
 //! What is printed of a build, and when.
 use crate::building::words_of;
-use crate::offering::{Handed, offered};
+use crate::offering::offered;
 use gb_action::actions::Actions;
 use gb_command::run::run;
 use gb_core::place::Place;
@@ -9,6 +9,7 @@ use gb_folder::memory::MemoryFolder;
 use gb_kinds::builtin::Builtin;
 use gb_printer::page::Page;
 use gb_provider::transforms::Transforms;
+use gb_registry::tables::Handed;
 use std::alloc::Global;
 use std::io::{self, ErrorKind, Write};
 use std::test::Fail;

@@ -1,11 +1,12 @@
 //! Builds over a device that fails at one of their calls, and the builds after them.
 use crate::building::{Step, are_held, bytes_at, go_on, held, is_told_of, told_of};
-use crate::offering::{Handed, offered};
+use crate::offering::offered;
 use gb_action::actions::Actions;
 use gb_folder::faulty::{FaultMode, FaultyFolder};
 use gb_folder::memory::MemoryFolder;
 use gb_kinds::builtin::Builtin;
 use gb_provider::transforms::Transforms;
+use gb_registry::tables::Handed;
 use std::alloc::Global;
 use std::test::Fail;
 

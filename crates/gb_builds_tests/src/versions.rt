@@ -1,12 +1,13 @@
 //! Builds from records of other programs: of an older version of a kind, and in the older form.
 use crate::building::{Step, bytes_at, go_on};
-use crate::offering::{Handed, offered, offered_anew};
+use crate::offering::{offered, offered_anew};
 use gb_action::actions::Actions;
 use gb_core::place::Place;
 use gb_folder::folder::Folder;
 use gb_folder::memory::MemoryFolder;
 use gb_kinds::builtin::Builtin;
 use gb_provider::transforms::Transforms;
+use gb_registry::tables::Handed;
 use std::alloc::Global;
 use std::test::Fail;
 

@@ -1,7 +1,7 @@
 //! What `gb_why` tells of tasks; that of a whole folder on a disk is told by the run of its own crate.
 use crate::building::{Step, go_on, is_told, words_of};
 use crate::ending::FailingWriter;
-use crate::offering::{Handed, offered};
+use crate::offering::offered;
 use gb_action::actions::Actions;
 use gb_core::place::Place;
 use gb_folder::folder::Folder;
@@ -9,6 +9,7 @@ use gb_folder::memory::MemoryFolder;
 use gb_kinds::builtin::Builtin;
 use gb_printer::page::Page;
 use gb_provider::transforms::Transforms;
+use gb_registry::tables::Handed;
 use gb_why_command::run::run;
 use std::alloc::Global;
 use std::test::Fail;

@@ -24,7 +24,7 @@ use Rattle.gb_plan.specs.declared.task.TaskDeclaration.{TaskDeclaration as Task}
 use Rattle.gb_report.specs.declared.fault.Fault.{Fault}
 use Rattle.gb_report.specs.declared.report.Options.{Options}
 use Rattle.gb_tree.specs.Prints.{digests_of}
-use Rattle.gb_tree.specs.Property.{distinct, doubled, entries_in, entries_of, found, in_order, is_in, lets_in, path_of, paths_of, seen_from}
+use Rattle.gb_tree.specs.Property.{distinct, doubled, entries_in, entries_of, found, in_order, is_in, lets_in, path_of, paths_of, seen_from, places_of, starts_in}
 use Rattle.gb_tree.specs.Tree.{Entries, contents_at, entries_from, odd_roots, too_large, too_many}
 use Rattle.gb_tree.specs.declared.fault.TreeFault.{TreeFault}
 use Rattle.gb_tree.specs.declared.fault.TreeFault.TheVariants as trees
@@ -73,23 +73,23 @@ module _ (include exclude : List (List ℕ)) (root : Place) where
   abbrev belongs : Place → Bool
   belongs = is_in include exclude root
 
-  abbrev places_of : Files → List Place
-  places_of files = map (λ (file : Place × Bytes). file.0) files
+  abbrev file_places : Files → List Place
+  file_places files = map (λ (file : Place × Bytes). file.0) files
 
   in_same : (files : Files) → filter belongs (places_under (files_where is_kept files) root) ≡ filter belongs (places_under files root)
   in_same [] = refl
   in_same (f ∷ files) =
       let rest = in_same files in
       let within : Place → Bool = λ place. is_under place root in
-      let there : List Place = filter belongs (places_of (files_where within files)) in
-      elim (is_own f.0) as (λ own. is_own f.0 ≡ own → filter belongs (places_of (files_where within (cond (not own) (f ∷ files_where is_kept files) (files_where is_kept files))))
-      ≡ filter belongs (places_of (cond (within f.0) (f ∷ files_where within files) (files_where within files)))) [
-        | true ↦ λ own. rest ∙ elim (within f.0) as (λ b. there ≡ filter belongs (places_of (cond b (f ∷ files_where within files) (files_where within files)))) [
+      let there : List Place = filter belongs (file_places (files_where within files)) in
+      elim (is_own f.0) as (λ own. is_own f.0 ≡ own → filter belongs (file_places (files_where within (cond (not own) (f ∷ files_where is_kept files) (files_where is_kept files))))
+      ≡ filter belongs (file_places (cond (within f.0) (f ∷ files_where within files) (files_where within files)))) [
+        | true ↦ λ own. rest ∙ elim (within f.0) as (λ b. there ≡ filter belongs (file_places (cond b (f ∷ files_where within files) (files_where within files)))) [
           | true ↦ sym (ap (λ o. cond (not o && lets_in include exclude (seen_from root f.0)) (f.0 ∷ there) there) own)
           | false ↦ refl
         ]
-        | false ↦ λ _. elim (within f.0) as (λ b. filter belongs (places_of (cond b (f ∷ files_where within (files_where is_kept files)) (files_where within (files_where is_kept files))))
-            ≡ filter belongs (places_of (cond b (f ∷ files_where within files) (files_where within files)))) [
+        | false ↦ λ _. elim (within f.0) as (λ b. filter belongs (file_places (cond b (f ∷ files_where within (files_where is_kept files)) (files_where within (files_where is_kept files))))
+            ≡ filter belongs (file_places (cond b (f ∷ files_where within files) (files_where within files)))) [
               | true ↦ ap (λ (xs : List Place). cond (belongs f.0) (f.0 ∷ xs) xs) rest
               | false ↦ rest
             ]
@@ -140,7 +140,7 @@ module _ (property : FileProperty) (files : Files) where
 
   faults_outside : (odd : List (List ℕ)) → tree_faults property (record { files = files_where is_kept files; odd = odd }) ≡ tree_faults property (record { files = files; odd = odd })
   faults_outside odd =
-      ap₂ (λ (es : Entries) (large : List TreeFault). map told_of_tree ((odd_roots (record { files = files; odd = odd }) (distinct property.roots) ++ too_many property.name es
+      ap₂ (λ (es : Entries) (large : List TreeFault). map told_of_tree ((odd_roots (record { files = files; odd = odd }) (places_of (starts_in property.include (distinct property.roots))) ++ too_many property.name es
       ++ map (trees.DuplicateInput property.name) (doubled (paths_of es))) ++ large)) entries_are
       (ap (too_large (files_where is_kept files)) entries_are ∙ large_same is_kept files (entries files) all_kept)
 

@@ -18,20 +18,11 @@ use gb_listen::listener::Recorder;
 use gb_meaning::events::Invocation;
 use gb_printer::printer::Printer;
 use gb_provider::transforms::Transforms;
-use gb_registry::tables::Tables;
+use gb_registry::tables::Handed;
 use gb_report::fault::Fault;
 use gb_report::report::Report;
 use gb_words::words::read;
 use std::alloc::Global;
-
-/// The stored actions and functions that scripts may name.
-pub type Handed<A, T> = Tables<
-    <A as Actions>::Stored,
-    <T as Transforms>::Map,
-    <T as Transforms>::FlatMap,
-    <T as Transforms>::Zip,
-    <T as Transforms>::Test,
->;
 
 /// The status where the answer cannot be printed.
 pub const UNPRINTED: u8 = 1;
@@ -103,7 +94,7 @@ fn answered<A: Actions, T: Transforms, F: Folder, W: Printer>(
 }
 
 /// What the words ask for.
-fn asked_by(alloc: Global, words: Result<Vec<String>, Fault>) -> Result<Invocation, Fault>
+pub fn asked_by(alloc: Global, words: Result<Vec<String>, Fault>) -> Result<Invocation, Fault>
     ensures { MatchResult result
         (AskFor (given_of (λ words. map string_bytes words.items) words))
         (AreRefused (given_of (λ words. map string_bytes words.items) words)) }

@@ -1,12 +1,13 @@
 -- Lists of tasks in order.
-use Rattle.std.proofs.Common.{◌≡◌, ℕ, List, [], ◌∷◌, ◌++◌, length, take, append-nil, refl, sym, ap, subst, ◌∙◌, Result, Ok, Err, OnErr}
+use Rattle.std.proofs.Common.{◌≡◌, ℕ, List, [], ◌∷◌, ◌++◌, length, take, append-nil, refl, sym, ap, subst, ◌∙◌, Result, Ok, Err, OnErr, OnOk, arith}
 use Rattle.std.specs.BTreeSet.{insert_key}
-use Rattle.std.specs.List.{AllByRecursion}
+use Rattle.std.specs.List.{AllByRecursion, AllZip}
 use Rattle.std.specs.List.Sorted.{IsStrictlySortedBy}
 use Rattle.std.specs.Ordering.{match_ordering, ordering_reverse}
 use Rattle.std.specs.Cmp.Lexicographic.{nat_list_cmp_total}
 use Rattle.std.specs.declared.cmp.Ordering.TheVariants.{Less, Greater}
 use Rattle.std.proofs.lemmas.List.{append_assoc}
+use Rattle.std.proofs.lemmas.List.Elements.{same_from_all_zip}
 use Rattle.std.proofs.Math.Seq.{take-append_seam}
 use Rattle.gb_core.specs.Tasks.{with_tasks}
 use Rattle.gb_core.specs.Lists.{byte_order}
@@ -59,3 +60,12 @@ front_counted there now front whole rest is put =
 pub if_refused : {T E P : Type 0} (result : Result T E) → P → OnErr result P
 if_refused (Ok value) p = tt
 if_refused (Err error) p = p
+
+-- a clone of tasks in order is what comes of putting them in where none is
+pub with_cloned : (there tasks cloned : List (List ℕ)) → length there ≡ 0 → IsStrictlySortedBy byte_order tasks → AllZip (λ task copied. copied ≡ task) tasks cloned → cloned ≡ with_tasks there tasks
+with_cloned [] tasks cloned none sorted same = same_from_all_zip (λ task copied. copied ≡ task) tasks cloned same (λ x y e. e) ∙ sym (with_ordered tasks sorted)
+with_cloned (task ∷ there) tasks cloned none sorted same = absurd (omega arith)
+
+pub if_done : {T E P Q : Type 0} (result : Result T E) → (P → Q) → OnOk result P → OnOk result Q
+if_done (Ok value) f p = f p
+if_done (Err error) f p = tt

@@ -10,6 +10,7 @@ pub mod laws;
 pub mod name;
 pub mod path;
 pub mod place;
+pub mod row;
 pub mod tasks;
 pub mod text;
 pub mod value;

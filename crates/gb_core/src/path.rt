@@ -153,6 +153,14 @@ impl TaskPath {
     }
 }
 
+impl Clone for TaskPath {
+    ghost is_clone = { λ path copied. copied ≡ path };
+
+    fn clone(&self) -> Result<TaskPath, AllocError> {
+        self.copy()
+    }
+}
+
 impl fmt::Display for TaskPath {
     ghost use Rattle.std.specs.Prelude.{Some};
 
@@ -174,13 +182,15 @@ pub fn is_task_path(text: &str) -> bool
     }
 }
 
-fn root_if_empty(front: &str) -> &str
+/// The path of the project, `:` where nothing stands in front of the last colon.
+pub fn root_if_empty(front: &str) -> &str
     ensures { result.now ≡ root_if_empty front.now }
 {
     if front.is_empty() { ":" } else { front }
 }
 
-fn is_project_path(text: &str) -> bool
+/// Whether the text is the path of a project.
+pub fn is_project_path(text: &str) -> bool
     ensures { result ≡ is_project_path text.now }
 {
     text == ":" || is_task_path(text)

@@ -1,10 +1,11 @@
 //! Task paths in sets and in rows.
-ghost use Rattle.std.specs.Prelude.{◌≡◌, ◌↔◌, ℕ, [], ◌∷◌, ◌++◌, take, IfOk, IsTrue, OnOk, OnErr};
+ghost use Rattle.std.specs.Prelude.{◌≡◌, ◌↔◌, ℕ, [], take, IfOk, IsTrue, OnOk, OnErr};
 ghost use Rattle.std.specs.BTreeSet.{insert_key};
 ghost use Rattle.gb_core.specs.Lists.{byte_order};
 ghost use Rattle.gb_core.specs.Tasks.{with_tasks};
 
 use crate::path::TaskPath;
+use crate::row::{Copies, Row};
 use std::alloc::{AllocError, Global};
 use std::collections::BTreeSet;
 use std::collections::btree_set::Iter;
@@ -18,10 +19,14 @@ pub struct TaskPaths {
 
 impl Model for TaskPaths {
     ghost use Rattle.std.specs.Prelude.{List, ℕ};
+    ghost use Rattle.std.specs.List.Sorted.{IsStrictlySortedBy};
+    ghost use Rattle.gb_core.specs.Lists.{byte_order};
 
     ghost Value = { List (List ℕ) };
 
     ghost view = { λ t. t.paths.keys };
+
+    ghost invariant = { λ t. IsStrictlySortedBy byte_order t.paths.keys };
 }
 
 impl TaskPaths {
@@ -48,6 +53,9 @@ impl TaskPaths {
         ensures ok { OnOk result (self.new ≡ with_tasks self.old more.now) }
         ensures err { OnErr result ((added : ℕ) × (self.new ≡ with_tasks self.old (take added more.now))) }
     {
+        if self.paths.is_empty() {
+            return self.paths.clone_from(&more.paths);
+        }
         for task in &more.paths {
             self.insert(task.copy()?)?;
         }
@@ -73,61 +81,16 @@ impl TaskPaths {
         ensures { IfOk result (λ copied. copied ≡ self.now) }
     {
         let mut copied = TaskPaths::new(alloc);
-        for task in &self.paths {
-            copied.insert(task.copy()?)?;
-        }
+        copied.paths.clone_from(&self.paths)?;
         Ok(copied)
     }
 }
 
 /// Tasks in a row, as they follow one another.
-#[derive(Debug, Drop)]
-pub struct TaskList {
-    paths: Vec<TaskPath>,
-}
+pub type TaskList = Row<TaskPath>;
 
-impl Model for TaskList {
-    ghost use Rattle.std.specs.Prelude.{List, ℕ};
-
-    ghost Value = { List (List ℕ) };
-
-    ghost view = { λ t. t.paths.items };
-}
-
-impl TaskList {
-    /// No task yet.
-    pub fn new(alloc: Global) -> TaskList
-        ensures { result ≡ [] }
-    {
-        TaskList {
-            paths: Vec::new(alloc),
-        }
-    }
-
-    /// Puts a task behind the others.
-    pub fn push(&mut self, task: TaskPath) -> Result<(), AllocError>
-        ensures ok { OnOk result (self.new ≡ self.old ++ task ∷ []) }
-        ensures err { OnErr result (self.new ≡ self.old) }
-    {
-        self.paths.push(task)?;
-        Ok(())
-    }
-
-    /// The tasks in their order, each as often as it was put in.
-    pub fn as_slice(&self) -> &[TaskPath]
-        ensures { result.now ≡ self.now }
-    {
-        self.paths.as_slice()
-    }
-
-    /// Equal tasks in the same order.
-    pub fn copy(&self, alloc: Global) -> Result<TaskList, AllocError>
-        ensures { IfOk result (λ copied. copied ≡ self.now) }
-    {
-        let mut copied = TaskList::new(alloc);
-        for task in self.paths.iter() {
-            copied.push(task.copy()?)?;
-        }
-        Ok(copied)
+impl Copies for TaskPath {
+    fn copied(&self, _alloc: Global) -> Result<TaskPath, AllocError> {
+        self.copy()
     }
 }

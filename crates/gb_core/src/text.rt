@@ -1,6 +1,7 @@
 //! Any text, and texts in a row.
-ghost use Rattle.std.specs.Prelude.{◌≡◌, [], ◌∷◌, ◌++◌, string_bytes, IfOk, OnOk, OnErr};
+ghost use Rattle.std.specs.Prelude.{◌≡◌, string_bytes, IfOk};
 
+use crate::row::{Copies, Row};
 use std::alloc::{AllocError, Global};
 use std::cmp::Ordering;
 use std::fmt;
@@ -129,63 +130,10 @@ impl Ord for Text {
 }
 
 /// Texts in a row.
-#[derive(Debug, Drop)]
-pub struct Texts {
-    texts: Vec<Text>,
-}
+pub type Texts = Row<Text>;
 
-impl Model for Texts {
-    ghost use Rattle.std.specs.Prelude.{List, ℕ};
-
-    ghost Value = { List (List ℕ) };
-
-    ghost view = { λ t. t.texts.items };
-}
-
-impl Texts {
-    /// No text yet.
-    pub fn new(alloc: Global) -> Texts
-        ensures { result ≡ [] }
-    {
-        Texts {
-            texts: Vec::new(alloc),
-        }
-    }
-
-    /// Puts a text behind the others.
-    pub fn push(&mut self, text: Text) -> Result<(), AllocError>
-        ensures ok { OnOk result (self.new ≡ self.old ++ text ∷ []) }
-        ensures err { OnErr result (self.new ≡ self.old) }
-    {
-        self.texts.push(text)?;
-        Ok(())
-    }
-
-    /// The texts in their order.
-    pub fn as_slice(&self) -> &[Text]
-        ensures { result.now ≡ self.now }
-    {
-        self.texts.as_slice()
-    }
-
-    /// Puts other texts behind these; a refusal leaves these as they were.
-    pub fn append(&mut self, other: Texts) -> Result<(), AllocError>
-        ensures ok { OnOk result (self.new ≡ self.old ++ other) }
-        ensures err { OnErr result (self.new ≡ self.old) }
-    {
-        let mut texts = other.texts;
-        self.texts.append(&mut texts)?;
-        Ok(())
-    }
-
-    /// Equal texts in the same order.
-    pub fn copy(&self, alloc: Global) -> Result<Texts, AllocError>
-        ensures { IfOk result (λ copied. copied ≡ self.now) }
-    {
-        let mut copied = Texts::new(alloc);
-        for text in self.texts.iter() {
-            copied.push(text.copy()?)?;
-        }
-        Ok(copied)
+impl Copies for Text {
+    fn copied(&self, _alloc: Global) -> Result<Text, AllocError> {
+        self.copy()
     }
 }

@@ -3,6 +3,7 @@ ghost use Rattle.std.specs.Prelude.{◌≡◌, IfOk};
 
 use crate::path::TaskPath;
 use crate::place::Place;
+use crate::row::Copies;
 use crate::text::{Text, Texts};
 use std::alloc::{AllocError, Global};
 
@@ -33,5 +34,11 @@ impl Value {
             Value::Place(place) => Ok(Value::Place(place.copy()?)),
             Value::Task(task) => Ok(Value::Task(task.copy()?)),
         }
+    }
+}
+
+impl Copies for Value {
+    fn copied(&self, alloc: Global) -> Result<Value, AllocError> {
+        self.copy(alloc)
     }
 }

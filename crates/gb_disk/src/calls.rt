@@ -48,8 +48,9 @@ impl<R: Files> Device<R> {
         ensures under { IfOk result (λ places. AllUnder root.now places.items) }
         ensures err { IfErr result IsOfListing }
     {
-        let found = self.walk(alloc, &mut trail.path, root)?;
+        let found = self.walk(alloc, trail, root)?;
         trail.remember(root.as_str())?;
+        trail.take_up(found.files.as_slice(), found.len)?;
         Ok(found.files)
     }
 
@@ -210,7 +211,7 @@ impl<R: Files> Device<R> {
     fn walk_through(&self, trail: &mut Trail, place: &Place) -> Result<Found, FolderFault>
         ensures { IfErr result IsOfMachine }
     {
-        match self.walk(self.allocator(), &mut trail.path, place) {
+        match self.walk(self.allocator(), trail, place) {
             Err(FolderFault::OutOfMemory) => Err(FolderFault::OutOfMemory),
             Err(_) => Err(FolderFault::Device),
             found => found,

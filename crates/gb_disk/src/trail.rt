@@ -1,5 +1,5 @@
-//! What the calls of a folder leave for those that follow: the path made last, the folders met last, and the
-//! file listed last.
+//! What the calls of a folder leave for those that follow: room for a path and for names, the folders met
+//! last, and the file listed last.
 ghost use Rattle.std.specs.Prelude.{◌≡◌, IfOk};
 ghost use Rattle.gb_disk.specs.Disk.{AllUnder};
 
@@ -11,7 +11,7 @@ use std::alloc::{AllocError, Global};
 const MOST: usize = 8;
 
 /// The folders that were met last, so that what stands in one of them is looked at by its whole path at once,
-/// and the file that the call before listed by its own place, so that a read of it does not look again.
+/// and the file that the call before listed alone, so that a read of it does not look again.
 ///
 /// If somebody else writes in the folder during a build, what stands at a place is still seen as it is, but
 /// for two changes. A look by a whole path that finds neither a file nor a folder, as beneath a folder that
@@ -19,7 +19,7 @@ const MOST: usize = 8;
 /// goes down from there anyway. Not noticed, until so many other folders were met or a call fails, is a link
 /// put in place of a known folder, where it leads to a folder with a file or a folder at the rest of the
 /// place: `list`, `read` and `read_part` follow it. Nor is it noticed if a file changes its length, or gives
-/// way to another one, to a link, a pipe or a device, between a `list` of its place and a `read` or
+/// way to another one, to a link, a pipe or a device, between a `list` that answers it alone and a `read` or
 /// `read_part` of it that comes next: what stands there is opened, and as many bytes are read as were listed,
 /// or all of them where none were. If it cannot be read, or not so many bytes of it, as where the file went,
 /// it is looked at once more.
@@ -27,9 +27,11 @@ const MOST: usize = 8;
 pub(crate) struct Trail {
     /// Room for the path that the next call is made at.
     pub path: String,
-    /// The places at which folders stood, and above which too, the last one at the end.
+    /// Room for the names of a folder that is listed.
+    pub names: Vec<u8>,
+    /// The places at which folders stood, and above which too, the one met last at the end.
     known: Vec<String>,
-    /// The file that the call before listed by its own place.
+    /// The file that the call before listed alone.
     listed: Option<Listed>,
 }
 
@@ -45,20 +47,31 @@ impl Trail {
     pub fn new(alloc: Global) -> Trail {
         Trail {
             path: String::new(alloc),
+            names: Vec::new(alloc),
             known: Vec::new(alloc),
             listed: None,
         }
     }
 
-    /// Whether a folder is known to stand at this place and above it.
-    fn knows(&self, folder: &str) -> bool {
-        self.known.iter().any(|known| known.as_str() == folder)
+    /// Whether a folder is known to stand at this place and above it. It is then the one met last.
+    fn meets(&mut self, folder: &str) -> bool
+        ensures { self.new.path ≡ self.old.path }
+    {
+        match self.known.iter().position(|known| known.as_str() == folder) {
+            Some(at) => {
+                self.known.slice_mut(at..).rotate_left(1);
+                true
+            }
+            None => false,
+        }
     }
 
     /// Whether the folder above the place is known, or none is above it.
-    pub fn knows_above(&self, place: &Place) -> bool {
+    pub fn meets_above(&mut self, place: &Place) -> bool
+        ensures { self.new.path ≡ self.old.path }
+    {
         match place.as_str().rsplit_once('/') {
-            Some((folder, _)) => self.knows(folder),
+            Some((folder, _)) => self.meets(folder),
             None => true,
         }
     }
@@ -77,11 +90,12 @@ impl Trail {
     pub fn remember(&mut self, folder: &str) -> Result<(), AllocError>
         ensures { self.new.path ≡ self.old.path }
     {
-        if self.knows(folder) {
+        if self.meets(folder) {
             return Ok(());
         }
         let copy = String::from_str(*self.path.allocator(), folder)?;
         if self.known.len() == MOST {
+            // The one that was met longest ago.
             self.known.remove(0);
         }
         Ok(self.known.push(copy)?)
@@ -97,11 +111,22 @@ impl Trail {
         ensures path { self.new.path ≡ self.old.path }
         ensures under { IfOk result (λ places. AllUnder place.now places.items) }
     {
-        self.listed = Some(Listed {
-            place: place.copy()?,
-            len,
-        });
-        alone(alloc, place)
+        let places = alone(alloc, place)?;
+        self.take_up(places.as_slice(), len)?;
+        Ok(places)
+    }
+
+    /// Takes up the file that was listed, if it was one alone, of so many bytes.
+    pub fn take_up(&mut self, files: &[Place], len: u64) -> Result<(), AllocError>
+        ensures { self.new.path ≡ self.old.path }
+    {
+        if let [place] = files {
+            self.listed = Some(Listed {
+                place: place.copy()?,
+                len,
+            });
+        }
+        Ok(())
     }
 
     /// The length of the file at the place, if the call before listed it. It is told once.

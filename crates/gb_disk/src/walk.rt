@@ -6,6 +6,7 @@ ghost use Rattle.gb_disk.specs.Disk.{AllUnder, IsOfListing, IsOfMachine};
 use crate::device::Device;
 use crate::names::{alone, places_in};
 use crate::standing::{Standing, fault_of};
+use crate::trail::Trail;
 use gb_core::place::Place;
 use gb_folder::folder::FolderFault;
 use std::alloc::{AllocError, Global};
@@ -23,6 +24,8 @@ const NAMES: usize = 4_096;
 pub(crate) struct Found {
     /// The files met so far, by their whole places.
     pub files: Vec<Place>,
+    /// The length of the file met last.
+    pub len: u64,
     /// The root and the folders beneath it, each behind the one that it stands in.
     pub folders: Vec<Place>,
     /// How many more entries may be met.
@@ -36,6 +39,7 @@ impl Found {
     {
         Ok(Found {
             files: Vec::new(alloc),
+            len: 0,
             folders: alone(alloc, root)?,
             left: MOST_ENTRIES,
         })
@@ -65,7 +69,10 @@ impl Found {
             None => return Err(FolderFault::Device),
         }
         match standing {
-            Standing::File(_) => Ok(self.files.push(place)?),
+            Standing::File(len) => {
+                self.len = len;
+                Ok(self.files.push(place)?)
+            }
             Standing::Folder => Ok(self.folders.push(place)?),
             Standing::Odd => Err(FolderFault::BadFileName),
             // It went while its folder was listed.
@@ -91,13 +98,14 @@ fn next_names<D: Read>(dir: &mut D, names: &mut [u8]) -> Result<usize, FolderFau
 
 impl<R: Files> Device<R> {
     /// Goes through the folder at a root.
-    pub fn walk(&self, alloc: Global, path: &mut String, root: &Place) -> Result<Found, FolderFault>
+    pub fn walk(&self, alloc: Global, trail: &mut Trail, root: &Place) -> Result<Found, FolderFault>
         ensures under { IfOk result (λ found. AllUnder root.now found.files.items) }
         ensures err { IfErr result IsOfListing }
     {
-        let mut names = vec![in alloc; 0u8; NAMES]?;
         let mut found = Found::new(alloc, root)?;
-        self.enter_all(alloc, path, root, names.as_mut_slice(), &mut found)?;
+        trail.names.resize(NAMES, 0)?;
+        let names = trail.names.as_mut_slice();
+        self.enter_all(alloc, &mut trail.path, root, names, &mut found)?;
         Ok(found)
     }
 

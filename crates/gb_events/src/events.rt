@@ -23,7 +23,7 @@ use gb_listen::listener::TaskListener;
 use gb_meaning::events::{Answer, Event};
 use gb_printer::printer::Silent;
 use gb_provider::transforms::Transforms;
-use gb_registry::tables::Tables;
+use gb_registry::tables::Handed;
 use gb_report::fault::Fault;
 use gb_report::report::Report;
 use std::alloc::{AllocError, Global};
@@ -33,7 +33,7 @@ use std::alloc::{AllocError, Global};
 pub fn run_events<A: Actions, T: Transforms, F: Folder, L: TaskListener>(
     alloc: Global,
     folder: &mut F,
-    tables: &Tables<A::Stored, T::Map, T::FlatMap, T::Zip, T::Test>,
+    tables: &Handed<A, T>,
     events: &[Event],
     listeners: &mut Vec<L>,
 ) -> Result<Vec<Answer>, AllocError>
@@ -92,7 +92,7 @@ pub fn run_events<A: Actions, T: Transforms, F: Folder, L: TaskListener>(
 fn take<A: Actions, T: Transforms, F: Folder, L: TaskListener>(
     alloc: Global,
     folder: &mut F,
-    tables: &Tables<A::Stored, T::Map, T::FlatMap, T::Zip, T::Test>,
+    tables: &Handed<A, T>,
     event: &Event,
     listeners: &mut Vec<L>,
 ) -> Answer

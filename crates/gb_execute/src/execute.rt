@@ -29,7 +29,7 @@ use gb_folder::folder::Folder;
 use gb_history::record::Record;
 use gb_listen::laws::told_is_heard;
 use gb_listen::listener::TaskListener;
-use gb_plan::plan::{Plan, Planned};
+use gb_plan::plan::{Plan, Planned, paths_of};
 use gb_printer::printer::Printer;
 use gb_report::report::{Options, Report, TaskReport, TaskReports};
 use gb_start::plans::starts_of;
@@ -129,15 +129,4 @@ fn reported(tasks: Vec<TaskReport>, dry_run: bool, all_heard: bool) -> Report
         dry_run,
         listener_refused: !all_heard,
     }
-}
-
-/// The paths of the tasks.
-fn paths_of(alloc: Global, tasks: &[Planned]) -> Result<Vec<TaskPath>, AllocError>
-    ensures { IfOk result (λ paths. paths.items ≡ order tasks.now) }
-{
-    let mut paths = Vec::new(alloc);
-    for planned in tasks {
-        paths.push(planned.task.path.copy()?)?;
-    }
-    Ok(paths)
 }

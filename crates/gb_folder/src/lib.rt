@@ -20,3 +20,4 @@ pub mod limits;
 pub mod memory;
 pub mod noted;
 pub mod own;
+pub mod range;

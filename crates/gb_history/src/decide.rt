@@ -146,7 +146,7 @@ fn tell(
     ensures { OnOk result (lists.new ≡ lists.old ++ changes_of incremental.now (old.now, new.now)) }
 {
     if is_incremental(incremental, old.name()) {
-        lists.push(old.name().copy()?, compare(alloc, old, new)?)?;
+        lists.push((old.name().copy()?, compare(alloc, old, new)?))?;
     }
     Ok(())
 }

@@ -280,7 +280,7 @@ fn take_outputs(alloc: Global, reader: &mut Reader<'_>) -> Option<Vec<OutputReco
 fn put_value(alloc: Global, reader: &mut Reader<'_>, values: &mut NamedValues) -> Option<()> {
     take_begin_array(reader)?;
     let name = take_name(alloc, reader)?;
-    values.push(name, take_value(alloc, reader)?).ok()?;
+    values.push((name, take_value(alloc, reader)?)).ok()?;
     take_end_array(reader)
 }
 

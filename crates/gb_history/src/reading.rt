@@ -209,7 +209,7 @@ pub fn inputs_from(alloc: Global, items: &[Json]) -> Result<NamedValues, RecordF
     let mut values = NamedValues::new(alloc);
     for item in items {
         let input = input_from(alloc, item)?;
-        values.push(input.0, input.1)?;
+        values.push((input.0, input.1))?;
     }
     Ok(values)
 }

@@ -19,6 +19,7 @@ use gb_folder::file_map::FileMap;
 use gb_folder::limits::{MAX_FILE, MAX_FILES};
 use gb_plan::task::Output;
 use gb_report::fault::Fault;
+use gb_run::placing::place_of;
 use std::alloc::{AllocError, Global};
 use std::collections::BTreeMap;
 
@@ -87,20 +88,6 @@ fn check_file(alloc: Global, all: &FileMap, text: &str, bytes: &Bytes) -> Result
         return Err(Fault::TooLarge(place));
     }
     Ok(())
-}
-
-/// The place that a text is.
-fn place_of(alloc: Global, text: &str) -> Result<Place, Fault>
-    ensures place { IfOk result (λ place. place ≡ text.now) }
-    ensures good { OnOk result (IsTrue (is_place text.now)) }
-    ensures err { IfErr result (λ fault. (fault ≡ Fault.OutOfMemory)
-        ⊎ ((is_place text.now ≡ false) × (fault ≡ Fault.BadPlace text.now))) }
-{
-    match Place::read(alloc, text) {
-        Ok(place) => Ok(place),
-        Err(PlaceFault::OutOfMemory) => Err(Fault::OutOfMemory),
-        Err(PlaceFault::BadPlace) => Err(Fault::BadPlace(Text::from_str(alloc, text)?)),
-    }
 }
 
 /// Whether no output has more files than it may.

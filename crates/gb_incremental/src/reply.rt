@@ -15,6 +15,7 @@ use gb_core::bytes::Bytes;
 use gb_core::name::Name;
 use gb_core::place::{Place, RelPath};
 use gb_plan::task::Output;
+use gb_run::placing::{output_named, text_beneath};
 use std::alloc::{AllocError, Global};
 use std::collections::BTreeMap;
 
@@ -102,18 +103,6 @@ fn put_writes<'a>(
     Ok(())
 }
 
-/// The output of the name.
-fn output_named<'a>(outputs: &'a [Output], name: &Name) -> Option<&'a Output>
-    ensures { option_copied result ≡ output_named outputs.now name.now }
-{
-    for output in outputs.iter() {
-        if output.name == *name {
-            return Some(output);
-        }
-    }
-    None
-}
-
 /// Has a file, or none, stand beneath a place.
 fn put_step<'a>(
     alloc: Global,
@@ -128,16 +117,4 @@ fn put_step<'a>(
     let text = text_beneath(alloc, root, path)?;
     steps.insert(text, bytes)?;
     Ok(())
-}
-
-/// The text of a path beneath a root, whether or not it is a place.
-fn text_beneath(alloc: Global, root: &Place, path: &RelPath) -> Result<String, AllocError>
-    ensures { IfOk result (λ text. string_bytes text ≡ beneath root.now path.now) }
-{
-    let mut text = String::from_str(alloc, root.as_str())?;
-    if !path.as_str().is_empty() {
-        text.push('/')?;
-        text.push_str(path.as_str())?;
-    }
-    Ok(text)
 }

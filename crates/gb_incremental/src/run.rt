@@ -24,7 +24,7 @@ ghost use Rattle.gb_incremental.specs.Asking.{AnswersChanges, CanGoOn, GoesOn, I
 ghost use Rattle.gb_incremental.specs.Changing.{Fails};
 ghost use Rattle.gb_incremental.specs.Turn.{Ends, IsItsTurn, Makes, Stops};
 
-use crate::asking::{ask, full_request, is_writer};
+use crate::asking::{ask, is_writer};
 use crate::planning::planned;
 use crate::standing::{digests_stood, follow_steps};
 use crate::stepping::take_steps;
@@ -39,6 +39,7 @@ use gb_core::text::Texts;
 use gb_folder::folder::Folder;
 use gb_plan::task::{Action, TaskDeclaration};
 use gb_report::fault::Fault;
+use gb_run::asking::full_request;
 use gb_run::digests::Digests;
 use gb_tree::prints::Prints;
 use std::alloc::Global;

@@ -29,7 +29,7 @@ use Rattle.gb_registry.specs.Source.{Source}
 use Rattle.gb_registry.specs.Tables.{Tables}
 use Rattle.gb_report.specs.declared.fault.Fault.{Fault}
 use Rattle.gb_script.specs.declared.script.Statement.{Statement}
-use Rattle.gb_scripts.proofs.PlaceLemmas.{is_fine, projects_fine}
+use Rattle.gb_registry.proofs.Fine.{is_fine, projects_fine}
 use Rattle.gb_tasks.proofs.FolderLemmas.{same_folder}
 use Rattle.gb_project.specs.Registered.{declaration_of, registry_said, settled}
 

@@ -30,7 +30,7 @@ use gb_meaning::events::{Invocation, Properties};
 use gb_printer::printer::Printer;
 use gb_provider::transforms::Transforms;
 use gb_registry::configured::Configured;
-use gb_registry::tables::Tables;
+use gb_registry::tables::Handed;
 use gb_report::fault::Fault;
 use gb_report::report::Report;
 use gb_scripts::reading::read_registry;
@@ -45,7 +45,7 @@ use std::alloc::{AllocError, Global};
 pub fn invoke<A: Actions, T: Transforms, F: Folder, L: TaskListener, P: Printer>(
     alloc: Global,
     folder: &mut F,
-    tables: &Tables<A::Stored, T::Map, T::FlatMap, T::Zip, T::Test>,
+    tables: &Handed<A, T>,
     invocation: &Invocation,
     listeners: &mut Vec<L>,
     printer: &mut P,
@@ -114,7 +114,8 @@ pub fn invoke<A: Actions, T: Transforms, F: Folder, L: TaskListener, P: Printer>
         (events.Invoke invocation.now ∷ []) (answer_of result ∷ [])
         (record { contents = F.contents folder.new; failures = F.failures folder.new }) }
 {
-    let given = copy_given(alloc, &invocation.properties)?;
+    let copied = invocation.properties.copy(alloc)?;
+    let given = copied.into_vec();
     let configured = read_registry::<A, T, F>(alloc, folder, tables, given)?;
     build_registered::<A, T, F, L, P>(alloc, folder, &configured, invocation, listeners, printer)
 }
@@ -174,15 +175,4 @@ fn build_registered<A: Actions, T: Transforms, F: Folder, L: TaskListener, P: Pr
         listeners,
         printer,
     )
-}
-
-/// The values of properties that are given, once more.
-fn copy_given(alloc: Global, properties: &Properties) -> Result<Vec<(Name, Text)>, AllocError>
-    ensures { IfOk result (λ given. given.items ≡ properties.now) }
-{
-    let mut given = Vec::new(alloc);
-    for property in properties.as_slice() {
-        given.push((property.0.copy()?, property.1.copy()?))?;
-    }
-    Ok(given)
 }

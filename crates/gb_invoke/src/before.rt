@@ -10,7 +10,7 @@ ghost use Rattle.gb_invoke.specs.Refusing.{IsUnread};
 use gb_core::path::TaskPath;
 use gb_folder::folder::Folder;
 use gb_history::record::Record;
-use gb_plan::plan::Planned;
+use gb_plan::plan::{Planned, paths_of};
 use gb_records::reading::read_records;
 use gb_report::fault::Fault;
 use std::alloc::{AllocError, Global};
@@ -42,15 +42,4 @@ pub fn records_for<F: Folder>(
     };
     records.resize_with(tasks.len(), || None)?;
     Ok(records)
-}
-
-/// The paths of the tasks.
-fn paths_of(alloc: Global, tasks: &[Planned]) -> Result<Vec<TaskPath>, AllocError>
-    ensures { IfOk result (λ paths. paths.items ≡ order tasks.now) }
-{
-    let mut paths = Vec::new(alloc);
-    for planned in tasks {
-        paths.push(planned.task.path.copy()?)?;
-    }
-    Ok(paths)
 }

@@ -113,7 +113,7 @@ fn outputs_of(alloc: Global, form: Form, files: Files) -> Result<OutputSnapshots
 fn lists_of(alloc: Global, changes: ChangeList) -> Result<ChangeLists, AllocError> {
     let name = source_name(alloc)?;
     let mut lists = ChangeLists::new(alloc);
-    lists.push(name, changes)?;
+    lists.push((name, changes))?;
     Ok(lists)
 }
 

@@ -32,16 +32,6 @@ fn actions_of(alloc: Global, actions: &ActionList<Action>) -> Result<Vec<Action>
     Ok(copies)
 }
 
-fn values_of(alloc: Global, values: &NamedValues) -> Result<NamedValues, AllocError>
-    ensures { IfOk result (λ copies. copies ≡ values.now) }
-{
-    let mut copies = NamedValues::new(alloc);
-    for (name, value) in values.as_slice() {
-        copies.push(name.copy()?, value.copy(alloc)?)?;
-    }
-    Ok(copies)
-}
-
 /// The record of a run of the task with these inputs and outputs, which have the names that it declares.
 pub fn record_of(
     alloc: Global,
@@ -61,6 +51,6 @@ pub fn record_of(
     }) }
 {
     let actions = actions_of(alloc, &task.actions)?;
-    let values = values_of(alloc, &task.values)?;
+    let values = task.values.copy(alloc)?;
     Ok(Record::new(actions, values, inputs, outputs))
 }

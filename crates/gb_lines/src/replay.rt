@@ -22,21 +22,12 @@ use gb_meaning::events::Event;
 use gb_printer::page::Page;
 use gb_printer::printer::Printer;
 use gb_provider::transforms::Transforms;
-use gb_registry::tables::Tables;
+use gb_registry::tables::Handed;
 use gb_report::fault::Fault;
 use gb_report::report::Report;
 use gb_words::words::read;
 use std::alloc::{AllocError, Global};
 use std::io::{ErrorKind, Read, Write};
-
-/// The stored actions and functions that scripts may name.
-pub type Handed<A, T> = Tables<
-    <A as Actions>::Stored,
-    <T as Transforms>::Map,
-    <T as Transforms>::FlatMap,
-    <T as Transforms>::Zip,
-    <T as Transforms>::Test,
->;
 
 /// The most bytes of an input: 64 MiB.
 const MAX_INPUT: u64 = 67_108_864;

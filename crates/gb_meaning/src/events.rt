@@ -4,40 +4,13 @@ ghost use Rattle.std.specs.Prelude.{◌≡◌};
 use gb_core::bytes::Bytes;
 use gb_core::name::Name;
 use gb_core::place::Place;
+use gb_core::row::Row;
 use gb_core::text::{Text, Texts};
 use gb_report::fault::Fault;
 use gb_report::report::{Options, Report};
-use std::marker::Model;
 
-/// The values of properties that an invocation gives, by name.
-#[derive(Drop)]
-pub struct Properties {
-    properties: Vec<(Name, Text)>,
-}
-
-impl Model for Properties {
-    ghost use Rattle.std.specs.Prelude.{List, ℕ};
-
-    ghost Value = { List (List ℕ × List ℕ) };
-
-    ghost view = { λ p. p.properties.items };
-}
-
-impl Properties {
-    /// These values by name, in this order.
-    pub fn from_vec(properties: Vec<(Name, Text)>) -> Properties
-        ensures { result ≡ properties.items }
-    {
-        Properties { properties }
-    }
-
-    /// Each name with its value, as they were handed in.
-    pub fn as_slice(&self) -> &[(Name, Text)]
-        ensures { result.now ≡ self.now }
-    {
-        self.properties.as_slice()
-    }
-}
+/// The values of properties that an invocation gives, by name, as they were handed in.
+pub type Properties = Row<(Name, Text)>;
 
 /// What a build is asked for.
 #[derive(Drop)]

@@ -5,46 +5,26 @@ use Rattle.std.proofs.lemmas.List.Folds.{list_all-append}
 use Rattle.std.specs.Prelude.{bytes_eq, codes, nat_le, nat_lt, zip}
 use Rattle.std.specs.List.{flat_map, list_all}
 use Rattle.gb_core.proofs.BySegments.{segments-joined}
+use Rattle.gb_core.proofs.TaskPaths.{left_of, right_of}
 use Rattle.gb_core.specs.Path.{is_project_path, is_task_path, task_name}
 use Rattle.gb_core.specs.Place.{is_place, is_printable, is_segment, joined, segments}
 use Rattle.gb_report.specs.declared.fault.Fault.{Fault}
 use Rattle.gb_report.specs.declared.fault.Fault.TheVariants as faults
-use Rattle.gb_registry.proofs.Folders.{folder_is_place, lineage_is_good}
+use Rattle.gb_registry.proofs.Fine.{AreFine, both_true, fits, is_fine, projects_fine, short_enough}
+use Rattle.gb_registry.proofs.Folders.{folder_is_place}
 use Rattle.gb_registry.specs.Projects.{Path, absolute, crowd_faults, folder_text, included, is_among, lineage_of, path_faults, paths_faults, place_faults, project_paths, root_path, text_faults, texts_faults, with_path, with_paths}
 use Rattle.gb_script.specs.declared.script.Statement.{Statement}
 use Rattle.gb_project.specs.Whole.{build_folder}
 use Rattle.gb_nodes.specs.Scripts.{build_faults}
 use Rattle.gb_nodes.specs.Standing.{BuildsArePlaces}
 use Rattle.gb_nodes.proofs.FoundLemmas.{nil_both}
-use Rattle.gb_nodes.proofs.GrownLemmas.{nil_back, nil_front}
-
-and_left : (a b : Bool) → (a && b) ≡ true → a ≡ true
-and_left true b is = refl
-and_left false b is = is
-
-and_right : (a b : Bool) → (a && b) ≡ true → b ≡ true
-and_right true b is = is
-and_right false b is = absurd (cc)
-
-both_true : (a b : Bool) → a ≡ true → b ≡ true → (a && b) ≡ true
-both_true a b is also = ap (λ x. x && b) is ∙ also
-
--- the root, or a path whose folder is not too long
-abbrev is_fine : Path → Bool
-is_fine path = bytes_eq path root_path || (is_task_path path && nat_le (length (folder_text path)) 896)
-
-short_enough : (text : List ℕ) → nat_le (length text) 896 ≡ true → length text ≤ 896
-short_enough text is = grind (arith, nat_tests)
-
-fits : (n : ℕ) → n ≤ 1024 → nat_le n 1024 ≡ true
-fits n le = grind (arith, nat_tests)
 
 -- a folder in a folder
 in_folder : (folder : List ℕ) → is_place folder ≡ true → length folder ≤ 896 → is_place (folder ++ 47 ∷ codes "build") ≡ true
 in_folder folder good short =
-    let front = and_left (nat_le (length folder) 1024 && list_all is_printable folder) (list_all is_segment (segments folder)) good in
-    let shown = and_right (nat_le (length folder) 1024) (list_all is_printable folder) front in
-    let parts = and_right (nat_le (length folder) 1024 && list_all is_printable folder) (list_all is_segment (segments folder)) good in
+    let front = left_of (nat_le (length folder) 1024 && list_all is_printable folder) (list_all is_segment (segments folder)) good in
+    let shown = right_of (nat_le (length folder) 1024) (list_all is_printable folder) front in
+    let parts = right_of (nat_le (length folder) 1024 && list_all is_printable folder) (list_all is_segment (segments folder)) good in
     let long : length (folder ++ 47 ∷ codes "build") ≡ length folder + 6 = length-append folder (47 ∷ codes "build") in
     both_true (nat_le (length (folder ++ 47 ∷ codes "build")) 1024 && list_all is_printable (folder ++ 47 ∷ codes "build")) (list_all is_segment (segments (folder ++ 47 ∷ codes "build")))
     (both_true (nat_le (length (folder ++ 47 ∷ codes "build")) 1024) (list_all is_printable (folder ++ 47 ∷ codes "build"))
@@ -57,8 +37,8 @@ fine_folder : (path : Path) (b : Bool) → bytes_eq path root_path ≡ b → (b 
     → is_place (joined (cond b None (Some (folder_text path))) (codes "build")) ≡ true
 fine_folder path true is fine = refl
 fine_folder path false is fine =
-    let short = short_enough (folder_text path) (and_right (is_task_path path) (nat_le (length (folder_text path)) 896) fine) in
-    in_folder (folder_text path) (folder_is_place path (and_left (is_task_path path) (nat_le (length (folder_text path)) 896) fine) short) short
+    let short = short_enough (folder_text path) (right_of (is_task_path path) (nat_le (length (folder_text path)) 896) fine) in
+    in_folder (folder_text path) (folder_is_place path (left_of (is_task_path path) (nat_le (length (folder_text path)) 896) fine) short) short
 
 fine_is_good : (path : Path) → is_fine path ≡ true → build_faults path ≡ []
 fine_is_good path fine =
@@ -68,63 +48,12 @@ fine_is_good path fine =
 
 -- ---- The projects of settings are fine
 
-abbrev AreFine : List Path → Type 0
-AreFine paths = list_all is_fine paths ≡ true
-
-or_none : (a b : Bool) (x : Fault) → cond (a || b) (x ∷ []) [] ≡ [] → b ≡ false
-or_none true b x none = absurd (cc)
-or_none false true x none = absurd (cc)
-or_none false false x none = refl
-
-not_long : (n : ℕ) → nat_lt 896 n ≡ false → nat_le n 896 ≡ true
-not_long n is = grind (arith, nat_tests)
-
-root_or_path : (a b c : Bool) → (a || b) ≡ true → c ≡ true → (a || (b && c)) ≡ true
-root_or_path true b c is short = refl
-root_or_path false b c is short = both_true b c is short
-
-path_fine : (path : Path) → is_project_path path ≡ true → place_faults path ≡ [] → is_fine path ≡ true
-path_fine path good none =
-    root_or_path (bytes_eq path root_path) (is_task_path path) (nat_le (length (folder_text path)) 896) good
-    (not_long (length (folder_text path)) (or_none (bytes_eq (task_name path) (codes "build")) (nat_lt 896 (length (folder_text path))) _ none))
-
-with_fine : (there : List Path) (path : Path) (b : Bool) → AreFine there → is_project_path path ≡ true → cond b [] (place_faults path ++ crowd_faults there) ≡ [] → AreFine (cond b there (there ++ path ∷ []))
-with_fine there path true fine good none = fine
-with_fine there path false fine good none =
-    list_all-append is_fine there (path ∷ [])
-    ∙ both_true (list_all is_fine there) (is_fine path && true) fine (both_true (is_fine path) true (path_fine path good (nil_front (place_faults path) (crowd_faults there) none)) refl)
-
-with_all_fine : (there paths : List Path) → AreFine there → list_all is_project_path paths ≡ true → paths_faults there paths ≡ [] → AreFine (with_paths there paths)
-with_all_fine there [] fine good none = fine
-with_all_fine there (path ∷ paths) fine good none =
-    with_all_fine (with_path there path) paths
-    (with_fine there path (is_among there path) fine (and_left (is_project_path path) (list_all is_project_path paths) good) (nil_front (path_faults there path) (paths_faults (with_path there path) paths) none))
-    (and_right (is_project_path path) (list_all is_project_path paths) good) (nil_back (path_faults there path) (paths_faults (with_path there path) paths) none)
-
-with_both : (there xs ys : List Path) → with_paths there (xs ++ ys) ≡ with_paths (with_paths there xs) ys
-with_both there [] ys = refl
-with_both there (x ∷ xs) ys = with_both (with_path there x) xs ys
-
-text_fine : (there : List Path) (text : List ℕ) (b : Bool) → is_project_path (absolute root_path text) ≡ b → AreFine there
-    → cond b (paths_faults there (lineage_of text)) (faults.BadName text ∷ []) ≡ [] → AreFine (with_paths there (lineage_of text))
-text_fine there text true good fine none = with_all_fine there (lineage_of text) fine (lineage_is_good (absolute root_path text) good) none
-text_fine there text false good fine none = absurd (cc)
-
-texts_fine : (there : List Path) (texts : List (List ℕ)) → AreFine there → texts_faults there texts ≡ [] → AreFine (with_paths there (flat_map lineage_of texts))
-texts_fine there [] fine none = fine
-texts_fine there (text ∷ texts) fine none =
-    let next = with_paths there (lineage_of text) in
-    subst AreFine (sym (with_both there (lineage_of text) (flat_map lineage_of texts)))
-    (texts_fine next texts
-    (text_fine there text (is_project_path (absolute root_path text)) refl fine (nil_front (text_faults there text) (texts_faults next texts) none))
-    (nil_back (text_faults there text) (texts_faults next texts) none))
-
 none_at : (paths : List Path) (scripts : List (List Statement)) → AreFine paths → flat_map (λ (script : Path × List Statement). build_faults script.0) (zip paths scripts) ≡ []
 none_at [] scripts fine = refl
 none_at (path ∷ paths) [] fine = refl
 none_at (path ∷ paths) (script ∷ scripts) fine =
     nil_both (build_faults path) (flat_map (λ (script : Path × List Statement). build_faults script.0) (zip paths scripts))
-    (fine_is_good path (and_left (is_fine path) (list_all is_fine paths) fine)) (none_at paths scripts (and_right (is_fine path) (list_all is_fine paths) fine))
+    (fine_is_good path (left_of (is_fine path) (list_all is_fine paths) fine)) (none_at paths scripts (right_of (is_fine path) (list_all is_fine paths) fine))
 
 pub builds_are_places : BuildsArePlaces
-builds_are_places settings scripts none = none_at (project_paths settings) scripts (texts_fine (root_path ∷ []) (included settings) refl none)
+builds_are_places settings scripts none = none_at (project_paths settings) scripts (projects_fine settings none)

@@ -1,7 +1,7 @@
 -- Bits of rows of words, and what an order says at an index.
 use Rattle.std.proofs.Common.{◌≡◌, ◌<◌, ◌≤◌, ◌≢◌, ◌+◌, ◌*◌, ◌/◌, ◌%◌, ◌^◌, ℕ, List, [], ◌∷◌, ◌++◌, length, get_or, take, ap, sym, subst, ◌∙◌, ◌⊎◌, inl, inr, Contains, arith, max, w64, refl}
 use Rattle.std.specs.Int.{bit_at}
-use Rattle.std.specs.Int.Bits.{bit_or}
+use Rattle.std.specs.Int.Bits.{bit_or, or_zero_r}
 use Rattle.std.proofs.Math.ListN.{set, get_or-eq_default}
 use Rattle.std.proofs.lemmas.Bool.{cases_eq, cases_order}
 use Rattle.std.proofs.lemmas.List.{get_or-set_same, get_or-set_other, take-append-le, length-append, get_or_append_left, take_more}
@@ -12,20 +12,19 @@ use Rattle.gb_order.specs.Order.{row, InOrder, begins, goes_on}
 use Rattle.gb_order.specs.Chains.{IsAfter, start, step, bit_in}
 use Rattle.gb_order.proofs.Keeping.{one_contained}
 
-past : (new old other : List ℕ) (n k : ℕ) → length old ≤ n → length other ≤ n → n ≤ k → get_or new k 0 ≡ get_or old k 0
+past : (new old other : List ℕ) (n k : ℕ) → length other ≤ n → n ≤ k → get_or new k 0 ≡ get_or old k 0
     → get_or new k 0 ≡ bit_or (get_or old k 0) (get_or other k 0)
-past new old other n k lo lt h rest =
-    let a : get_or old k 0 ≡ 0 = get_or-eq_default old 0 (omega arith) in
+past new old other n k lt h rest =
     let b : get_or other k 0 ≡ 0 = get_or-eq_default other 0 (omega arith) in
-    rest ∙ a ∙ sym (ap (λ x. bit_or x (get_or other k 0)) a ∙ ap (λ x. bit_or 0 x) b)
+    rest ∙ sym (ap (λ x. bit_or (get_or old k 0) x) b ∙ or_zero_r (get_or old k 0))
 
-pub word_joined : (new old other : List ℕ) (n : ℕ) → length old ≤ n → length other ≤ n
+pub word_joined : (new old other : List ℕ) (n : ℕ) → length other ≤ n
     → ((k : ℕ) → k < n → get_or new k 0 ≡ bit_or (get_or old k 0) (get_or other k 0)) → ((k : ℕ) → n ≤ k → get_or new k 0 ≡ get_or old k 0)
     → (k : ℕ) → get_or new k 0 ≡ bit_or (get_or old k 0) (get_or other k 0)
-word_joined new old other n lo lt joined rest k = elim (cases_order k n) [
-  | inl e ↦ let h : n ≤ k = omega arith in past new old other n k lo lt h (rest k h)
+word_joined new old other n lt joined rest k = elim (cases_order k n) [
+  | inl e ↦ let h : n ≤ k = omega arith in past new old other n k lt h (rest k h)
   | inr (inl h) ↦ joined k h
-  | inr (inr g) ↦ let h : n ≤ k = omega arith in past new old other n k lo lt h (rest k h)
+  | inr (inr g) ↦ let h : n ≤ k = omega arith in past new old other n k lt h (rest k h)
 ]
 
 pub bits_joined : (new old other : List ℕ) → ((k : ℕ) → get_or new k 0 ≡ bit_or (get_or old k 0) (get_or other k 0)) → (i : ℕ) → bit_in new i ≡ max (bit_in old i) (bit_in other i)

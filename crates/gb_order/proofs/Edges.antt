@@ -1,24 +1,18 @@
 -- Edges between numbers: from paths to numbers, and from edges to rows.
 use Rattle.std.specs.Prelude.{ℕ, zero, suc, ◌≡◌, ◌⊎◌, ◌<◌, ◌+◌, ◌↔◌, true, false, not, cond, ◌||◌, List, [], ◌∷◌, ◌++◌, map, length, get_or, take, bytes_eq, refl, Contains, Option, Some, None, unwrap_or}
 use Rattle.std.specs.List.{filter_map, cons_option}
-use Rattle.std.specs.BTreeMap.{BTreeMap, get}
-use Rattle.std.specs.Ordering.{is_eq}
-use Rattle.std.specs.declared.cmp.Ordering.{Ordering}
-use Rattle.std.specs.declared.cmp.Ordering.TheVariants.{Less, Equal, Greater}
 use Rattle.std.specs.Cmp.Lexicographic.{bytes_decides}
 use Rattle.std.proofs.Common.{sym, ap, subst, ◌∙◌, inl, inr, arith}
 use Rattle.std.proofs.lemmas.Bool.{cases_eq, cases_order}
 use Rattle.std.proofs.lemmas.Grind.{take_at_read}
 use Rattle.std.proofs.lemmas.List.{get_or-map, get_or_default, length-map}
 use Rattle.std.proofs.lemmas.List.Elements.{Contains-append_left, Contains-push, Contains-push_cases}
-use Rattle.gb_core.specs.Lists.{byte_order}
-use Rattle.gb_core.proofs.Found.{tied_same, same_tied}
 use Rattle.gb_plan.specs.declared.plan.Planned.{Planned}
 use Rattle.gb_plan.specs.Task.{Path, has_path}
 use Rattle.gb_plan.specs.Graph.{order, no_repeats}
 use Rattle.gb_plan.proofs.Tests.{not_true, no_longer, left_of, right_of, or_right, itself}
 use Rattle.gb_plan.proofs.Same.{In}
-use Rattle.gb_order.specs.Ranked.{TellNumbers, TellEdges, comes_after, edges_at, edges_from, numbers_in}
+use Rattle.gb_order.specs.Ranked.{Numbers, TellNumbers, TellEdges, comes_after, edges_at, edges_from, number_at, numbers_in}
 use Rattle.gb_order.proofs.Numbers.{in_of, of_in, in_front, in_back, in_either, of_map, into_map, either_of, or_first, or_second, or_third}
 
 -- ---- Paths that stand once
@@ -51,36 +45,31 @@ one_number paths once i j li lj e = elim (cases_order i j) [
 
 -- ---- Numbers of paths
 
-eq_of : (o : Ordering) → is_eq o ≡ true → o ≡ Equal
-eq_of Less e = not_true e
-eq_of Equal e = refl
-eq_of Greater e = not_true e
-
 some_same : (i j : ℕ) → Some i ≡ Some j → i ≡ j
 some_same i j e = ap (λ o. unwrap_or o 0) e
 
 pub numbers_next : (old new : Path → Option ℕ) (paths : List Path) (i : ℕ) (key : Path) → no_repeats paths ≡ true → i < length paths → key ≡ get_or paths i []
-    → ((q : Path) → new q ≡ cond (is_eq (byte_order key q)) (Some i) (old q))
+    → ((q : Path) → new q ≡ cond (bytes_eq key q) (Some i) (old q))
     → ((q : Path) (k : ℕ) → (old q ≡ Some k) ↔ ((k < i) × (get_or paths k [] ≡ q)))
     → (q : Path) (k : ℕ) → (new q ≡ Some k) ↔ ((k < i + 1) × (get_or paths k [] ≡ q))
 numbers_next old new paths i key once lt is next told q k = (to, back)
   where
     to : new q ≡ Some k → (k < i + 1) × (get_or paths k [] ≡ q)
-    to h = elim (is_eq (byte_order key q)) as (λ b. is_eq (byte_order key q) ≡ b → cond b (Some i) (old q) ≡ Some k → (k < i + 1) × (get_or paths k [] ≡ q)) [
+    to h = elim (bytes_eq key q) as (λ b. bytes_eq key q ≡ b → cond b (Some i) (old q) ≡ Some k → (k < i + 1) × (get_or paths k [] ≡ q)) [
       | true ↦ λ e g. let same = some_same i k g in
-          (omega (arith, same), ap (λ j. get_or paths j []) (sym same) ∙ (sym is ∙ tied_same key q (eq_of (byte_order key q) e)))
+          (omega (arith, same), ap (λ j. get_or paths j []) (sym same) ∙ (sym is ∙ (bytes_decides key q).0 e))
       | false ↦ λ _ g. let at = (told q k).0 g in (omega (arith, at.0), at.1)
     ] refl (sym (next q) ∙ h)
 
-    differs : k < i → get_or paths k [] ≡ q → is_eq (byte_order key q) ≡ false
-    differs low e = elim (is_eq (byte_order key q)) as (λ b. is_eq (byte_order key q) ≡ b → b ≡ false) [
-      | true ↦ λ h. absurd (once_at paths once k i low lt (e ∙ (sym (tied_same key q (eq_of (byte_order key q) h)) ∙ is)))
+    differs : k < i → get_or paths k [] ≡ q → bytes_eq key q ≡ false
+    differs low e = elim (bytes_eq key q) as (λ b. bytes_eq key q ≡ b → b ≡ false) [
+      | true ↦ λ h. absurd (once_at paths once k i low lt (e ∙ (sym ((bytes_decides key q).0 h) ∙ is)))
       | false ↦ λ _. refl
     ] refl
 
     back : (k < i + 1) × (get_or paths k [] ≡ q) → new q ≡ Some k
     back at = elim (cases_eq k i) [
-      | inl e ↦ next q ∙ (ap (λ o. cond (is_eq o) (Some i) (old q)) (same_tied key q (is ∙ (ap (λ j. get_or paths j []) (sym e) ∙ at.1))) ∙ ap Some (sym e))
+      | inl e ↦ next q ∙ (ap (λ b. cond b (Some i) (old q)) ((bytes_decides key q).1 (is ∙ (ap (λ j. get_or paths j []) (sym e) ∙ at.1))) ∙ ap Some (sym e))
       | inr apart ↦
           let low : k < i = omega (arith, at.0, apart) in
           next q ∙ (ap (λ b. cond b (Some i) (old q)) (differs low at.1) ∙ (told q k).1 (low, at.1))
@@ -109,7 +98,7 @@ into_kept g (q ∷ qs) p k h e =
 
 -- ---- Edges of tasks
 
-module _ (m : BTreeMap Path ℕ) where
+module _ (m : Numbers) where
   abbrev IsEdge : ℕ → ℕ → ℕ → Planned → Type 0
   IsEdge k j i z =
       ((k ≡ i) × In j (numbers_in m z.task.needs)) ⊎ (((k ≡ i) × In j (numbers_in m z.task.must_run_after)) ⊎ ((j ≡ i) × In k (numbers_in m z.task.finalizers)))
@@ -153,14 +142,14 @@ module _ (m : BTreeMap Path ℕ) where
 
     number_of : (d : Planned) (paths : List Path) (j : ℕ) → In j (numbers_in m paths) → (j < length tasks) × (has_path paths (get_or tasks j d).task.path ≡ true)
     number_of d paths j i =
-        let at = of_kept (get byte_order m) paths j i in
+        let at = of_kept (number_at m) paths j i in
         let is = (numbers at.0 j).0 at.2 in
         let lt : j < length tasks = omega (arith, is.0, same_length) in
         (lt, ap (has_path paths) (sym (path_of d j lt) ∙ is.1) ∙ at.1)
 
     into_numbers : (d : Planned) (paths : List Path) (j : ℕ) → j < length tasks → has_path paths (get_or tasks j d).task.path ≡ true → In j (numbers_in m paths)
     into_numbers d paths j lt h =
-        into_kept (get byte_order m) paths (get_or tasks j d).task.path j h ((numbers (get_or tasks j d).task.path j).1 (omega (arith, lt, same_length), path_of d j lt))
+        into_kept (number_at m) paths (get_or tasks j d).task.path j h ((numbers (get_or tasks j d).task.path j).1 (omega (arith, lt, same_length), path_of d j lt))
 
     told_to : (k j : ℕ) (d : Planned) → Contains (edges_from m 0 tasks) (k, j) → (k < length tasks) × (j < length tasks) × (comes_after (get_or tasks k d) (get_or tasks j d) ≡ true)
     told_to k j d c =

@@ -1,14 +1,12 @@
 -- From numbers to paths: the first word that reaches a scheduled task.
 use Rattle.std.specs.Prelude.{ℕ, zero, suc, ◌≡◌, ◌⊎◌, ◌<◌, ◌≤◌, Bool, true, false, ◌||◌, List, [], ◌∷◌, ◌++◌, map, length, get_or, take, refl, Contains, Some, Ok}
 use Rattle.std.specs.List.{flat_map}
-use Rattle.std.specs.BTreeMap.{BTreeMap, get}
 use Rattle.std.proofs.Common.{sym, ap, subst, ◌∙◌, inl, inr, arith}
 use Rattle.std.proofs.Math.ListN.{get_or-eq_default}
 use Rattle.std.proofs.lemmas.Bool.{cases_order}
 use Rattle.std.proofs.lemmas.List.{get_or-map, length-map, map-append}
 use Rattle.std.proofs.lemmas.List.Elements.{All-from_recursion}
 use Rattle.std.proofs.lemmas.Option.{slice_get-get_or, get_or_from_slice_get, slice_get_within}
-use Rattle.gb_core.specs.Lists.{byte_order}
 use Rattle.gb_plan.specs.declared.plan.Planned.{Planned}
 use Rattle.gb_plan.specs.declared.task.TaskDeclaration.{TaskDeclaration}
 use Rattle.gb_plan.specs.Task.{Text, Path, has_path}
@@ -17,7 +15,7 @@ use Rattle.gb_plan.proofs.Tests.{not_true, or_right}
 use Rattle.gb_plan.proofs.Registered.{brings_declared}
 use Rattle.gb_order.specs.Order.{row}
 use Rattle.gb_order.specs.Queue.{paths_in}
-use Rattle.gb_order.specs.Ranked.{TellNumbers, numbers_in}
+use Rattle.gb_order.specs.Ranked.{Numbers, TellNumbers, number_at, numbers_in}
 use Rattle.gb_order.specs.Reach.{Reaches, IsFirstStart}
 use Rattle.gb_order.specs.Reach as reach
 use Rattle.gb_order.specs.Words.{AreDone, brought_rows, selected_once}
@@ -53,7 +51,7 @@ some_word f [] i p lt h = absurd (omega (arith, lt))
 some_word f (w ∷ words) zero p lt h = has_append (f w) (flat_map f words) p ∙ left_or (has_path (f w) p) (has_path (flat_map f words) p) h
 some_word f (w ∷ words) (suc i) p lt h = has_append (f w) (flat_map f words) p ∙ or_right (has_path (f w) p) (has_path (flat_map f words) p) (some_word f words i p (omega (arith, lt)) h)
 
-module _ (tasks : List TaskDeclaration) (m : BTreeMap Path ℕ) (numbers : TellNumbers (paths_in tasks) m) where
+module _ (tasks : List TaskDeclaration) (m : Numbers) (numbers : TellNumbers (paths_in tasks) m) where
   same_length : length (paths_in tasks) ≡ length tasks
   same_length = length-map tasks (λ (task : TaskDeclaration). task.path)
 
@@ -62,12 +60,12 @@ module _ (tasks : List TaskDeclaration) (m : BTreeMap Path ℕ) (numbers : TellN
 
   number_of : (ps : List Path) (k : ℕ) → Contains (numbers_in m ps) k → (k < length tasks) × (has_path ps (path k) ≡ true)
   number_of ps k c =
-      let at = of_kept (get byte_order m) ps k (in_of (numbers_in m ps) k c) in
+      let at = of_kept (number_at m) ps k (in_of (numbers_in m ps) k c) in
       let is = (numbers at.0 k).0 at.2 in
       (omega (arith, is.0, same_length), ap (has_path ps) is.1 ∙ at.1)
 
   into_number : (ps : List Path) (k : ℕ) → k < length tasks → has_path ps (path k) ≡ true → Contains (numbers_in m ps) k
-  into_number ps k lt h = of_in k (numbers_in m ps) (into_kept (get byte_order m) ps (path k) k h ((numbers (path k) k).1 (omega (arith, lt, same_length), refl)))
+  into_number ps k lt h = of_in k (numbers_in m ps) (into_kept (number_at m) ps (path k) k h ((numbers (path k) k).1 (omega (arith, lt, same_length), refl)))
 
   row_within : (table : List (List ℕ)) (k j : ℕ) → Contains (row table k) j → k < length table
   row_within table k j c = elim (cases_order k (length table)) [

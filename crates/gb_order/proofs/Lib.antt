@@ -1,6 +1,7 @@
 pub mod Rows
 pub mod Keeping
 pub mod Bits
+pub mod Looked
 pub mod Numbers
 pub mod Edges
 pub mod Arranged

@@ -1,8 +1,8 @@
 -- Tasks of a plan by number: by word and path, so that the one that precedes has the lesser number.
 use Rattle.std.specs.Prelude.{ℕ, ◌≡◌, ◌<◌, ◌+◌, ◌↔◌, Bool, true, ◌||◌, List, [], ◌∷◌, ◌++◌, map, length}
-use Rattle.std.specs.Prelude.{Contains, IsTrue, Some, slice_index_or}
+use Rattle.std.specs.Prelude.{Contains, IsTrue, Option, Some, bytes_eq, slice_index_or}
 use Rattle.std.specs.List.{filter_map}
-use Rattle.std.specs.BTreeMap.{BTreeMap, get}
+use Rattle.std.specs.Map.{lookup}
 use Rattle.std.specs.Ordering.{nat_cmp, ordering_then}
 use Rattle.std.specs.declared.cmp.Ordering.{Ordering}
 use Rattle.gb_core.specs.Lists.{byte_order}
@@ -61,24 +61,32 @@ rank_order a b = ordering_then (nat_cmp a.word b.word) (byte_order a.task.path b
 
 -- ---- How the rows are made
 
--- the map has the number of each of these paths, and of no other
-abbrev pub TellNumbers : List Path → BTreeMap Path ℕ → Type 0
-TellNumbers paths numbers = (path : Path) (number : ℕ) → (get byte_order numbers path ≡ Some number)
+-- numbers by paths
+abbrev pub Numbers : Type 0
+Numbers = List (Path × ℕ)
+
+-- the number of a path, if it has one
+abbrev pub number_at : Numbers → Path → Option ℕ
+number_at numbers path = lookup (bytes_eq path) numbers
+
+-- each of these paths has its number, and no other path has one
+abbrev pub TellNumbers : List Path → Numbers → Type 0
+TellNumbers paths numbers = (path : Path) (number : ℕ) → (number_at numbers path ≡ Some number)
     ↔ ((number < length paths) × (slice_index_or paths number [] ≡ path))
 
 -- the numbers of those of the paths that have one
-abbrev pub numbers_in : BTreeMap Path ℕ → List Path → List ℕ
-numbers_in numbers paths = filter_map (get byte_order numbers) paths
+abbrev pub numbers_in : Numbers → List Path → List ℕ
+numbers_in numbers paths = filter_map (number_at numbers) paths
 
 -- the number of a task, with that of one that it comes after, as far as the task's own declaration tells
-abbrev pub edges_at : BTreeMap Path ℕ → ℕ → Planned → List (ℕ × ℕ)
+abbrev pub edges_at : Numbers → ℕ → Planned → List (ℕ × ℕ)
 edges_at numbers task planned =
     map (λ before. (task, before)) (numbers_in numbers planned.task.needs)
     ++ map (λ before. (task, before)) (numbers_in numbers planned.task.must_run_after)
     ++ map (λ later. (later, task)) (numbers_in numbers planned.task.finalizers)
 
 -- the same of all these tasks, the first of which has this number
-abbrev pub edges_from : BTreeMap Path ℕ → ℕ → List Planned → List (ℕ × ℕ)
+abbrev pub edges_from : Numbers → ℕ → List Planned → List (ℕ × ℕ)
 edges_from numbers first [] = []
 edges_from numbers first (planned ∷ tasks) =
     edges_at numbers first planned ++ edges_from numbers (first + 1) tasks

@@ -2,14 +2,13 @@
 use Rattle.std.specs.Prelude.{ℕ, ◌≡◌, ◌<◌, Bool, true, List, [], ◌∷◌, ◌++◌, if◌then◌else◌, map}
 use Rattle.std.specs.Prelude.{length, slice_index, slice_index_or}
 use Rattle.std.specs.List.{flat_map, AllByRecursion}
-use Rattle.std.specs.BTreeMap.{BTreeMap}
 use Rattle.gb_plan.specs.declared.plan.Planned.{Planned}
 use Rattle.gb_plan.specs.declared.task.TaskDeclaration.{TaskDeclaration}
 use Rattle.gb_plan.specs.Task.{Text, Path, has_path}
 use Rattle.gb_plan.specs.Graph.{Registry, Request, order, selected, selected_by, words_of, no_repeats}
 use Rattle.gb_plan.specs.Graph.{is_scheduled_in, IsFirstWord, IsRegistered, IsScheduled}
 use Rattle.gb_order.specs.Queue.{added, paths_in}
-use Rattle.gb_order.specs.Ranked.{numbers_in}
+use Rattle.gb_order.specs.Ranked.{Numbers, numbers_in}
 
 -- what is asked for by these words, without those that others select
 abbrev pub asked : Registry → List Text → List Text → Request
@@ -34,7 +33,7 @@ abbrev pub joined_paths : List (List Path) → List Path
 joined_paths lists = flat_map (λ paths. paths) lists
 
 -- for each task the numbers of what it needs and of what finalizes it
-abbrev pub brought_rows : BTreeMap Path ℕ → List TaskDeclaration → List (List ℕ)
+abbrev pub brought_rows : Numbers → List TaskDeclaration → List (List ℕ)
 brought_rows numbers tasks =
     map (λ task. numbers_in numbers task.needs ++ numbers_in numbers task.finalizers) tasks
 

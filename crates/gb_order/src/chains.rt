@@ -1,17 +1,29 @@
 //! Chains of tasks, as rows of bits.
-ghost use Rattle.std.specs.Prelude.{◌≡◌, ◌≢◌, ◌<◌, ◌+◌, ◌/◌, ◌↔◌, ℕ, length, Contains, OnOk};
+ghost use Rattle.std.specs.Prelude.{◌≡◌, ◌≢◌, ◌<◌, ◌≤◌, ◌+◌, ◌/◌, ◌↔◌, ℕ, length, Contains, OnOk};
 ghost use Rattle.std.specs.Prelude.{IfOk, vec_len, max};
 ghost use Rattle.gb_order.specs.Order.{rows, row, AreTasks, InOrder};
 ghost use Rattle.gb_order.specs.Chains.{IsAfter, bit_in};
 
 use std::alloc::{AllocError, Global};
 
-/// Adds the bits of the second row to the first.
+/// A row with no bit in it. It has room for all tasks, unless it is that of a task that comes after none.
+fn row_for(alloc: Global, words: usize, before: &[usize]) -> Result<Vec<u64>, AllocError>
+    ensures most { IfOk result (λ row. vec_len row ≤ words) }
+    ensures wide { IfOk result (λ row. (task : ℕ) → Contains before.now task → vec_len row ≡ words) }
+    ensures clear { IfOk result (λ row. (i : ℕ) → bit_in row.items i ≡ 0) }
+{
+    if before.is_empty() {
+        return Ok(Vec::new(alloc));
+    }
+    vec![in alloc; 0u64; words]
+}
+
+/// Adds the bits of the second row to the first, which is at least as long.
 fn join(row: &mut [u64], other: &[u64])
-    requires { length row.old ≡ length other.now }
+    requires { length other.now ≤ length row.old }
     ensures bits { (i : ℕ) → bit_in row.new i ≡ max (bit_in row.old i) (bit_in other.now i) }
 {
-    for at in 0..row.len() {
+    for at in 0..other.len() {
         row[at] |= other[at];
     }
 }
@@ -39,11 +51,12 @@ pub fn chains_of(
     let words = after.len() / 64 + 1;
     let mut found = Vec::new(alloc);
     for _ in after {
-        found.push(vec![in alloc; 0u64; words]?)?;
+        found.push(Vec::new(alloc))?;
     }
     for task in order {
-        let mut row = vec![in alloc; 0u64; words]?;
-        for before in &after[*task] {
+        let earlier = after[*task].as_slice();
+        let mut row = row_for(alloc, words, earlier)?;
+        for before in earlier {
             join(&mut row, &found[*before]);
             mark(&mut row, *before);
         }

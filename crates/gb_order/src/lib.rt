@@ -2,6 +2,7 @@
 #![tactic(auto)]
 
 mod arrange;
+pub mod by_path;
 pub mod chains;
 mod circle;
 mod order;

@@ -7,23 +7,19 @@ ghost use Rattle.gb_order.specs.Order.{rows};
 ghost use Rattle.gb_order.specs.Ranked.{AreApart, AreOthers, HoldEdges, TellAfter, TellEdges, TellNumbers};
 ghost use Rattle.gb_order.specs.Ranked.{edges_at, edges_from, numbers_in};
 
-use gb_core::path::TaskPath;
+use crate::by_path::Numbers;
 use gb_core::tasks::TaskPaths;
 use gb_plan::plan::Planned;
 use std::alloc::{AllocError, Global};
-use std::collections::BTreeMap;
-
-/// Numbers of tasks by their paths.
-pub type Numbers = BTreeMap<TaskPath, usize>;
 
 /// The number of each task by its path.
-pub fn numbers_of(alloc: Global, tasks: &[Planned]) -> Result<Numbers, AllocError>
+pub fn numbers_of<'a>(alloc: Global, tasks: &'a [Planned]) -> Result<Numbers<'a>, AllocError>
     requires { no_repeats (order tasks.now) ≡ true }
     ensures { IfOk result (λ numbers. TellNumbers (order tasks.now) numbers) }
 {
-    let mut numbers = BTreeMap::new(alloc);
+    let mut numbers = Numbers::new(alloc);
     for number in 0..tasks.len() {
-        numbers.insert(tasks[number].task.path.copy()?, number)?;
+        numbers.insert(&tasks[number].task.path, number)?;
     }
     Ok(numbers)
 }
@@ -31,7 +27,7 @@ pub fn numbers_of(alloc: Global, tasks: &[Planned]) -> Result<Numbers, AllocErro
 /// Adds the task with each of the paths that have a number.
 fn add_befores(
     edges: &mut Vec<(usize, usize)>,
-    numbers: &Numbers,
+    numbers: &Numbers<'_>,
     task: usize,
     paths: &TaskPaths,
 ) -> Result<(), AllocError>
@@ -40,7 +36,7 @@ fn add_befores(
 {
     for path in paths.iter() {
         if let Some(before) = numbers.get(path) {
-            edges.push((task, *before))?;
+            edges.push((task, before))?;
         }
     }
     Ok(())
@@ -49,7 +45,7 @@ fn add_befores(
 /// Adds each of the paths that have a number with the task.
 fn add_laters(
     edges: &mut Vec<(usize, usize)>,
-    numbers: &Numbers,
+    numbers: &Numbers<'_>,
     task: usize,
     paths: &TaskPaths,
 ) -> Result<(), AllocError>
@@ -58,7 +54,7 @@ fn add_laters(
 {
     for path in paths.iter() {
         if let Some(later) = numbers.get(path) {
-            edges.push((*later, task))?;
+            edges.push((later, task))?;
         }
     }
     Ok(())
@@ -66,7 +62,7 @@ fn add_laters(
 
 fn add_edges(
     edges: &mut Vec<(usize, usize)>,
-    numbers: &Numbers,
+    numbers: &Numbers<'_>,
     task: usize,
     planned: &Planned,
 ) -> Result<(), AllocError>

@@ -9,33 +9,37 @@ ghost use Rattle.gb_order.specs.Queue.{paths_in};
 ghost use Rattle.gb_order.specs.Ranked.{TellNumbers, numbers_in};
 ghost use Rattle.gb_order.specs.Words.{AreDone, AreWorded, brought_rows};
 
-use crate::ranked::Numbers;
+use crate::by_path::Numbers;
 use crate::reach::first_starts;
 use gb_core::path::TaskPath;
 use gb_core::tasks::TaskPaths;
 use gb_plan::plan::Planned;
 use gb_plan::task::TaskDeclaration;
 use std::alloc::{AllocError, Global};
-use std::collections::{BTreeMap, BTreeSet};
+use std::collections::BTreeSet;
 
-fn numbers_of(alloc: Global, tasks: &[TaskDeclaration]) -> Result<Numbers, AllocError>
+fn numbers_of<'a>(alloc: Global, tasks: &'a [TaskDeclaration]) -> Result<Numbers<'a>, AllocError>
     requires { no_repeats (paths_in tasks.now) ≡ true }
     ensures { IfOk result (λ numbers. TellNumbers (paths_in tasks.now) numbers) }
 {
-    let mut numbers = BTreeMap::new(alloc);
+    let mut numbers = Numbers::new(alloc);
     for number in 0..tasks.len() {
-        numbers.insert(tasks[number].path.copy()?, number)?;
+        numbers.insert(&tasks[number].path, number)?;
     }
     Ok(numbers)
 }
 
 /// Adds the numbers of those of the paths that have one.
-fn add_numbers(row: &mut Vec<usize>, numbers: &Numbers, paths: &TaskPaths) -> Result<(), AllocError>
+fn add_numbers(
+    row: &mut Vec<usize>,
+    numbers: &Numbers<'_>,
+    paths: &TaskPaths,
+) -> Result<(), AllocError>
     ensures { OnOk result (row.new.items ≡ row.old.items ++ numbers_in numbers.now paths.now) }
 {
     for path in paths.iter() {
         if let Some(number) = numbers.get(path) {
-            row.push(*number)?;
+            row.push(number)?;
         }
     }
     Ok(())
@@ -44,7 +48,7 @@ fn add_numbers(row: &mut Vec<usize>, numbers: &Numbers, paths: &TaskPaths) -> Re
 /// For each task the numbers of what it needs and of what finalizes it.
 fn brought_of(
     alloc: Global,
-    numbers: &Numbers,
+    numbers: &Numbers<'_>,
     tasks: &[TaskDeclaration],
 ) -> Result<Vec<Vec<usize>>, AllocError>
     ensures { IfOk result (λ table. rows table.items ≡ brought_rows numbers.now tasks.now) }
@@ -62,7 +66,7 @@ fn brought_of(
 /// For each of the lists the numbers of its paths.
 fn starts_of(
     alloc: Global,
-    numbers: &Numbers,
+    numbers: &Numbers<'_>,
     lists: &[TaskPaths],
 ) -> Result<Vec<Vec<usize>>, AllocError>
     ensures { IfOk result (λ starts. rows starts.items ≡ map (numbers_in numbers.now) lists.now) }

@@ -281,7 +281,7 @@ fn odd_folders_are_answered(rt: HostRuntime) -> Result<(), Fail> {
 /// What makes a folder that is changed: a file of five bytes and an empty one.
 const BEFORE: [&str; 3] = ["!make d/e", "!put d/e/a hello", "!put d/e/z"];
 
-const CHANGES: [Row<'static>; 22] = [
+const CHANGES: [Row<'static>; 26] = [
     // Folders above the file were met.
     (
         "list d;read d/e/a;!clear d;read d/e/a;list d/e;write d/e/a;read d/e/a",
@@ -315,6 +315,23 @@ const CHANGES: [Row<'static>; 22] = [
         "d/e/z ;lo world;",
     ),
     ("read d/e/z;part d/e/z;far d/e/z", ";;;"),
+    // So it is where its folder was listed and has no other file.
+    (
+        "!unlink d/e/z;list d;!put d/e/a hello world;read d/e/a;read d/e/a",
+        "d/e/a ;hello;13;",
+    ),
+    (
+        "!unlink d/e/z;list d/e;!put d/e/a he;read d/e/a;read d/e/a",
+        "d/e/a ;10;he;",
+    ),
+    (
+        "!unlink d/e/z;list d;!put d/e/z 1;!put d/e/a hello world;read d/e/z;read d/e/a",
+        "d/e/a ;1;13;",
+    ),
+    (
+        "!unlink d/e/z;list d;!clear d;!link d nowhere;read d/e/a",
+        "d/e/a ;10;",
+    ),
     (
         "list d/e/a;!unlink d/e/a;read d/e/a;write d/e/a",
         "d/e/a ;11;ok;",

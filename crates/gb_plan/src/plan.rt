@@ -1,5 +1,5 @@
 //! The tasks of a build in the order in which they run.
-ghost use Rattle.std.specs.Prelude.{◌≡◌, ◌&&◌, false, map, bytes_eq, MatchOption};
+ghost use Rattle.std.specs.Prelude.{◌≡◌, ◌&&◌, false, map, bytes_eq, IfOk, MatchOption};
 ghost use Rattle.std.specs.List.{list_any};
 ghost use Rattle.gb_plan.specs.Task.{has_path};
 ghost use Rattle.gb_plan.specs.Graph.{finalized_by, is_scheduled_in, order};
@@ -8,6 +8,7 @@ ghost use Rattle.gb_plan.specs.Plans.{IsDeclarationIn, is_selected_in, needs_at}
 use crate::task::TaskDeclaration;
 use gb_core::path::TaskPath;
 use gb_core::tasks::TaskPaths;
+use std::alloc::{AllocError, Global};
 use std::marker::Model;
 
 /// A task of a plan, with the index of the first requested name that reaches it.
@@ -131,4 +132,15 @@ fn is_finalized(tasks: &[Planned], path: &TaskPath, finalizer: &TaskPath) -> boo
     tasks.iter().any(|planned| {
         *path == planned.task.path && has_path(&planned.task.finalizers, finalizer)
     })
+}
+
+/// The paths of these tasks, in their order.
+pub fn paths_of(alloc: Global, tasks: &[Planned]) -> Result<Vec<TaskPath>, AllocError>
+    ensures { IfOk result (λ paths. paths.items ≡ order tasks.now) }
+{
+    let mut paths = Vec::new(alloc);
+    for planned in tasks {
+        paths.push(planned.task.path.copy()?)?;
+    }
+    Ok(paths)
 }

@@ -1,76 +1,20 @@
 //! What a task declares, with all its expressions evaluated.
-ghost use Rattle.std.specs.Prelude.{◌≡◌};
-
 use gb_action::list::ActionList;
 use gb_action::output::Form;
 use gb_action::values::{Arguments, NamedValues};
 use gb_core::name::Name;
 use gb_core::path::TaskPath;
 use gb_core::place::Place;
+use gb_core::row::Row;
 use gb_core::tasks::TaskPaths;
 use gb_tree::pattern::Pattern;
 use gb_tree::property::Naming;
-use std::marker::Model;
 
 /// Places in a row.
-#[derive(Drop)]
-pub struct Places {
-    places: Vec<Place>,
-}
-
-impl Model for Places {
-    ghost use Rattle.std.specs.Prelude.{List, ℕ};
-
-    ghost Value = { List (List ℕ) };
-
-    ghost view = { λ p. p.places.items };
-}
-
-impl Places {
-    /// These places in their order.
-    pub fn from_vec(places: Vec<Place>) -> Places
-        ensures { result ≡ places.items }
-    {
-        Places { places }
-    }
-
-    /// The places in their order.
-    pub fn as_slice(&self) -> &[Place]
-        ensures { result.now ≡ self.now }
-    {
-        self.places.as_slice()
-    }
-}
+pub type Places = Row<Place>;
 
 /// Patterns in a row.
-#[derive(Drop)]
-pub struct Patterns {
-    patterns: Vec<Pattern>,
-}
-
-impl Model for Patterns {
-    ghost use Rattle.std.specs.Prelude.{List, ℕ};
-
-    ghost Value = { List (List ℕ) };
-
-    ghost view = { λ p. p.patterns.items };
-}
-
-impl Patterns {
-    /// These patterns in their order.
-    pub fn from_vec(patterns: Vec<Pattern>) -> Patterns
-        ensures { result ≡ patterns.items }
-    {
-        Patterns { patterns }
-    }
-
-    /// The patterns in their order.
-    pub fn as_slice(&self) -> &[Pattern]
-        ensures { result.now ≡ self.now }
-    {
-        self.patterns.as_slice()
-    }
-}
+pub type Patterns = Row<Pattern>;
 
 /// Files that a task reads: those beneath the roots that the patterns let in.
 #[derive(Drop)]
@@ -92,35 +36,7 @@ pub struct FileProperty {
 }
 
 /// File properties in the order of their names.
-#[derive(Drop)]
-pub struct FileProperties {
-    properties: Vec<FileProperty>,
-}
-
-impl Model for FileProperties {
-    ghost use Rattle.std.specs.Prelude.{List};
-    ghost use Rattle.gb_plan.specs.declared.task.FileProperty.{FileProperty};
-
-    ghost Value = { List FileProperty };
-
-    ghost view = { λ f. f.properties.items };
-}
-
-impl FileProperties {
-    /// These properties, in the order of their names.
-    pub fn from_vec(properties: Vec<FileProperty>) -> FileProperties
-        ensures { result ≡ properties.items }
-    {
-        FileProperties { properties }
-    }
-
-    /// The properties in the order of their names.
-    pub fn as_slice(&self) -> &[FileProperty]
-        ensures { result.now ≡ self.now }
-    {
-        self.properties.as_slice()
-    }
-}
+pub type FileProperties = Row<FileProperty>;
 
 /// A file, or all files beneath a place, that a task makes.
 #[derive(Drop)]
@@ -134,35 +50,7 @@ pub struct Output {
 }
 
 /// Outputs in the order of their names.
-#[derive(Drop)]
-pub struct Outputs {
-    outputs: Vec<Output>,
-}
-
-impl Model for Outputs {
-    ghost use Rattle.std.specs.Prelude.{List};
-    ghost use Rattle.gb_plan.specs.declared.task.Output.{Output};
-
-    ghost Value = { List Output };
-
-    ghost view = { λ o. o.outputs.items };
-}
-
-impl Outputs {
-    /// These outputs, in the order of their names.
-    pub fn from_vec(outputs: Vec<Output>) -> Outputs
-        ensures { result ≡ outputs.items }
-    {
-        Outputs { outputs }
-    }
-
-    /// The outputs in the order of their names.
-    pub fn as_slice(&self) -> &[Output]
-        ensures { result.now ≡ self.now }
-    {
-        self.outputs.as_slice()
-    }
-}
+pub type Outputs = Row<Output>;
 
 /// An action of a task: the name of its kind, the version of what is stored under it, and what it is given.
 #[derive(Drop)]

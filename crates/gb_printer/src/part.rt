@@ -4,9 +4,8 @@ ghost use Rattle.std.specs.List.{flat_map};
 ghost use Rattle.gb_report.specs.Report.{label, line, task_text};
 ghost use Rattle.gb_printer.specs.Printing.{parts_text, rest_text};
 
-use gb_core::text::Text;
-use gb_report::render::render;
-use gb_report::report::{Outcome, Report, TaskReport};
+use gb_report::render::{label, push_lines, render};
+use gb_report::report::{Report, TaskReport};
 use std::alloc::{AllocError, Global};
 use std::fmt::Write;
 
@@ -59,27 +58,4 @@ fn push_part(text: &mut String, task: &TaskReport) -> Result<(), AllocError>
     let label = label(&task.outcome);
     writeln!(text, "> Task {path}{label}")?;
     push_lines(text, task.lines.as_slice())
-}
-
-/// What stands behind the path of a started task.
-fn label(outcome: &Outcome) -> &'static str
-    ensures { result.now ≡ label outcome.now }
-{
-    match outcome {
-        Outcome::Executed | Outcome::NotRun => "",
-        Outcome::UpToDate => " UP-TO-DATE",
-        Outcome::Skipped => " SKIPPED",
-        Outcome::NoSource => " NO-SOURCE",
-        Outcome::Failed(_) => " FAILED",
-    }
-}
-
-fn push_lines(text: &mut String, lines: &[Text]) -> Result<(), AllocError>
-    ensures { OnOk result
-        (string_bytes text.new ≡ string_bytes text.old ++ flat_map line lines.now) }
-{
-    for line in lines {
-        writeln!(text, "{line}")?;
-    }
-    Ok(())
 }

@@ -13,7 +13,7 @@ use gb_core::text::{Text, Texts};
 use gb_provider::transforms::Transforms;
 use gb_registry::names::{Names, check_name};
 use gb_registry::walk::look_along;
-use gb_registry::wrong::{Scope, check_count};
+use gb_registry::wrong::{Scope, check_count, check_task};
 use gb_report::fault::Fault;
 use gb_script::expression::Expressions;
 use gb_script::function::Function;
@@ -149,21 +149,6 @@ fn check_tasks<A: Actions, T: Transforms>(
         check_task(alloc, scope.names, project, text)?;
     }
     Ok(())
-}
-
-/// Refused where the text names no task.
-fn check_task(
-    alloc: Global,
-    names: Option<&Names<'_>>,
-    project: &str,
-    text: &Text,
-) -> Result<(), Fault>
-    ensures { TellsFirst (task_faults_in (option_copied names.entry) project.now text.now) result }
-{
-    match names {
-        Some(names) => names.refer(alloc, project, text),
-        None => check_name(alloc, project, text),
-    }
 }
 
 fn check_patterns(alloc: Global, texts: &Texts) -> Result<(), Fault>

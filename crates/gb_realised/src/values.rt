@@ -46,7 +46,7 @@ pub fn values<A: Actions, T: Transforms>(
             unreachable!();
         };
         let value = require(alloc, context, providers, *node, path, name)?;
-        found.push(name.copy()?, value)?;
+        found.push((name.copy()?, value))?;
         rest = others;
     }
     Ok(found)

@@ -12,6 +12,7 @@ use gb_core::name::Name;
 use gb_core::place::{Place, RelPath};
 use gb_core::text::Text;
 use gb_core::value::Value;
+use gb_report::fault::shown_character;
 use std::alloc::AllocError;
 use std::fmt::Write;
 
@@ -95,16 +96,6 @@ fn push_shown(text: &mut String, told: &Text) -> Result<(), AllocError>
         text.push(shown_character(character))?;
     }
     Ok(())
-}
-
-fn shown_character(character: char) -> char
-    ensures { result ≡ shown_character character }
-{
-    if character < ' ' || character == '\x7f' {
-        '?'
-    } else {
-        character
-    }
 }
 
 /// What became of a file at or beneath an output.

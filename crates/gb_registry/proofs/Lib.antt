@@ -1,6 +1,7 @@
 pub mod Alike
 pub mod Among
 pub mod Apart
+pub mod Fine
 pub mod Firsts
 pub mod Folders
 pub mod Judged

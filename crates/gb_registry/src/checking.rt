@@ -12,7 +12,7 @@ use crate::missing::Missing;
 use crate::names::Names;
 use crate::project::Project;
 use crate::seen::Seen;
-use crate::tables::Tables;
+use crate::tables::Handed;
 use crate::walk::look_along;
 use crate::wrong::Scope;
 use gb_action::actions::Actions;
@@ -30,14 +30,6 @@ pub struct Scripted {
     /// What its `build.gb` says.
     pub script: Script,
 }
-
-type Handed<A, T> = Tables<
-    <A as Actions>::Stored,
-    <T as Transforms>::Map,
-    <T as Transforms>::FlatMap,
-    <T as Transforms>::Zip,
-    <T as Transforms>::Test,
->;
 
 /// The first fault of a statement, in the order of its text.
 fn check_statement<A: Actions, T: Transforms>(

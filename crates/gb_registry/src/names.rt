@@ -7,7 +7,7 @@ ghost use Rattle.gb_registry.specs.References.{lookup_faults, name_faults, refer
 use crate::paths::absolute;
 use crate::projects::ProjectSet;
 use crate::texts::TextSet;
-use gb_core::path::is_task_path;
+use gb_core::path::{is_task_path, root_if_empty};
 use gb_core::text::Text;
 use gb_report::fault::Fault;
 use std::alloc::Global;
@@ -74,10 +74,4 @@ fn project_of(path: &str) -> &str
         Some((project, _)) => root_if_empty(project),
         None => ":",
     }
-}
-
-fn root_if_empty(front: &str) -> &str
-    ensures { result.now ≡ root_if_empty front.now }
-{
-    if front.is_empty() { ":" } else { front }
 }

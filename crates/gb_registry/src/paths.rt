@@ -13,13 +13,6 @@ use gb_core::place::{Place, PlaceFault};
 use gb_report::fault::Fault;
 use std::alloc::{AllocError, Global};
 
-/// Whether the text is the path of a project.
-pub fn is_project_path(text: &str) -> bool
-    ensures { result ≡ is_project_path text.now }
-{
-    text == ":" || is_task_path(text)
-}
-
 /// A name in a project, as a path.
 pub fn path_in(alloc: Global, project: &str, name: &str) -> Result<String, AllocError>
     ensures { IfOk result (λ path. string_bytes path ≡ task_in project.now name.now) }

@@ -10,9 +10,9 @@ ghost use Rattle.gb_registry.specs.Projects.{place_faults, project_paths, projec
 ghost use Rattle.gb_registry.specs.Projects.{settings_faults, text_faults, texts_faults, with_folders};
 ghost use Rattle.gb_registry.specs.Projects.{with_path, with_paths};
 
-use crate::paths::{absolute, folder_of, is_project_path, project_path};
+use crate::paths::{absolute, folder_of, project_path};
 use crate::texts::TextSet;
-use gb_core::path::ProjectPath;
+use gb_core::path::{ProjectPath, is_project_path};
 use gb_core::place::Place;
 use gb_core::text::{Text, Texts};
 use gb_report::fault::{Fault, Limited};

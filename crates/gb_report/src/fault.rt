@@ -568,7 +568,8 @@ impl<'a> fmt::Display for Tasks<'a> {
     }
 }
 
-fn shown_character(character: char) -> char
+/// How a fault tells a character: `?` in place of a control character.
+pub fn shown_character(character: char) -> char
     ensures { result ≡ shown_character character }
 {
     if character < ' ' || character == '\x7f' {

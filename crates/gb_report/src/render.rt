@@ -76,7 +76,7 @@ fn push_task(text: &mut String, task: &TaskReport) -> Result<(), AllocError>
 }
 
 /// What stands behind the path of a started task.
-fn label(outcome: &Outcome) -> &'static str
+pub fn label(outcome: &Outcome) -> &'static str
     ensures { result.now ≡ label outcome.now }
 {
     match outcome {
@@ -88,7 +88,8 @@ fn label(outcome: &Outcome) -> &'static str
     }
 }
 
-fn push_lines(text: &mut String, lines: &[Text]) -> Result<(), AllocError>
+/// Adds these lines, each with its line feed.
+pub fn push_lines(text: &mut String, lines: &[Text]) -> Result<(), AllocError>
     ensures { OnOk result
         (string_bytes text.new ≡ string_bytes text.old ++ flat_map line lines.now) }
 {

@@ -1,13 +1,13 @@
 //! What became of each task of a build.
-ghost use Rattle.std.specs.Prelude.{◌≡◌, [], IfOk};
+ghost use Rattle.std.specs.Prelude.{◌≡◌, IfOk};
 ghost use Rattle.std.specs.List.{list_any};
 ghost use Rattle.gb_report.specs.Outcome.{is_failed};
 
 use crate::fault::Fault;
 use gb_core::path::TaskPath;
+use gb_core::row::Row;
 use gb_core::text::Texts;
 use std::alloc::{AllocError, Global};
-use std::marker::Model;
 
 /// What became of a task.
 #[derive(Drop)]
@@ -131,44 +131,7 @@ impl TaskReport {
 }
 
 /// The tasks of a build, in the order of their turns.
-#[derive(Drop)]
-pub struct TaskReports {
-    tasks: Vec<TaskReport>,
-}
-
-impl Model for TaskReports {
-    ghost use Rattle.std.specs.Prelude.{List};
-    ghost use Rattle.gb_report.specs.declared.report.TaskReport.{TaskReport};
-
-    ghost Value = { List TaskReport };
-
-    ghost view = { λ r. r.tasks.items };
-}
-
-impl TaskReports {
-    /// No task yet.
-    pub fn new(alloc: Global) -> TaskReports
-        ensures { result ≡ [] }
-    {
-        TaskReports {
-            tasks: Vec::new(alloc),
-        }
-    }
-
-    /// The reports of these tasks, in the order of their turns.
-    pub fn from_vec(tasks: Vec<TaskReport>) -> TaskReports
-        ensures { result ≡ tasks.items }
-    {
-        TaskReports { tasks }
-    }
-
-    /// The reports in the order of the turns.
-    pub fn as_slice(&self) -> &[TaskReport]
-        ensures { result.now ≡ self.now }
-    {
-        self.tasks.as_slice()
-    }
-}
+pub type TaskReports = Row<TaskReport>;
 
 /// What a build answers.
 #[derive(Drop)]

@@ -19,6 +19,7 @@ use crate::path::path_from;
 use gb_core::bytes::Bytes;
 use gb_core::place::{Place, RelPath};
 use gb_folder::own::is_own;
+use gb_folder::range::inside;
 use gb_plan::task::Output;
 use gb_tree::prints::Prints;
 use sha2::{Digest, Sha256};
@@ -168,16 +169,4 @@ fn found_under(
         found.push((path_from(alloc, root.as_str(), text.as_str())?, *digest))?;
     }
     Ok(found)
-}
-
-/// The texts beneath a place: those from `place/` on that are below `place0` (`0` is the byte behind `/`).
-fn inside(alloc: Global, place: &Place) -> Result<Range<String>, AllocError>
-    ensures start { IfOk result (λ texts. string_bytes texts.start ≡ place.now ++ 47 ∷ []) }
-    ensures end { IfOk result (λ texts. string_bytes texts.end ≡ place.now ++ 48 ∷ []) }
-{
-    let mut start = String::from_str(alloc, place.as_str())?;
-    start.push('/')?;
-    let mut end = String::from_str(alloc, place.as_str())?;
-    end.push('0')?;
-    Ok(start..end)
 }

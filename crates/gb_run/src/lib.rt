@@ -6,11 +6,11 @@
 //! no room may leave some of its first files.
 #![tactic(auto)]
 
-mod asking;
+pub mod asking;
 pub mod digests;
 pub mod emptying;
 pub mod laws;
 mod path;
-mod placing;
+pub mod placing;
 pub mod run;
 mod writing;

@@ -72,7 +72,7 @@ fn by_place<'a>(
 }
 
 /// The output of the name.
-fn output_named<'a>(outputs: &'a [Output], name: &Name) -> Option<&'a Output>
+pub fn output_named<'a>(outputs: &'a [Output], name: &Name) -> Option<&'a Output>
     ensures { option_copied result ≡ output_named outputs.now name.now }
 {
     for output in outputs.iter() {
@@ -99,7 +99,7 @@ fn put_file<'a>(
 }
 
 /// The text of a path beneath a root, whether or not it is a place.
-fn text_beneath(alloc: Global, root: &Place, path: &RelPath) -> Result<String, AllocError>
+pub fn text_beneath(alloc: Global, root: &Place, path: &RelPath) -> Result<String, AllocError>
     ensures { IfOk result (λ text. string_bytes text ≡ beneath root.now path.now) }
 {
     let mut text = String::from_str(alloc, root.as_str())?;
@@ -157,7 +157,7 @@ fn check_file(alloc: Global, all: &FileMap, text: &str, bytes: &Bytes) -> Result
 }
 
 /// The place that a text is.
-fn place_of(alloc: Global, text: &str) -> Result<Place, Fault>
+pub fn place_of(alloc: Global, text: &str) -> Result<Place, Fault>
     ensures place { IfOk result (λ place. place ≡ text.now) }
     ensures good { OnOk result (IsTrue (is_place text.now)) }
     ensures err { IfErr result (λ fault. (fault ≡ Fault.OutOfMemory)

@@ -11,7 +11,7 @@ ghost use Rattle.gb_script.specs.Scanning.{is_plain, sign_of, unescaped, past_ru
 ghost use Rattle.gb_script.specs.Scanning.{text_of, word_at, comment_at, mark_of, part_at, scan};
 
 use crate::token::{Sign, Token};
-use gb_core::name::{Name, NameFault};
+use gb_core::name::{Name, NameFault, is_name_byte};
 use gb_core::text::Text;
 use std::alloc::{AllocError, Global};
 
@@ -24,12 +24,6 @@ pub enum Part {
     Gap,
     /// A token.
     Found(Token),
-}
-
-fn is_name_byte(byte: u8) -> bool
-    ensures { result ≡ is_name_byte byte }
-{
-    byte.is_ascii_alphanumeric() || byte == b'_' || byte == b'-'
 }
 
 fn is_plain(byte: u8) -> bool

@@ -15,7 +15,7 @@ const WRAPPINGS: [&str; 12] = [
     "}",
     "Nametext:Texttext:",
     "Texttext:",
-    "Textstexts:",
+    "Rowitems:",
     "Expressionsitems:",
     "Expressionsource:",
     "Blockclauses:",

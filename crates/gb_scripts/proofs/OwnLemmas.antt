@@ -17,7 +17,7 @@ use Rattle.gb_registry.specs.Tables.{Tables}
 use Rattle.gb_script.specs.Script.{Says, SaysAsSettings}
 use Rattle.gb_script.specs.declared.fault.ScriptFault.{ScriptFault}
 use Rattle.gb_script.specs.declared.script.Statement.{Statement}
-use Rattle.gb_scripts.proofs.PlaceLemmas.{AreFine, is_fine, projects_fine}
+use Rattle.gb_registry.proofs.Fine.{AreFine, is_fine, projects_fine}
 use Rattle.gb_scripts.proofs.TurnLemmas.{turns_stay}
 use Rattle.gb_scripts.specs.Laws.{OwnFilesSayNothing}
 use Rattle.gb_scripts.specs.Scripts.{AreTexts, FolderSays, ScriptsSay, SettingsSay, SourceSays, script_place, script_places, settings_place}

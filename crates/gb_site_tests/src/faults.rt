@@ -1,11 +1,12 @@
 //! Sites that cannot be built: each is told by its number, and nothing that is half written counts as right.
-use crate::offering::{Handed, Kinds, offered};
+use crate::offering::{Kinds, offered};
 use crate::sites::{FIRST, IDLE, written};
 use crate::steps::{Step, go_on};
 use gb_action::actions::Actions;
 use gb_folder::memory::MemoryFolder;
 use gb_kinds::builtin::Builtin;
 use gb_provider::transforms::Transforms;
+use gb_registry::tables::Handed;
 use std::alloc::Global;
 use std::test::Fail;
 

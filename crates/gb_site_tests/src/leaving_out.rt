@@ -1,10 +1,11 @@
 //! An argument that a script may give or leave out: the name of the token of `template`.
-use crate::offering::{Handed, Kinds, offered};
+use crate::offering::{Kinds, offered};
 use crate::steps::{Step, go_on, stands};
 use gb_action::actions::Actions;
 use gb_folder::memory::MemoryFolder;
 use gb_kinds::builtin::Builtin;
 use gb_provider::transforms::Transforms;
+use gb_registry::tables::Handed;
 use std::alloc::Global;
 use std::test::Fail;
 

@@ -10,7 +10,7 @@ use gb_kinds::shapes::{COPY_FILES, copy_files_shape};
 use gb_kinds::stored::StoredFlat;
 use gb_pages::actions::{Pages, page_actions};
 use gb_provider::transforms::Transforms;
-use gb_registry::tables::Tables;
+use gb_registry::tables::{Handed, Tables};
 use gb_with::beside::beside;
 use gb_with::both::Both;
 use std::alloc::Global;
@@ -18,14 +18,6 @@ use std::test::Fail;
 
 /// The built-in kinds, and those of pages.
 pub type Kinds = Both<Builtin, Pages>;
-
-pub type Handed<A, T> = Tables<
-    <A as Actions>::Stored,
-    <T as Transforms>::Map,
-    <T as Transforms>::FlatMap,
-    <T as Transforms>::Zip,
-    <T as Transforms>::Test,
->;
 
 fn copying(alloc: Global) -> Result<StoredAction, Fail> {
     let shape = copy_files_shape(alloc)?;

@@ -1,10 +1,11 @@
 //! Pages at paths of their own: the kind `htmlPages`.
-use crate::offering::{Handed, Kinds, offered};
+use crate::offering::{Kinds, offered};
 use crate::steps::{Step, go_on, stand, stands};
 use gb_action::actions::Actions;
 use gb_folder::memory::MemoryFolder;
 use gb_kinds::builtin::Builtin;
 use gb_provider::transforms::Transforms;
+use gb_registry::tables::Handed;
 use std::alloc::Global;
 use std::test::Fail;
 

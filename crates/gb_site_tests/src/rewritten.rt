@@ -1,5 +1,5 @@
 //! What builds of an edited site write, read off a folder that notes it.
-use crate::offering::{Handed, Kinds, offered};
+use crate::offering::{Kinds, offered};
 use crate::sites::written;
 use crate::steps::{Step, go_on, is_told};
 use gb_action::actions::Actions;
@@ -7,6 +7,7 @@ use gb_folder::memory::MemoryFolder;
 use gb_folder::noted::{Note, NotedFolder};
 use gb_kinds::builtin::Builtin;
 use gb_provider::transforms::Transforms;
+use gb_registry::tables::Handed;
 use std::alloc::{AllocError, Global};
 use std::test::Fail;
 

@@ -1,6 +1,5 @@
 //! Edits of a site in memory and builds of it, and what becomes of them.
 use crate::counting::Counting;
-use crate::offering::Handed;
 use gb_action::actions::Actions;
 use gb_answer::answer::answer_text;
 use gb_core::place::Place;
@@ -9,6 +8,7 @@ use gb_folder::memory::MemoryFolder;
 use gb_invocation::invocation::invoke;
 use gb_printer::printer::Silent;
 use gb_provider::transforms::Transforms;
+use gb_registry::tables::Handed;
 use gb_report::fault::Fault;
 use gb_report::report::Report;
 use gb_words::words::read;

@@ -1,13 +1,12 @@
 //! A kind of one's own in its next version, in a table without built-in kinds.
 ghost use Rattle.std.specs.Prelude.{◌≤◌};
 
-use crate::offering::Handed;
 use crate::steps::{Step, go_on};
 use gb_folder::memory::MemoryFolder;
 use gb_kinds::builtin::Builtin;
 use gb_kinds::function_table::FunctionTable;
 use gb_pages::kinds::Markdown;
-use gb_registry::tables::Tables;
+use gb_registry::tables::{Handed, Tables};
 use gb_with::beside::only;
 use gb_with::by_file::ByFile;
 use std::alloc::Global;

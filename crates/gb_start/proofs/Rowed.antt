@@ -1,17 +1,15 @@
 -- Rows made from a plan tell its needs and finalizers; and what a task needs stands before it.
 use Rattle.std.specs.Prelude.{ℕ, zero, suc, ◌≡◌, ◌<◌, ◌⊎◌, ◌↔◌, Bool, true, false, cond, ◌||◌, List, [], ◌∷◌, ◌++◌, map, length, get_or, take, bytes_eq, refl, Contains, Some, slice_get, option_map}
-use Rattle.std.specs.BTreeMap.{BTreeMap, get}
 use Rattle.std.proofs.Common.{sym, ap, subst, ◌∙◌, inl, inr, arith, append-nil}
 use Rattle.std.proofs.lemmas.Option.{slice_get_within, slice_get-map, get_or_from_slice_get}
 use Rattle.std.proofs.lemmas.List.{length-map, append_assoc, get_or-take, length-take, take-map}
-use Rattle.gb_core.specs.Lists.{byte_order}
 use Rattle.gb_folder.specs.Files.{is_empty}
 use Rattle.gb_plan.specs.declared.plan.Planned.{Planned}
 use Rattle.gb_plan.specs.Task.{Path, has_path}
 use Rattle.gb_plan.specs.Graph.{after, finalized_by, orders_in, is_ready, is_scheduled_in, needs_in, no_repeats, order, stuck}
 use Rattle.gb_meaning.proofs.Common.{none_some, some_same}
 use Rattle.gb_plan.proofs.Tests.{not_false, any_append, at_member, into_filter}
-use Rattle.gb_order.specs.Ranked.{TellNumbers, numbers_in}
+use Rattle.gb_order.specs.Ranked.{Numbers, TellNumbers, number_at, numbers_in}
 use Rattle.gb_order.proofs.Edges.{of_kept, into_kept, one_number}
 use Rattle.gb_order.proofs.Numbers.{in_of, of_in}
 use Rattle.gb_start.specs.declared.starts.Ending.{Ending}
@@ -22,7 +20,7 @@ use Rattle.gb_start.proofs.ByNumber.{in_order, of_order}
 
 -- ---- Rows
 
-module _ (plan : List Planned) (numbers : BTreeMap Path ℕ) (tell : TellNumbers (order plan) numbers) (paths : Planned → List Path) where
+module _ (plan : List Planned) (numbers : Numbers) (tell : TellNumbers (order plan) numbers) (paths : Planned → List Path) where
   rowed : (task : ℕ) (planned : Planned) → slice_get plan task ≡ Some planned
       → row (map (λ z. numbers_in numbers (paths z)) plan) task ≡ numbers_in numbers (paths planned)
   rowed task planned here =
@@ -34,11 +32,11 @@ module _ (plan : List Planned) (numbers : BTreeMap Path ℕ) (tell : TellNumbers
     each = length-map _ _;
     told = λ task number planned here. (
       λ h.
-          let kept = of_kept (get byte_order numbers) (paths planned) number (in_of _ number (subst (λ xs. Contains xs number) (rowed task planned here) h)) in
+          let kept = of_kept (number_at numbers) (paths planned) number (in_of _ number (subst (λ xs. Contains xs number) (rowed task planned here) h)) in
           let is = (tell kept.0 number).0 kept.2 in
           (subst (λ n. number < n) (length-map _ _) is.0, ap (has_path (paths planned)) is.1 ∙ kept.1),
       λ h. subst (λ xs. Contains xs number) (sym (rowed task planned here))
-          (of_in number _ (into_kept (get byte_order numbers) (paths planned) (path_at plan number) number h.1
+          (of_in number _ (into_kept (number_at numbers) (paths planned) (path_at plan number) number h.1
           ((tell (path_at plan number) number).1 (subst (λ n. number < n) (sym (length-map _ _)) h.0, refl)))),
     );
   }

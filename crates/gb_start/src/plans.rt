@@ -9,18 +9,23 @@ ghost use Rattle.gb_start.specs.declared.starts.Ending.TheVariants.{ToCome};
 
 use crate::starts::{Starts, mark_all};
 use gb_core::tasks::TaskPaths;
-use gb_order::ranked::{Numbers, numbers_of};
+use gb_order::by_path::Numbers;
+use gb_order::ranked::numbers_of;
 use gb_plan::plan::Planned;
 use std::alloc::{AllocError, Global};
 
 /// The numbers of those of the paths that have one.
-fn numbers_at(alloc: Global, numbers: &Numbers, paths: &TaskPaths) -> Result<Vec<usize>, AllocError>
+fn numbers_at(
+    alloc: Global,
+    numbers: &Numbers<'_>,
+    paths: &TaskPaths,
+) -> Result<Vec<usize>, AllocError>
     ensures { IfOk result (λ found. found.items ≡ numbers_in numbers.now paths.now) }
 {
     let mut found = Vec::new(alloc);
     for path in paths.iter() {
         if let Some(number) = numbers.get(path) {
-            found.push(*number)?;
+            found.push(number)?;
         }
     }
     Ok(found)
@@ -29,7 +34,7 @@ fn numbers_at(alloc: Global, numbers: &Numbers, paths: &TaskPaths) -> Result<Vec
 /// For each task the numbers of those that it needs.
 fn needs_of(
     alloc: Global,
-    numbers: &Numbers,
+    numbers: &Numbers<'_>,
     plan: &[Planned],
 ) -> Result<Vec<Vec<usize>>, AllocError>
     ensures { IfOk result (λ table. rows table.items
@@ -45,7 +50,7 @@ fn needs_of(
 /// For each task the numbers of those that finalize it.
 fn finalizers_of(
     alloc: Global,
-    numbers: &Numbers,
+    numbers: &Numbers<'_>,
     plan: &[Planned],
 ) -> Result<Vec<Vec<usize>>, AllocError>
     ensures { IfOk result

@@ -45,7 +45,7 @@ fn add(
         → changes.new ≡ changes.old ++ added_in property.now tree) }
 {
     if property.incremental {
-        changes.push(property.name.copy()?, added(alloc, found)?)?;
+        changes.push((property.name.copy()?, added(alloc, found)?))?;
     }
     Ok(())
 }

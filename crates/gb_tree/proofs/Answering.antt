@@ -1,11 +1,10 @@
 -- Files that were listed and read on a part of the way were so on all of it.
 use Rattle.std.proofs.Common.{ℕ, List, [], ◌∷◌, inl, inr}
 use Rattle.std.specs.List.{AllZip}
-use Rattle.gb_folder.specs.Answers.{WereListed}
 use Rattle.gb_folder.specs.Calls.{Asks, Call, no_change}
 use Rattle.gb_folder.specs.Files.{Files, Place, Tearing}
 use Rattle.gb_folder.proofs.Answering.{on_longer_way, read_longer}
-use Rattle.gb_tree.specs.Answered.{AreEntriesListed, AreOutputEntriesListed, IsFileRead, IsTreeRead, WasSeen, WereSeen}
+use Rattle.gb_tree.specs.Answered.{AreEntriesListed, AreOutputEntriesListed, IsFileRead, IsStartListed, IsTreeRead, WasSeen, WereSeen}
 use Rattle.gb_tree.specs.Tree.{Entries}
 use Rattle.gb_tree.specs.declared.kept.SeenFile.{SeenFile}
 use Rattle.gb_tree.specs.declared.property.Naming.{Naming}
@@ -34,8 +33,8 @@ module _ {F : Type 0} {failures : F → ℕ} {may_leave : F → Tearing} {asked 
       → AreEntriesListed failures may_leave asked naming roots include exclude first end entries
   entries_longer {first = first} {old = old} {new = new} {end = end} before behind naming roots include exclude entries were = record {
     listings = were.listings;
-    listed = all_zip_more (WereListed failures may_leave asked old new) (WereListed failures may_leave asked first end)
-        (λ root places was. on_longer_way before behind was) _ were.listings were.listed;
+    listed = all_zip_more (IsStartListed failures may_leave asked old new) (IsStartListed failures may_leave asked first end)
+        (λ start places was. on_longer_way before behind was) _ were.listings were.listed;
     are = were.are;
   }
 

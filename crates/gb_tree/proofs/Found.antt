@@ -12,11 +12,12 @@ use Rattle.gb_core.specs.Place.{is_under}
 use Rattle.gb_folder.specs.Files.{Place, Files, file_at, places_under}
 use Rattle.gb_folder.specs.Limits.{max_files}
 use Rattle.gb_tree.specs.Tree.{Entries}
-use Rattle.gb_tree.specs.Property.{distinct, entries_in, entries_of, found, held, is_in, is_under_any, path_of}
+use Rattle.gb_tree.specs.Property.{distinct, entries_in, entries_of, found, held, is_in, is_under_any, path_of, places_of}
 use Rattle.gb_tree.specs.declared.property.Naming.{Naming}
 use Rattle.gb_tree.proofs.Holding.{all_append, all_take, all_wider, at_places}
 use Rattle.gb_tree.proofs.InOrder.{all_filter, listed_stand}
 use Rattle.gb_tree.proofs.Loops.{with_none}
+use Rattle.gb_tree.proofs.Outermost.{under_under}
 use Rattle.gb_tree.proofs.Sorting.{all_in_order}
 use Rattle.gb_tree.proofs.Told.{Stand, with_paths}
 
@@ -111,11 +112,11 @@ of_all place (other ∷ kept) at h =
       ] all
     ] h
 
--- a place at or beneath one of the roots
-pub under_root : (roots : List Place) (i : ℕ) (root at : Place) → i < length roots → root ≡ get_or roots i root → IsTrue (is_under at root) → IsTrue (is_under_any roots at)
-under_root [] i root at within is h = absurd (omega (arith, within))
-under_root (other ∷ roots) zero root at within is h = ap (λ b. b || is_under_any roots at) (ap (is_under at) (sym is) ∙ h)
-under_root (other ∷ roots) (suc i) root at within is h = any_way (is_under at other) (is_under_any roots at) (under_root roots i root at (omega (arith, within)) is h)
+-- a place at or beneath one of the starts
+pub under_start : (starts : List (Place × Place)) (i : ℕ) (start : Place × Place) (at : Place) → i < length starts → start ≡ get_or starts i start → IsTrue (is_under at start.1) → IsTrue (is_under_any (places_of starts) at)
+under_start [] i start at within is h = absurd (omega (arith, within))
+under_start (other ∷ starts) zero start at within is h = ap (λ b. b || is_under_any (places_of starts) at) (ap (λ (next : Place × Place). is_under at next.1) (sym is) ∙ h)
+under_start (other ∷ starts) (suc i) start at within is h = any_way (is_under at other.1) (is_under_any (places_of starts) at) (under_start starts i start at (omega (arith, within)) is h)
 
 -- a place beneath one of the places that are kept is beneath one of all
 pub distinct_under : (places : List Place) (at : Place) → IsTrue (is_under_any (distinct places) at) → IsTrue (is_under_any places at)
@@ -139,14 +140,18 @@ pub found_stand : (naming : Naming) (roots : List Place) (include exclude : List
 found_stand naming roots include exclude files =
     all_in_order (λ entry. IsSome (file_at files entry.1)) (found naming include exclude files (distinct roots)) (found_each naming include exclude files (distinct roots))
 
--- what is taken in from one root lies beneath it
-pub taken_beneath : (naming : Naming) (include exclude : List (List ℕ)) (roots : List Place) (i : ℕ) (root : Place) (places read : List Place) (kept new : Entries) → i < length roots → root ≡ get_or roots i root
-    → read ≡ places → AllPass (λ at. is_under at root) places → new ≡ held (kept ++ entries_in naming include exclude root read)
-    → AllByRecursion (λ entry. IsTrue (is_under_any roots entry.1)) kept → AllByRecursion (λ entry. IsTrue (is_under_any roots entry.1)) new
-taken_beneath naming include exclude roots i root places read kept new within is same under taken all =
-    let here = entries_in naming include exclude root read in
-    let each = all_wider (λ at. is_under at root ≡ true) (λ at. IsTrue (is_under_any roots at)) read (λ at. under_root roots i root at within is)
-    (recursion_from_All (λ at. is_under at root ≡ true) read (subst (λ (ps : List Place). AllPass (λ at. is_under at root) ps) (sym same) under)) in
-    subst (λ (es : Entries). AllByRecursion (λ entry. IsTrue (is_under_any roots entry.1)) es) (sym taken)
+-- what is taken in from one start lies beneath it
+pub taken_beneath : (naming : Naming) (include exclude : List (List ℕ)) (starts : List (Place × Place)) (i : ℕ) (start : Place × Place) (places read : List Place) (kept new : Entries) → i < length starts → start ≡ get_or starts i start
+    → read ≡ places → AllPass (λ at. is_under at start.1) places → new ≡ held (kept ++ entries_in naming include exclude start.0 read)
+    → AllByRecursion (λ entry. IsTrue (is_under_any (places_of starts) entry.1)) kept → AllByRecursion (λ entry. IsTrue (is_under_any (places_of starts) entry.1)) new
+taken_beneath naming include exclude starts i start places read kept new within is same under taken all =
+    let here = entries_in naming include exclude start.0 read in
+    let each = all_wider (λ at. is_under at start.1 ≡ true) (λ at. IsTrue (is_under_any (places_of starts) at)) read (λ at. under_start starts i start at within is)
+    (recursion_from_All (λ at. is_under at start.1 ≡ true) read (subst (λ (ps : List Place). AllPass (λ at. is_under at start.1) ps) (sym same) under)) in
+    subst (λ (es : Entries). AllByRecursion (λ entry. IsTrue (is_under_any (places_of starts) entry.1)) es) (sym taken)
     (all_take _ (max_files + 1) (kept ++ here) (all_append _ kept here all
-    (at_places (λ at. IsTrue (is_under_any roots at)) (path_of naming root) (filter (is_in include exclude root) read) (all_filter _ (is_in include exclude root) read each))))
+    (at_places (λ at. IsTrue (is_under_any (places_of starts) at)) (path_of naming start.0) (filter (is_in include exclude start.0) read) (all_filter _ (is_in include exclude start.0) read each))))
+
+-- what lies beneath a start lies beneath its root
+pub all_of_root : (root start : Place) (places : List Place) → IsTrue (is_under start root) → AllPass (λ at. is_under at start) places → AllPass (λ at. is_under at root) places
+all_of_root root start places within all = λ i d below. under_under (get_or places i d) start root (all i d below) within

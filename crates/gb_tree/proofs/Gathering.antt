@@ -1,4 +1,4 @@
--- The parts of a file and the listings of roots that were answered so far.
+-- The parts of a file and the listings of starts that were answered so far.
 use Rattle.std.proofs.Common.{◌≡◌, ◌⊎◌, ◌<◌, ◌+◌, inl, inr, ℕ, Bool, IsTrue, List, [], ◌∷◌, ◌++◌, Option, Some, None, Ok, length, take, get_or, refl, sym, ◌∙◌, ap, subst, append_assoc}
 use Rattle.std.proofs.lemmas.List.{map-append, take_more}
 use Rattle.std.specs.List.{AllZip, flat_map, zip}
@@ -11,7 +11,7 @@ use Rattle.gb_folder.specs.Files.{Bytes, Files, Place, Tearing}
 use Rattle.gb_folder.specs.Limits.{max_files}
 use Rattle.gb_folder.proofs.Answering.{on_longer_way}
 use Rattle.gb_folder.proofs.Asked.{asks_nothing, asks_then}
-use Rattle.gb_tree.specs.Answered.{IsFileRead, IsTreeRead, listed_in}
+use Rattle.gb_tree.specs.Answered.{IsFileRead, IsStartListed, IsTreeRead, listed_in}
 use Rattle.gb_tree.specs.Property.{entries_in, held}
 use Rattle.gb_tree.specs.Reading.{KeepsOnly, entries_seen}
 use Rattle.gb_tree.specs.Tree.{Entries}
@@ -104,31 +104,31 @@ module _ {F : Type 0} {failures : F → ℕ} {may_leave : F → Tearing} {asked 
     ],
   )
 
-  -- ---- Listings of roots
+  -- ---- Listings of starts
 
-  -- what was listed beneath one root more
-  pub one_root_more : {old now new : F} (naming : Naming) (include exclude : List (List ℕ)) (roots : List Place) (i : ℕ) (root : Place)
-      (places : List Place) (kept more : Entries) → i < length roots → root ≡ get_or roots i root
+  -- what was listed at one start more
+  pub one_start_more : {old now new : F} (naming : Naming) (include exclude : List (List ℕ)) (starts : List (Place × Place)) (i : ℕ) (start : Place × Place)
+      (places : List Place) (kept more : Entries) → i < length starts → start ≡ get_or starts i start
       → Asks failures may_leave asked no_change old now → Asks failures may_leave asked no_change now new
-      → WereListed failures may_leave asked now new root places → more ≡ held (kept ++ entries_in naming include exclude root places)
-      → ((listings : List (List Place)) × AllZip (WereListed failures may_leave asked old now) (take i roots) listings
-      × (kept ≡ held (listed_in naming include exclude (zip (take i roots) listings))))
-      → (listings : List (List Place)) × AllZip (WereListed failures may_leave asked old new) (take (i + 1) roots) listings
-      × (more ≡ held (listed_in naming include exclude (zip (take (i + 1) roots) listings)))
-  one_root_more {old = old} {now = now} {new = new} naming include exclude roots i root places kept more within is before asks way taken so_far =
-      let listed = WereListed failures may_leave asked old new in
-      let longer = all_zip_more (WereListed failures may_leave asked old now) listed (λ root places was. on_longer_way (asks_nothing old) asks was)
-      (take i roots) so_far.0 so_far.1 in
-      let front : take (i + 1) roots ≡ take i roots ++ root ∷ [] = take_more roots i root within ∙ ap (λ place. take i roots ++ place ∷ []) (sym is) in
-      let here = entries_in naming include exclude root places in
+      → WereListed failures may_leave asked now new start.1 places → more ≡ held (kept ++ entries_in naming include exclude start.0 places)
+      → ((listings : List (List Place)) × AllZip (IsStartListed failures may_leave asked old now) (take i starts) listings
+      × (kept ≡ held (listed_in naming include exclude (zip (take i starts) listings))))
+      → (listings : List (List Place)) × AllZip (IsStartListed failures may_leave asked old new) (take (i + 1) starts) listings
+      × (more ≡ held (listed_in naming include exclude (zip (take (i + 1) starts) listings)))
+  one_start_more {old = old} {now = now} {new = new} naming include exclude starts i start places kept more within is before asks way taken so_far =
+      let listed = IsStartListed failures may_leave asked old new in
+      let longer = all_zip_more (IsStartListed failures may_leave asked old now) listed (λ start places was. on_longer_way (asks_nothing old) asks was)
+      (take i starts) so_far.0 so_far.1 in
+      let front : take (i + 1) starts ≡ take i starts ++ start ∷ [] = take_more starts i start within ∙ ap (λ next. take i starts ++ next ∷ []) (sym is) in
+      let here = entries_in naming include exclude start.0 places in
       let listings = so_far.0 ++ places ∷ [] in
-      let found : List Place → Entries = λ places. listed_in naming include exclude (zip places listings) in
-      let told = listed_in naming include exclude (zip (take i roots) so_far.0) in (
+      let found : List (Place × Place) → Entries = λ starts. listed_in naming include exclude (zip starts listings) in
+      let told = listed_in naming include exclude (zip (take i starts) so_far.0) in (
         listings,
-        subst (λ (places : List Place). AllZip listed places listings) (sym front)
-            (all_zip_push listed (take i roots) so_far.0 root places longer (on_longer_way before (asks_nothing new) way)),
+        subst (λ (starts : List (Place × Place)). AllZip listed starts listings) (sym front)
+            (all_zip_push listed (take i starts) so_far.0 start places longer (on_longer_way before (asks_nothing new) way)),
         taken ∙ ap (λ (entries : Entries). held (entries ++ here)) so_far.2 ∙ take_again (max_files + 1) told here
-            ∙ sym (ap held (ap found front ∙ flat_push listed (λ listing. entries_in naming include exclude listing.0 listing.1) (take i roots) so_far.0 root places longer)),
+            ∙ sym (ap held (ap found front ∙ flat_push listed (λ (listing : (Place × Place) × List Place). entries_in naming include exclude listing.0.0 listing.1) (take i starts) so_far.0 start places longer)),
       )
 
   -- ---- A tree

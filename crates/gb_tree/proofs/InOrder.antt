@@ -37,7 +37,7 @@ root_first [] c rest = refl
 root_first (d ∷ root) c rest = ap (λ o. ordering_then o (byte_order root (root ++ c ∷ rest))) (one_tied d) ∙ root_first root c rest
 
 -- nothing ends in a slash
-no_slash_last : (root : List ℕ) → is_place (root ++ 47 ∷ []) ≡ true → ⊥
+pub no_slash_last : (root : List ℕ) → is_place (root ++ 47 ∷ []) ≡ true → ⊥
 no_slash_last root good =
     let parts = and_parts _ (list_all is_segment (segments (root ++ 47 ∷ []))) good in
     false≢true (sym (nothing (list_all is_segment (segments root))) ∙ sym (list_all-append is_segment (segments root) ([] ∷ [])) ∙ sym (ap (list_all is_segment) (segments-joined root [])) ∙ parts.1)

@@ -18,3 +18,8 @@ pub mod Rest
 pub mod Seen
 pub mod Answering
 pub mod Gathering
+pub mod Fronts
+pub mod Outermost
+pub mod Starting
+pub mod Above
+pub mod Small

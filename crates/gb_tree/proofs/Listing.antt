@@ -5,12 +5,13 @@ use Rattle.std.specs.Prelude.{nat_lt}
 use Rattle.gb_core.specs.Lists.{first_of}
 use Rattle.gb_folder.specs.Files.{Place, Contents}
 use Rattle.gb_folder.specs.Limits.{max_files}
-use Rattle.gb_tree.specs.Property.{distinct, doubled, entries_of, entry_faults, entry_order, found, in_order, inserted, paths_of}
+use Rattle.gb_tree.specs.Property.{distinct, doubled, entries_of, entry_faults, entry_order, found_from, in_order, inserted, paths_of, places_of, starts_in}
 use Rattle.gb_tree.specs.Tree.{Entries, IsRefused, odd_roots, too_many}
 use Rattle.gb_tree.specs.declared.fault.TreeFault.{TreeFault}
 use Rattle.gb_tree.specs.declared.fault.TreeFault.TheVariants as faults
 use Rattle.gb_tree.specs.declared.property.Naming.{Naming}
 use Rattle.gb_tree.proofs.Refused.{front_first}
+use Rattle.gb_tree.proofs.Starting.{found_in_order}
 
 length-inserted : (entry : List ℕ × Place) (entries : Entries) → length (inserted entry entries) ≡ suc (length entries)
 length-inserted entry [] = refl
@@ -35,30 +36,41 @@ first_map {X} {Y} f (y ∷ xs) x e = ap (λ o. mapped o) e
     mapped None = None
     mapped (Some z) = Some (f z)
 
-module _ (name : List ℕ) (naming : Naming) (roots : List Place) (include exclude : List (List ℕ)) (contents : Contents) (kept : List Place) (same : kept ≡ distinct roots) where
-  abbrev all : List Place → Entries
-  all places = found naming include exclude contents.files places
+module _ (name : List ℕ) (naming : Naming) (roots : List Place) (include exclude : List (List ℕ)) (contents : Contents) (starts : List (Place × Place)) (same : starts ≡ starts_in include (distinct roots)) where
+  abbrev all : List (Place × Place) → Entries
+  all starts = found_from naming include exclude contents.files starts
+
+  abbrev final : Entries
+  final = entries_of naming roots include exclude contents.files
 
   abbrev told : Entries → List TreeFault
   told entries = map (faults.DuplicateInput name) (doubled (paths_of entries))
 
+  -- in order, they are the entries of the property
+  pub in_their_order : in_order (all starts) ≡ final
+  in_their_order = ap (λ starts. in_order (all starts)) same ∙ found_in_order naming roots include exclude contents.files
+
+  as_many : too_many name (all starts) ≡ too_many name final
+  as_many = sym (too_many-in_order name (all starts)) ∙ ap (too_many name) in_their_order
+
+  as_odd : odd_roots contents (places_of starts) ≡ odd_roots contents (places_of (starts_in include (distinct roots)))
+  as_odd = ap (λ starts. odd_roots contents (places_of starts)) same
+
   -- what hinders finding the entries comes first
-  pub found_refused : (before after : ℕ) (fault : TreeFault) → IsRefused before after (odd_roots contents kept ++ too_many name (all kept)) fault → IsRefused before after (entry_faults name naming roots include exclude contents) fault
+  pub found_refused : (before after : ℕ) (fault : TreeFault) → IsRefused before after (odd_roots contents (places_of starts) ++ too_many name (all starts)) fault → IsRefused before after (entry_faults name naming roots include exclude contents) fault
   found_refused before after fault (inl machine) = inl machine
   found_refused before after fault (inr first) =
-      let entries = entries_of naming roots include exclude contents.files in
-      let here : odd_roots contents kept ++ too_many name (all kept) ≡ odd_roots contents (distinct roots) ++ too_many name entries =
-      ap (λ places. odd_roots contents places ++ too_many name (all places)) same ∙ ap (λ faults. odd_roots contents (distinct roots) ++ faults) (sym (too_many-in_order name (all (distinct roots)))) in
-      inr (front_first (odd_roots contents (distinct roots) ++ too_many name entries) (told entries) fault (sym (ap first_of here) ∙ first))
+      let odd = odd_roots contents (places_of (starts_in include (distinct roots))) in
+      let here : odd_roots contents (places_of starts) ++ too_many name (all starts) ≡ odd ++ too_many name final =
+      ap (λ faults. faults ++ too_many name (all starts)) as_odd ∙ ap (λ faults. odd ++ faults) as_many in
+      inr (front_first (odd ++ too_many name final) (told final) fault (sym (ap first_of here) ∙ first))
 
   -- where nothing hindered that, what is left is that paths are doubled
-  pub only_doubled : (entries sorted : Entries) → odd_roots contents kept ≡ [] → entries ≡ all kept → too_many name entries ≡ [] → sorted ≡ in_order entries → entry_faults name naming roots include exclude contents ≡ told sorted
+  pub only_doubled : (entries sorted : Entries) → odd_roots contents (places_of starts) ≡ [] → entries ≡ all starts → too_many name entries ≡ [] → sorted ≡ in_order entries → entry_faults name naming roots include exclude contents ≡ told sorted
   only_doubled entries sorted none is few order =
-      let these : entries ≡ all (distinct roots) = is ∙ ap all same in
-      let final = entries_of naming roots include exclude contents.files in
-      ap (λ faults. faults ++ too_many name final ++ told final) (sym (ap (odd_roots contents) same) ∙ none)
-      ∙ ap (λ faults. faults ++ told final) (too_many-in_order name (all (distinct roots)) ∙ sym (ap (too_many name) these) ∙ few)
-      ∙ ap told (sym (order ∙ ap in_order these))
+      ap (λ faults. faults ++ too_many name final ++ told final) (sym as_odd ∙ none)
+      ∙ ap (λ faults. faults ++ told final) (sym as_many ∙ sym (ap (too_many name) is) ∙ few)
+      ∙ ap told (sym in_their_order ∙ sym (order ∙ ap in_order is))
 
   pub doubled_first : (sorted : Entries) (path : List ℕ) (fault : TreeFault) → entry_faults name naming roots include exclude contents ≡ told sorted → first_of (doubled (paths_of sorted)) ≡ Some path → fault ≡ faults.DuplicateInput name path
       → first_of (entry_faults name naming roots include exclude contents) ≡ Some fault

@@ -19,7 +19,7 @@ use Rattle.gb_tree.specs.Property.{entry_order, in_order, inserted}
 use Rattle.gb_tree.specs.Rising.{IsFrom, IsRising}
 use Rattle.gb_tree.specs.Tree.{Entries}
 
-abbrev Entry : Type 0
+abbrev pub Entry : Type 0
 Entry = List ℕ × Place
 
 pub order_total : IsTotalOrder entry_order
@@ -74,7 +74,7 @@ ordered_in_order (entry ∷ entries) = ordered_inserted entry (in_order entries)
 
 -- ---- How often an entry stands
 
-abbrev one_if : Ordering → ℕ
+abbrev pub one_if : Ordering → ℕ
 one_if o = cond (is_eq o) 1 0
 
 abbrev count : Entry → Entries → ℕ
@@ -141,6 +141,12 @@ pub sorted_is : (xs ys : Entries) → IsPermutation xs ys → IsSorted entry_ord
 sorted_is xs ys permutation sorted =
     same_list ys (in_order xs) (ordered_from ys sorted) (ordered_in_order xs)
     (λ entry. sum_by-IsPermutation (λ other. one_if (entry_order entry other)) xs ys permutation ∙ sym (count_in_order entry xs))
+
+-- what holds each entry as often is in order the same list
+pub same_in_order : (xs ys : Entries) → ((entry : Entry) → sum_by (λ other. one_if (entry_order entry other)) xs ≡ sum_by (λ other. one_if (entry_order entry other)) ys) → in_order xs ≡ in_order ys
+same_in_order xs ys same =
+    same_list (in_order xs) (in_order ys) (ordered_in_order xs) (ordered_in_order ys)
+    (λ entry. count_in_order entry xs ∙ same entry ∙ sym (count_in_order entry ys))
 
 first_counts : (o p : Ordering) → is_lt (ordering_then o p) ≡ false → is_lt o ≡ false
 first_counts Less p h = h

@@ -4,26 +4,34 @@ use Rattle.std.specs.List.{AllByRecursion, AllZip, flat_map, zip}
 use Rattle.gb_folder.specs.Answers.{WereListed, WereRead}
 use Rattle.gb_folder.specs.Calls.{Call}
 use Rattle.gb_folder.specs.Files.{Bytes, Files, Place, Tearing, is_own}
-use Rattle.gb_tree.specs.Property.{distinct, entries_in, in_order}
+use Rattle.gb_tree.specs.Property.{distinct, entries_in, in_order, starts_in}
 use Rattle.gb_tree.specs.Reading.{KeepsOnly}
 use Rattle.gb_tree.specs.Tree.{Entries, entries_from}
 use Rattle.gb_tree.specs.declared.kept.SeenFile.{SeenFile}
 use Rattle.gb_tree.specs.declared.property.Naming.{Naming}
 use Rattle.sha2.specs.Sha256.{sha256}
 
--- what belongs to a property, of the places that were answered as all at or beneath each root
-abbrev pub listed_in : Naming → List (List ℕ) → List (List ℕ) → List (Place × List Place) → Entries
+-- what belongs to a property, of the places that were answered as all at or beneath each start
+abbrev pub listed_in : Naming → List (List ℕ) → List (List ℕ) → List ((Place × Place) × List Place) → Entries
 listed_in naming include exclude listings =
-    flat_map (λ listing. entries_in naming include exclude listing.0 listing.1) listings
+    flat_map (λ listing. entries_in naming include exclude listing.0.0 listing.1) listings
 
--- The entries of a property: of what was answered as all at or beneath each of its roots, what belongs to it.
+-- these places were answered as all at or beneath a start
+abbrev pub IsStartListed : {F : Type 0} → (F → ℕ) → (F → Tearing) → (F → Call → F → Type 0) → F → F
+    → Place × Place → List Place → Type 0
+IsStartListed failures may_leave asked old new start places =
+    WereListed failures may_leave asked old new start.1 places
+
+-- The entries of a property: of what was answered as all at or beneath each of its starts, what belongs to
+-- it.
 pub record AreEntriesListed {F : Type 0} (failures : F → ℕ) (may_leave : F → Tearing)
     (asked : F → Call → F → Type 0) (naming : Naming) (roots : List Place) (include exclude : List (List ℕ))
     (old new : F) (entries : Entries) : Type 0 where
   pub listings : List (List Place)
-  pub listed : AllZip (WereListed failures may_leave asked old new) (distinct roots) listings
+  pub listed : AllZip (IsStartListed failures may_leave asked old new) (starts_in include (distinct roots))
+      listings
   pub are : entries
-      ≡ in_order (listed_in naming include exclude (zip (distinct roots) listings))
+      ≡ in_order (listed_in naming include exclude (zip (starts_in include (distinct roots)) listings))
 
 -- those of an output: what was answered as all at or beneath its place; in the tool's own folder there are
 -- none

@@ -5,6 +5,8 @@ pub mod Prints
 pub mod Merge
 pub mod Tree
 pub mod Property
+pub mod Starts
 pub mod Rising
 pub mod Reading
 pub mod Answered
+pub mod Waiting

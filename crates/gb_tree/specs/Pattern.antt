@@ -1,7 +1,7 @@
 -- Patterns, and the paths that they match.
 use Rattle.std.specs.Prelude.{ℕ, Bool, true, false, not, ◌&&◌, ◌||◌, ◌==◌, List, [], ◌∷◌, ◌++◌, if◌then◌else◌}
 use Rattle.std.specs.Prelude.{codes, bytes_eq}
-use Rattle.std.specs.List.{list_any, ends_with}
+use Rattle.std.specs.List.{before_first, before_last, list_any, ends_with}
 use Rattle.std.specs.Str.{chars}
 use Rattle.gb_core.specs.Place.{is_place, segments}
 
@@ -27,8 +27,17 @@ is_star p = p == 42
 abbrev pub stands_for : ℕ → ℕ → Bool
 stands_for p c = (p == 63) || (p == c)
 
+abbrev pub wild_matches : List ℕ → List ℕ → Bool
+wild_matches pattern text = matches_by is_star stands_for (chars pattern) (chars text)
+
+-- a byte that stands for others
+abbrev pub is_wild : ℕ → Bool
+is_wild b = (b == 42) || (b == 63)
+
+-- a segment without one stands for itself
 abbrev pub segment_matches : List ℕ → List ℕ → Bool
-segment_matches pattern text = matches_by is_star stands_for (chars pattern) (chars text)
+segment_matches pattern text =
+    if list_any is_wild pattern then wild_matches pattern text else bytes_eq pattern text
 
 -- in a path the segment `**` stands for any segments
 abbrev pub is_double_star : List ℕ → Bool
@@ -47,3 +56,14 @@ is_backslash b = b == 92
 -- a place, once it is spelled out, without backslashes
 abbrev pub is_pattern : List ℕ → Bool
 is_pattern text = is_place (spelled_out text) && not (list_any is_backslash text)
+
+-- ---- Where what it matches stands
+
+-- what stands before the first `*` and before the first `?`
+abbrev pub plain_front : List ℕ → List ℕ
+plain_front pattern = before_first (λ b. b == 63) (before_first (λ b. b == 42) pattern)
+
+-- The folder in front of its first `*` or `?`; a pattern that has neither is its own front.
+abbrev pub front_of : List ℕ → List ℕ
+front_of pattern =
+    if list_any is_wild pattern then before_last (λ b. b == 47) (plain_front pattern) else pattern

@@ -4,11 +4,11 @@ use Rattle.std.specs.Prelude.{if◌then◌else◌, bytes_eq}
 use Rattle.std.specs.List.{after_last, filter, flat_map, list_any}
 use Rattle.std.specs.Ordering.{is_lt, ordering_then}
 use Rattle.std.specs.declared.cmp.Ordering.{Ordering}
-use Rattle.gb_core.specs.Place.{is_under}
+use Rattle.gb_core.specs.Place.{is_beneath, is_place, is_under}
 use Rattle.gb_core.specs.Lists.{byte_order}
 use Rattle.gb_folder.specs.Files.{Place, Files, Contents, is_empty, is_own, places_under}
 use Rattle.gb_folder.specs.Limits.{max_files}
-use Rattle.gb_tree.specs.Pattern.{path_matches}
+use Rattle.gb_tree.specs.Pattern.{front_of, path_matches}
 use Rattle.gb_tree.specs.Tree.{Entries, contents_at, odd_roots, path_from, too_large, too_many}
 use Rattle.gb_tree.specs.declared.property.Naming.{Naming}
 use Rattle.gb_tree.specs.declared.property.Naming.TheVariants.{Relative, NameOnly}
@@ -60,6 +60,35 @@ abbrev pub found : Naming → List (List ℕ) → List (List ℕ) → Files → 
 found naming include exclude files roots =
     flat_map (λ root. entries_in naming include exclude root (places_under files root)) roots
 
+-- ---- Where they are looked for
+
+-- Where all stands that a pattern lets in beneath the root: at the place of its front or beneath it. The root
+-- itself, where that would be no place, or where the pattern lets in a file that is the root.
+abbrev pub start_of : Place → List ℕ → Place
+start_of root pattern =
+    let start = root ++ 47 ∷ front_of pattern in
+    if path_matches pattern (last_segment root) || not (is_place start) then root else start
+
+-- those of them that lie beneath no other, each once
+abbrev pub outermost : List Place → List Place
+outermost places = filter (λ place. not (list_any (is_beneath place) places)) (distinct places)
+
+-- the places beneath a root at which the files are listed
+abbrev pub starts_of : List (List ℕ) → Place → List Place
+starts_of include root = if is_empty include then root ∷ [] else outermost (map (start_of root) include)
+
+-- each of the roots with each of its starts
+abbrev pub starts_in : List (List ℕ) → List Place → List (Place × Place)
+starts_in include roots = flat_map (λ root. map (λ start. (root, start)) (starts_of include root)) roots
+
+abbrev pub places_of : List (Place × Place) → List Place
+places_of starts = map (λ start. start.1) starts
+
+-- what the listings there give
+abbrev pub found_from : Naming → List (List ℕ) → List (List ℕ) → Files → List (Place × Place) → Entries
+found_from naming include exclude files starts =
+    flat_map (λ start. entries_in naming include exclude start.0 (places_under files start.1)) starts
+
 -- no more of them than tell that there are too many
 abbrev pub held : Entries → Entries
 held entries = take (max_files + 1) entries
@@ -101,7 +130,7 @@ abbrev pub entry_faults : List ℕ → Naming → List Place → List (List ℕ)
     → List TreeFault
 entry_faults name naming roots include exclude contents =
     let entries = entries_of naming roots include exclude contents.files in
-    odd_roots contents (distinct roots) ++ too_many name entries
+    odd_roots contents (places_of (starts_in include (distinct roots))) ++ too_many name entries
     ++ map (faults.DuplicateInput name) (doubled (paths_of entries))
 
 abbrev pub tree_faults : List ℕ → Naming → List Place → List (List ℕ) → List (List ℕ) → Contents

@@ -7,27 +7,27 @@ ghost use Rattle.std.specs.Ordering.{is_lt};
 ghost use Rattle.std.specs.FinMap.Entries.{is_sorted};
 ghost use Rattle.gb_core.specs.Place.{is_beneath, is_under};
 ghost use Rattle.gb_core.specs.Lists.{byte_order, first_of};
-ghost use Rattle.gb_folder.specs.Answers.{WereListed};
 ghost use Rattle.gb_folder.specs.Calls.{Asks, no_change};
 ghost use Rattle.gb_folder.specs.Limits.{max_files};
 ghost use Rattle.gb_tree.specs.Tree.{Blames, IsRefused, odd_roots, too_many};
-ghost use Rattle.gb_tree.specs.Property.{distinct, doubled, entries_in, entries_of, entry_faults, found};
-ghost use Rattle.gb_tree.specs.Property.{held, in_order, is_in, is_under_any, lets_in, matches_any, paths_of};
+ghost use Rattle.gb_tree.specs.Property.{doubled, entries_in, entries_of, entry_faults, found_from};
+ghost use Rattle.gb_tree.specs.Property.{held, in_order, is_in, is_under_any, lets_in, matches_any};
+ghost use Rattle.gb_tree.specs.Property.{paths_of, places_of};
 ghost use Rattle.gb_tree.specs.Rising.{IsFrom, IsRising};
-ghost use Rattle.gb_tree.specs.Answered.{AreEntriesListed, listed_in};
+ghost use Rattle.gb_tree.specs.Answered.{AreEntriesListed, IsStartListed, listed_in};
 
 use crate::fault::TreeFault;
 use crate::path::{path_of, seen_from};
 use crate::pattern::Pattern;
 use crate::property::Naming;
 use crate::reading::listed;
+use crate::starts::{distinct, starts_in};
 use gb_core::name::Name;
 use gb_core::place::{Place, RelPath, lies_beneath};
 use gb_folder::folder::Folder;
 use gb_folder::limits::MAX_FILES;
 use gb_folder::own::is_own;
 use std::alloc::{AllocError, Global};
-use std::collections::BTreeSet;
 
 /// The places of the property's files, in the order of their paths, of which each can stand beside
 /// the others. Of no content anything is read.
@@ -58,6 +58,7 @@ pub(crate) fn entries_of<F: Folder>(
         (entry_faults name.now naming roots.now include.now exclude.now (F.contents folder.old)) fault) }
 {
     let roots = distinct(alloc, roots)?;
+    let starts = starts_in(alloc, include, roots.as_slice())?;
     let mut entries = found_few(
         alloc,
         folder,
@@ -65,28 +66,14 @@ pub(crate) fn entries_of<F: Folder>(
         naming,
         include,
         exclude,
-        roots.as_slice(),
+        starts.as_slice(),
     )?;
     sort(&mut entries);
     check_doubled(alloc, name, entries.as_slice())?;
     Ok(entries)
 }
 
-/// Each place once. Those that were met stand in a set, so that the steps grow as n log n.
-fn distinct(alloc: Global, places: &[Place]) -> Result<Vec<Place>, AllocError>
-    ensures { IfOk result (λ kept. kept.items ≡ distinct places.now) }
-{
-    let mut met = BTreeSet::new(alloc);
-    let mut kept: Vec<Place> = Vec::new(alloc);
-    for place in places.iter() {
-        if met.insert(place.copy()?)? {
-            kept.push(place.copy()?)?;
-        }
-    }
-    Ok(kept)
-}
-
-/// What the roots give, of which there are no more than can be read.
+/// What the starts give, of which there are no more than can be read.
 fn found_few<F: Folder>(
     alloc: Global,
     folder: &mut F,
@@ -94,35 +81,37 @@ fn found_few<F: Folder>(
     naming: Naming,
     include: &[Pattern],
     exclude: &[Pattern],
-    roots: &[Place],
+    starts: &[(Place, Place)],
 ) -> Result<Vec<(RelPath, Place)>, TreeFault>
+    requires { AllByRecursion (λ start. IsTrue (is_under start.1 start.0)) starts.now }
     ensures asks { Asks F.failures F.may_leave F.asked no_change folder.old folder.new }
-    ensures blame { Blames (λ at. IsTrue (is_under_any roots.now at))
+    ensures blame { Blames (λ at. IsTrue (is_under_any (places_of starts.now) at))
         (F.failures folder.old) (F.failures folder.new) result }
-    ensures under { IfOk result
-        (λ entries. AllByRecursion (λ entry. IsTrue (is_under_any roots.now entry.1)) entries.items) }
+    ensures under { IfOk result (λ entries.
+        AllByRecursion (λ entry. IsTrue (is_under_any (places_of starts.now) entry.1)) entries.items) }
     ensures same { IsTrue F.tells → F.contents folder.new ≡ F.contents folder.old }
     ensures answered { IfOk result (λ entries. (listings : List (List (List ℕ)))
-        × AllZip (WereListed F.failures F.may_leave F.asked folder.old folder.new) roots.now listings
-        × (entries.items ≡ listed_in naming include.now exclude.now (zip roots.now listings))) }
+        × AllZip (IsStartListed F.failures F.may_leave F.asked folder.old folder.new) starts.now listings
+        × (entries.items ≡ listed_in naming include.now exclude.now (zip starts.now listings))) }
     ensures found { IsTrue F.tells → IfOk result (λ entries.
-        entries.items ≡ found naming include.now exclude.now (F.contents folder.old).files roots.now) }
-    ensures none_odd { IsTrue F.tells → OnOk result (odd_roots (F.contents folder.old) roots.now ≡ []) }
+        entries.items ≡ found_from naming include.now exclude.now (F.contents folder.old).files starts.now) }
+    ensures none_odd { IsTrue F.tells → OnOk result
+        (odd_roots (F.contents folder.old) (places_of starts.now) ≡ []) }
     ensures few { IfOk result (λ entries. too_many name.now entries.items ≡ []) }
     ensures err { IsTrue F.tells → IfErr result (λ fault.
         IsRefused (F.failures folder.old) (F.failures folder.new)
-        (odd_roots (F.contents folder.old) roots.now
+        (odd_roots (F.contents folder.old) (places_of starts.now)
         ++ too_many name.now
-        (found naming include.now exclude.now (F.contents folder.old).files roots.now)) fault) }
+        (found_from naming include.now exclude.now (F.contents folder.old).files starts.now)) fault) }
 {
-    let entries = found(alloc, folder, naming, include, exclude, roots)?;
+    let entries = found(alloc, folder, naming, include, exclude, starts)?;
     if entries.len() > MAX_FILES {
         return Err(TreeFault::TooManyFiles(name.copy()?));
     }
     Ok(entries)
 }
 
-/// What each of the roots gives, but no more than tell that there are too many: later roots are
+/// What each of the starts gives, but no more than tell that there are too many: later ones are
 /// listed all the same, since something odd beneath them counts first.
 fn found<F: Folder>(
     alloc: Global,
@@ -130,28 +119,31 @@ fn found<F: Folder>(
     naming: Naming,
     include: &[Pattern],
     exclude: &[Pattern],
-    roots: &[Place],
+    starts: &[(Place, Place)],
 ) -> Result<Vec<(RelPath, Place)>, TreeFault>
+    requires { AllByRecursion (λ start. IsTrue (is_under start.1 start.0)) starts.now }
     ensures asks { Asks F.failures F.may_leave F.asked no_change folder.old folder.new }
-    ensures blame { Blames (λ at. IsTrue (is_under_any roots.now at))
+    ensures blame { Blames (λ at. IsTrue (is_under_any (places_of starts.now) at))
         (F.failures folder.old) (F.failures folder.new) result }
-    ensures under { IfOk result
-        (λ entries. AllByRecursion (λ entry. IsTrue (is_under_any roots.now entry.1)) entries.items) }
+    ensures under { IfOk result (λ entries.
+        AllByRecursion (λ entry. IsTrue (is_under_any (places_of starts.now) entry.1)) entries.items) }
     ensures few { IfOk result (λ entries. length entries.items ≤ max_files + 1) }
     ensures same { IsTrue F.tells → F.contents folder.new ≡ F.contents folder.old }
     ensures answered { IfOk result (λ entries. (listings : List (List (List ℕ)))
-        × AllZip (WereListed F.failures F.may_leave F.asked folder.old folder.new) roots.now listings
-        × (entries.items ≡ held (listed_in naming include.now exclude.now (zip roots.now listings)))) }
+        × AllZip (IsStartListed F.failures F.may_leave F.asked folder.old folder.new) starts.now listings
+        × (entries.items ≡ held (listed_in naming include.now exclude.now (zip starts.now listings)))) }
     ensures found { IsTrue F.tells → IfOk result (λ entries.
-        entries.items ≡ held (found naming include.now exclude.now (F.contents folder.old).files roots.now)) }
-    ensures none_odd { IsTrue F.tells → OnOk result (odd_roots (F.contents folder.old) roots.now ≡ []) }
+        entries.items
+        ≡ held (found_from naming include.now exclude.now (F.contents folder.old).files starts.now)) }
+    ensures none_odd { IsTrue F.tells → OnOk result
+        (odd_roots (F.contents folder.old) (places_of starts.now) ≡ []) }
     ensures odd { IsTrue F.tells → IfErr result (λ fault.
         IsRefused (F.failures folder.old) (F.failures folder.new)
-        (odd_roots (F.contents folder.old) roots.now) fault) }
+        (odd_roots (F.contents folder.old) (places_of starts.now)) fault) }
 {
     let mut entries = Vec::new(alloc);
-    for root in roots.iter() {
-        let places = listed(alloc, folder, root)?;
+    for (root, start) in starts.iter() {
+        let places = listed(alloc, folder, start)?;
         add_entries(
             alloc,
             &mut entries,

@@ -4,13 +4,15 @@
 //! A pattern is matched against the segments of a path, in steps that grow with the product of the
 //! two lengths and without memory ([`Pattern`](pattern::Pattern)).
 //! [`snapshot`](property::snapshot) reads the files of a property: those beneath its roots that its
-//! patterns let in. Their paths are sorted and compared before any content is read, in steps that
-//! grow as n log n. [`outputs`](output::outputs) reads the files at a place.
+//! patterns let in. Beneath a root only the folders in front of the first `*` or `?` of its includes
+//! are looked at, so what stands elsewhere costs nothing and hinders nothing. The paths are sorted
+//! and compared before any content is read, in steps that grow as n log n.
+//! [`outputs`](output::outputs) reads the files at a place.
 //!
 //! [`reading_of`](property::reading_of) and [`output_reading`](output::output_reading) read such
-//! files once: they take the digests, and keep the bytes as far as there is room for them. From such
-//! a [`Reading`](kept::Reading) a run gets the contents by [`completed`](kept::Reading::completed),
-//! with the digests of these very contents.
+//! files once: they take the digests, of files below 65,536 bytes four at a time, and keep the bytes
+//! as far as there is room for them. From such a [`Reading`](kept::Reading) a run gets the contents
+//! by [`completed`](kept::Reading::completed), with the digests of these very contents.
 //!
 //! Of such files the digests are remembered: [`prints`](digest::prints) takes them from contents,
 //! [`prints_of`](property::prints_of) and [`output_prints`](output::output_prints) from the folder,
@@ -29,9 +31,11 @@ pub mod fault;
 pub mod kept;
 mod matching;
 pub mod output;
-mod path;
+pub mod path;
 pub mod pattern;
 pub mod prints;
 pub mod property;
 mod reading;
 mod seeing;
+mod starts;
+mod waiting;

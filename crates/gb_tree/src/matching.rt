@@ -3,10 +3,12 @@
 //! The text is read from the left, once. For each item of the pattern one flag says whether a match
 //! of what was read can stand before it, so no choice is tried twice.
 ghost use Rattle.std.specs.Prelude.{◌≡◌, ◌≤◌, ◌&&◌, ◌||◌, if◌then◌else◌, false, length};
+ghost use Rattle.std.specs.List.{list_any};
 ghost use Rattle.std.specs.Str.{chars};
 ghost use Rattle.std.specs.Option.{option_copied};
 ghost use Rattle.gb_core.specs.Place.{segments};
-ghost use Rattle.gb_tree.specs.Pattern.{is_star, stands_for, is_double_star, segment_matches, path_matches};
+ghost use Rattle.gb_tree.specs.Pattern.{is_double_star, is_star, is_wild, path_matches};
+ghost use Rattle.gb_tree.specs.Pattern.{segment_matches, stands_for, wild_matches};
 ghost use Rattle.gb_tree.specs.Passes.{pass, fits_read, is_start};
 
 /// More than the most items of a pattern: a place has at most 1,024 bytes.
@@ -80,6 +82,25 @@ fn stands_for(item: char, read: Option<char>) -> bool
 fn segment_matches(pattern: &str, text: &str) -> bool
     requires { length pattern.now ≤ 1024 }
     ensures { result ≡ segment_matches pattern.now text.now }
+{
+    if has_wild(pattern) {
+        wild_matches(pattern, text)
+    } else {
+        pattern == text
+    }
+}
+
+/// Whether a `*` or a `?` stands in the text.
+pub(crate) fn has_wild(text: &str) -> bool
+    ensures { result ≡ list_any is_wild text.now }
+{
+    text.as_bytes().iter().any(|b| *b == b'*' || *b == b'?')
+}
+
+/// Whether the text matches a segment with `*` and `?`.
+fn wild_matches(pattern: &str, text: &str) -> bool
+    requires { length pattern.now ≤ 1024 }
+    ensures { result ≡ wild_matches pattern.now text.now }
 {
     let mut states = [false; MOST_ITEMS];
     let mut matched = read_character(&mut states, pattern, None);

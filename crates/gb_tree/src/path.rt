@@ -63,7 +63,8 @@ pub(crate) fn seen_from<'a>(root: &str, place: &'a str) -> &'a str
     }
 }
 
-fn last_segment(place: &str) -> &str
+/// The last segment of a place.
+pub(crate) fn last_segment(place: &str) -> &str
     requires { IsTrue (is_place place.now) }
     ensures path { result.now ≡ last_segment place.now }
     ensures good { IsTrue (is_rel_path result.now) }
@@ -74,7 +75,8 @@ fn last_segment(place: &str) -> &str
     }
 }
 
-fn text_from<'a>(root: &str, place: &'a str) -> &'a str
+/// The text of the path of a place from a root at or above it, without a copy.
+pub fn text_from<'a>(root: &str, place: &'a str) -> &'a str
     requires under { IsTrue (is_under place.now root.now) }
     requires placed { IsTrue (is_place place.now) }
     ensures path { result.now ≡ path_from root.now place.now }

@@ -33,10 +33,14 @@ pub enum Naming {
 /// The files at or beneath the roots that the patterns let in, by their paths. Equal roots count
 /// once, and the tool's own folder `.gb` never does. Nothing is written.
 ///
-/// Refused, in this order: something beneath a root that no place can name (14), more than 65,536
-/// files (72), two files at one path or one at a folder of another (71), the first file above 8 MiB
-/// (13). Where the folder does not tell what it holds, also a file that is gone when it is read (11,
-/// 12).
+/// Of a root only that is looked at which an include may match: for each include what stands at or
+/// beneath the folder in front of its first `*` or `?`, so of `src/**` what is in `src`, and for an
+/// include that has neither what is at its own place. Each such folder is listed once, and not again
+/// where it lies in another one. A root of which no include is given is listed whole.
+///
+/// Refused, in this order: something there that no place can name (14), more than 65,536 files (72),
+/// two files at one path or one at a folder of another (71), the first file above 8 MiB (13). Where
+/// the folder does not tell what it holds, also a file that is gone when it is read (11, 12).
 pub fn snapshot<F: Folder>(
     alloc: Global,
     folder: &mut F,
@@ -64,8 +68,8 @@ pub fn snapshot<F: Folder>(
     Ok(Snapshot::new(name.copy()?, files))
 }
 
-/// The prints of what [`snapshot`] answers, refused as it refuses. Of the contents one piece is held
-/// at a time.
+/// The prints of what [`snapshot`] answers, found where it looks and refused as it refuses. Of the
+/// contents one piece is held at a time.
 pub fn prints_of<F: Folder>(
     alloc: Global,
     folder: &mut F,
@@ -97,8 +101,8 @@ pub fn prints_of<F: Folder>(
     Ok(Prints::new(name.copy()?, digests))
 }
 
-/// The files that [`snapshot`] answers as they are read once, refused as it refuses. Their bytes are
-/// kept as far as there is `room` for them, which they lessen.
+/// The files that [`snapshot`] answers as they are read once, found where it looks and refused as it
+/// refuses. Their bytes are kept as far as there is `room` for them, which they lessen.
 pub fn reading_of<F: Folder>(
     alloc: Global,
     folder: &mut F,

@@ -1,5 +1,5 @@
 //! Files are read once each, one after another: the digest of each is taken, and its bytes are kept
-//! where there is room.
+//! where there is room. Small files wait for one another, so that four are digested at a time.
 ghost use Rattle.std.specs.Prelude.{◌≡◌, ◌⊎◌, ◌++◌, ℕ, List, [], None, Some, false, true, map, IsTrue};
 ghost use Rattle.std.specs.Prelude.{IsSome, IfOk, IfErr, OnOk};
 ghost use Rattle.std.specs.List.{AllByRecursion};
@@ -12,17 +12,37 @@ ghost use Rattle.gb_tree.specs.Tree.{Blames, IsRefused, IsTreeFaultOfMachine, by
 ghost use Rattle.gb_tree.specs.Tree.{too_large};
 ghost use Rattle.gb_tree.specs.Answered.{WasSeen, WereSeen};
 ghost use Rattle.gb_tree.specs.Reading.{IsReading, IsSeenIn, KeepsOnly, entries_seen, is_digest_of};
+ghost use Rattle.gb_tree.specs.Waiting.{digest_in, file_in, kept_in};
 ghost use Rattle.sha2.specs.Sha256.{sha256};
 
 use crate::fault::TreeFault;
 use crate::kept::SeenFile;
 use crate::reading::{PIECE, PIECES, read_piece};
+use crate::waiting::{Found, SmallFile, Waiting, add, digest_waiting};
 use gb_core::bytes::Bytes;
 use gb_core::place::{Place, RelPath};
 use gb_folder::folder::Folder;
 use gb_folder::limits::MAX_FILE;
 use sha2::{Digest, Sha256};
 use std::alloc::{AllocError, Global};
+
+/// What was read of a file.
+#[derive(Drop)]
+enum Content {
+    /// Its bytes, which are less than a piece, and whether there is room for them.
+    Undigested(Bytes, bool),
+    /// The digest, and the bytes where they are kept.
+    Digested([u8; 32], Option<Bytes>),
+}
+
+/// Whether the room holds so many bytes; then they are taken from it.
+fn take_room(size: u64, room: &mut u64) -> bool {
+    if *room < size {
+        return false;
+    }
+    *room -= size;
+    true
+}
 
 /// Puts a piece behind what was gathered, and answers whether all is still there: it is no longer once
 /// the room does not hold it.
@@ -54,33 +74,33 @@ fn gather(
 fn keep(bytes: Vec<u8>, is_whole: bool, room: &mut u64) -> Option<Bytes>
     ensures { (result ≡ None) ⊎ (IsTrue is_whole × (result ≡ Some bytes.items)) }
 {
-    let size = bytes.len() as u64;
-    if !is_whole || *room < size {
-        return None;
+    if is_whole && take_room(bytes.len() as u64, room) {
+        Some(Bytes::new(bytes))
+    } else {
+        None
     }
-    *room -= size;
-    Some(Bytes::new(bytes))
 }
 
-/// The digest of one file, of which each byte is read once, and its bytes where they are kept.
+/// One file, of which each byte is read once: where it is small, its bytes, and else its digest, and its
+/// bytes where they are kept.
 fn see_bytes<F: Folder>(
     alloc: Global,
     folder: &mut F,
     place: &Place,
     room: &mut u64,
-) -> Result<([u8; 32], Option<Bytes>), TreeFault>
+) -> Result<Content, TreeFault>
     ensures asks { Asks F.failures F.may_leave F.asked no_change folder.old folder.new }
     ensures blame { Blames (λ at. at ≡ place.now)
         (F.failures folder.old) (F.failures folder.new) result }
     ensures same { IsTrue F.tells → F.contents folder.new ≡ F.contents folder.old }
-    ensures digested { IfOk result (λ found. IsTrue (is_digest_of found.1 found.0)) }
+    ensures digested { IfOk result (λ found. IsTrue (is_digest_of (kept_in found) (digest_in found))) }
     ensures answered { IfOk result (λ found. (bytes : List ℕ)
         × WereRead F.failures F.may_leave F.asked folder.old folder.new place.now bytes
-        × (found.0 ≡ sha256 bytes) × KeepsOnly bytes found.1) }
+        × (digest_in found ≡ sha256 bytes) × KeepsOnly bytes (kept_in found)) }
     ensures digest { IsTrue F.tells → IfOk result
-        (λ found. found.0 ≡ sha256 (bytes_at (F.contents folder.old).files place.now)) }
+        (λ found. digest_in found ≡ sha256 (bytes_at (F.contents folder.old).files place.now)) }
     ensures kept { IsTrue F.tells → IfOk result
-        (λ found. KeepsOnly (bytes_at (F.contents folder.old).files place.now) found.1) }
+        (λ found. KeepsOnly (bytes_at (F.contents folder.old).files place.now) (kept_in found)) }
     ensures stands { IsTrue F.tells → OnOk result
         (IsSome (file_at (F.contents folder.old).files place.now)) }
     ensures small { IsTrue F.tells → OnOk result
@@ -95,16 +115,22 @@ fn see_bytes<F: Folder>(
     let mut is_whole = true;
     for index in 0..PIECES {
         let piece = read_piece(alloc, folder, place, index * PIECE, PIECE)?;
-        hasher.update(piece.as_slice());
         let len = piece.len() as u64;
+        if index == 0 && len < PIECE {
+            let is_kept = take_room(len, room);
+            return Ok(Content::Undigested(Bytes::new(piece), is_kept));
+        }
+        hasher.update(piece.as_slice());
         is_whole = gather(alloc, &mut gathered, is_whole, piece, *room)?;
         if len < PIECE {
-            return Ok((hasher.finalize(), keep(gathered, is_whole, room)));
+            let kept = keep(gathered, is_whole, room);
+            return Ok(Content::Digested(hasher.finalize(), kept));
         }
     }
     let more = read_piece(alloc, folder, place, MAX_FILE, 1)?;
     if more.as_slice().is_empty() {
-        Ok((hasher.finalize(), keep(gathered, is_whole, room)))
+        let kept = keep(gathered, is_whole, room);
+        Ok(Content::Digested(hasher.finalize(), kept))
     } else {
         Err(TreeFault::TooLarge(place.copy()?))
     }
@@ -117,29 +143,41 @@ fn see_file<F: Folder>(
     path: &RelPath,
     place: &Place,
     room: &mut u64,
-) -> Result<SeenFile, TreeFault>
+) -> Result<Found, TreeFault>
     ensures asks { Asks F.failures F.may_leave F.asked no_change folder.old folder.new }
     ensures blame { Blames (λ at. at ≡ place.now)
         (F.failures folder.old) (F.failures folder.new) result }
     ensures same { IsTrue F.tells → F.contents folder.new ≡ F.contents folder.old }
-    ensures path { IfOk result (λ seen. seen.path ≡ path.now) }
-    ensures place { IfOk result (λ seen. seen.place ≡ place.now) }
-    ensures digested { IfOk result (λ seen. IsTrue (is_digest_of seen.kept seen.digest)) }
+    ensures path { IfOk result (λ found. (file_in found).path ≡ path.now) }
+    ensures place { IfOk result (λ found. (file_in found).place ≡ place.now) }
+    ensures digested { IfOk result
+        (λ found. IsTrue (is_digest_of (file_in found).kept (file_in found).digest)) }
     ensures answered { IfOk result
-        (λ seen. WasSeen F.failures F.may_leave F.asked folder.old folder.new seen) }
-    ensures seen { IsTrue F.tells → IfOk result (IsSeenIn (F.contents folder.old).files) }
+        (λ found. WasSeen F.failures F.may_leave F.asked folder.old folder.new (file_in found)) }
+    ensures seen { IsTrue F.tells → IfOk result
+        (λ found. IsSeenIn (F.contents folder.old).files (file_in found)) }
     ensures err { IsTrue F.tells → IsSome (file_at (F.contents folder.old).files place.now)
         → IfErr result (λ fault. IsTreeFaultOfMachine (F.failures folder.old) (F.failures folder.new) fault
         ⊎ ((is_large (F.contents folder.old).files place.now ≡ true)
         × (fault ≡ TreeFault.TooLarge place.now))) }
 {
-    let (digest, kept) = see_bytes(alloc, folder, place, room)?;
-    Ok(SeenFile {
-        path: path.copy()?,
-        place: place.copy()?,
-        digest,
-        kept,
-    })
+    let content = see_bytes(alloc, folder, place, room)?;
+    let path = path.copy()?;
+    let place = place.copy()?;
+    match content {
+        Content::Undigested(bytes, is_kept) => Ok(Found::Small(SmallFile {
+            path,
+            place,
+            bytes,
+            is_kept,
+        })),
+        Content::Digested(digest, kept) => Ok(Found::Seen(SeenFile {
+            path,
+            place,
+            digest,
+            kept,
+        })),
+    }
 }
 
 /// The files at these places as they are read, by their paths.
@@ -168,8 +206,11 @@ pub(crate) fn see_all<F: Folder>(
         (too_large (F.contents folder.old).files entries.now) fault) }
 {
     let mut seen = Vec::with_capacity(alloc, entries.len())?;
+    let mut waiting = Waiting::Nothing;
     for (path, place) in entries.iter() {
-        seen.push(see_file(alloc, folder, path, place, room)?)?;
+        let found = see_file(alloc, folder, path, place, room)?;
+        waiting = add(&mut seen, waiting, found)?;
     }
+    digest_waiting(&mut seen, waiting)?;
     Ok(seen)
 }

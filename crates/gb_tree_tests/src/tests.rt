@@ -4,12 +4,13 @@ use gb_action::files::Files;
 use gb_action::snapshot::Snapshot;
 use gb_core::name::Name;
 use gb_core::place::{Place, RelPath};
+use gb_folder::faulty::{FaultMode, FaultyFolder};
 use gb_folder::folder::Folder;
 use gb_folder::memory::MemoryFolder;
 use gb_tree::changes::compare;
 use gb_tree::digest::prints;
 use gb_tree::fault::TreeFault;
-use gb_tree::output::{output_prints, outputs};
+use gb_tree::output::{output_prints, output_reading, outputs};
 use gb_tree::pattern::Pattern;
 use gb_tree::prints::Prints;
 use gb_tree::property::{Naming, prints_of, snapshot};
@@ -151,6 +152,11 @@ fn prints_asked<F: Folder>(
 ) -> Result<Prints, TreeFault> {
     match (word, asked.places.as_slice()) {
         ("output-digests", [place]) => output_prints(alloc, folder, &asked.name, place),
+        ("read-digests", [place]) => {
+            let mut room = 65_600;
+            let reading = output_reading(alloc, folder, &asked.name, place, &mut room)?;
+            Ok(reading.prints(alloc)?)
+        }
         (_, roots) => prints_of(
             alloc,
             folder,
@@ -244,7 +250,7 @@ fn tell<F: Folder>(
 ) -> Result<(), TreeFault> {
     match word {
         "changes" => tell_changes(alloc, folder, asked, all),
-        "digests" | "output-digests" => {
+        "digests" | "output-digests" | "read-digests" => {
             push_prints(alloc, all, &prints_asked(alloc, folder, word, asked)?)
         }
         _ => tell_files(alloc, word, &files_asked(alloc, folder, word, asked)?, all),
@@ -448,7 +454,96 @@ fn properties_have_their_files(rt: HostRuntime) -> Result<(), Fail> {
     hold(rt.alloc(), &PROPERTIES)
 }
 
-const DIGESTS: [Row; 7] = [
+const STARTS: [Row; 5] = [
+    // A folder that two includes name gives each file once.
+    (
+        "put x/m/f 1;put x/m/a/g 12;put x/m-a/h 123;put x/n 1;\
+         files x +m/** +m/a/**;files x +m/a/* +m/*;names x +m/a/** +m/** +m/a/g",
+        "m/a/g 2\nm/f 1\n;m/a/g 2\nm/f 1\n;f 1\ng 2\n;",
+    ),
+    // A pattern without `*` and `?` is looked for at its own place.
+    (
+        "put x/a/b 1;put x/c 12;files x +a/b;files x +a/b +c;files x +a;files x +d",
+        "a/b 1\n;a/b 1\nc 2\n;;;",
+    ),
+    // A root that is a file is seen by its name.
+    (
+        "put x/m 1;files x/m +m;files x/m +m/**;files x/m +m/*;files x/m +*;files x/m +n",
+        "m 1\n;m 1\n;;m 1\n;;",
+    ),
+    (
+        "put m/m/a 1;put m/b 12;files m +m/**;files m +m/** -m/a",
+        "m/a 1\n;;",
+    ),
+    // Roots that lie in one another keep their own paths.
+    (
+        "put m/a/b 1;files m m/a +a/** +b;files m m/a +a/b;names m m/a +a/** +b",
+        "a/b 1\nb 1\n;a/b 1\n;71 duplicate input src b;",
+    ),
+];
+
+#[test]
+fn files_stand_at_the_fronts_of_patterns(rt: HostRuntime) -> Result<(), Fail> {
+    hold(rt.alloc(), &STARTS)
+}
+
+/// The files of a folder, the call at which its device fails, counted from 1, what is asked of it
+/// then, and what is told.
+type Failing = (&'static str, u64, &'static str, &'static str);
+
+/// Each call of the device is at a place that the includes name, and a folder is listed once.
+const CALLS: [Failing; 5] = [
+    (
+        "put x/m/f 1;put x/n/g 12",
+        1,
+        "files x +m/**",
+        "10 device x/m;",
+    ),
+    (
+        "put x/m/f 1;put x/n/g 12",
+        2,
+        "files x +m/**",
+        "10 device x/m/f;",
+    ),
+    ("put x/m/f 1;put x/n/g 12", 3, "files x +m/**", "m/f 1\n;"),
+    (
+        "put x/m/a/g 1",
+        2,
+        "files x +m/a/** +m/**",
+        "10 device x/m/a/g;",
+    ),
+    (
+        "put x/m/f 1;put x/n/g 12",
+        1,
+        "files x +m/** +*.md",
+        "10 device x;",
+    ),
+];
+
+/// Fails with what is told where that is not what is wanted.
+fn hold_call(alloc: Global, row: &Failing) -> Result<(), Fail> {
+    let (files, at, asked, wanted) = row;
+    let mut all = String::new(alloc);
+    let mut folder = MemoryFolder::new(alloc);
+    take_steps(alloc, &mut folder, files, &mut all)?;
+    let mut faulty = FaultyFolder::new(folder, *at, FaultMode::FailOnce);
+    take_steps(alloc, &mut faulty, asked, &mut all)?;
+    if all.as_str() == *wanted {
+        Ok(())
+    } else {
+        Err(Fail::new(all.as_str()))
+    }
+}
+
+#[test]
+fn what_no_include_names_is_not_looked_at(rt: HostRuntime) -> Result<(), Fail> {
+    for row in CALLS {
+        hold_call(rt.alloc(), &row)?;
+    }
+    Ok(())
+}
+
+const DIGESTS: [Row; 8] = [
     // Digests are those of the standard.
     (
         "put m/b;put m/a abc;prints m",
@@ -485,6 +580,23 @@ const DIGESTS: [Row; 7] = [
         "bytes m/a 131072;digests m;output-digests m",
         "src a feb1e4409d009e0ec502eaabe321f86b5197a881e9b765252ec8a75d6957596d\n;\
          src a feb1e4409d009e0ec502eaabe321f86b5197a881e9b765252ec8a75d6957596d\n;",
+    ),
+    // Small files are digested four at a time, and the larger in their turn.
+    (
+        "put m/a abc;put m/b;bytes m/c 65535;put m/d 1;put m/e 2;bytes m/f 65536;\
+         put m/g 3;bytes m/h 55;bytes m/i 56;bytes m/j 200;put m/k 4;\
+         read-digests m",
+        "src a ba7816bf8f01cfea414140de5dae2223b00361a396177a9cb410ff61f20015ad\n\
+         src b e3b0c44298fc1c149afbf4c8996fb92427ae41e4649b934ca495991b7852b855\n\
+         src c dda402a2c028f0cbbdbc5c6ebae965eed9c75f71236e7022b0386d3455d5ae2f\n\
+         src d 6b86b273ff34fce19d6b804eff5a3f5747ada4eaa22f1d49c01e52ddb7875b4b\n\
+         src e d4735e3a265e16eee03f59718b9b5d03019c07d8b6c51f90da3a666eec13ab35\n\
+         src f 4b640d85ab3ba30fd02c9fc9db4a8928f416322ad27022ea58a65aaee68a4df2\n\
+         src g 4e07408562bedb8b60ce05c1decfe3ad16b72230967de01f640b7e4729b49fce\n\
+         src h 463eb28e72f82e0a96c0a4cc53690c571281131f672aa229e0d45ae59b598b59\n\
+         src i da2ae4d6b36748f2a318f23e7ab1dfdf45acdc9d049bd80e59de82a60895f562\n\
+         src j 1901da1c9f699b48f6b2636e65cbf73abf99d0441ef67f5c540a42f7051dec6f\n\
+         src k 4b227777d4dd1fc61c6f884f48641d02b4d121d3fd328cb08b5531fcacdabf8a\n;",
     ),
 ];
 

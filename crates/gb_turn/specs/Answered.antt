@@ -13,7 +13,7 @@ use Rattle.gb_tree.specs.Reading.{entries_seen}
 use Rattle.gb_tree.specs.Tree.{Entries}
 use Rattle.gb_turn.specs.Reading.{Read}
 
--- the entries of a property as its roots were listed
+-- the entries of a property as the places where it looks for them were listed
 abbrev pub AreEntriesOf : {F : Type 0} → (F → ℕ) → (F → Tearing) → (F → Call → F → Type 0) → F → F
     → FileProperty → Entries → Type 0
 AreEntriesOf failures may_leave asked old new property entries =

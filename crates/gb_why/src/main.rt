@@ -4,12 +4,12 @@
 
 use gb_action::table::ActionTable;
 use gb_answer::{builtin_actions, builtin_functions};
-use gb_command::run::{Handed, UNPRINTED};
+use gb_command::run::UNPRINTED;
 use gb_disk::disk::DiskFolder;
 use gb_here::words::command_words;
 use gb_kinds::builtin::{Builtin, StoredAction};
 use gb_printer::page::Page;
-use gb_registry::tables::Tables;
+use gb_registry::tables::{Handed, Tables};
 use gb_why_command::run::run;
 use std::alloc::AllocError;
 use std::io::{self, BufWriter};

@@ -10,13 +10,13 @@ ghost use Rattle.gb_why_command.specs.Told.{Answer as Answered, Answers, status_
 use crate::answer::{Answer, print_answer, status_of};
 use crate::telling::tell;
 use gb_action::actions::Actions;
-use gb_command::run::Handed;
+use gb_command::run::asked_by;
 use gb_folder::folder::Folder;
 use gb_meaning::events::Invocation;
 use gb_printer::printer::Printer;
 use gb_provider::transforms::Transforms;
+use gb_registry::tables::Handed;
 use gb_report::fault::Fault;
-use gb_words::words::read;
 use std::alloc::Global;
 
 /// Prints a line for each task of the plan that a build of what the words ask for would have: what its turn
@@ -75,13 +75,4 @@ fn answered<A: Actions, T: Transforms, F: Folder>(
         Ok(asked) => tell::<A, T, F>(alloc, folder, tables, &asked),
         Err(fault) => Err(fault),
     }
-}
-
-/// What the words ask for.
-fn asked_by(alloc: Global, words: Result<Vec<String>, Fault>) -> Result<Invocation, Fault>
-    ensures { MatchResult result
-        (AskFor (given_of (λ words. map string_bytes words.items) words))
-        (AreRefused (given_of (λ words. map string_bytes words.items) words)) }
-{
-    read(alloc, words?)
 }

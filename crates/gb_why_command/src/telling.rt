@@ -13,7 +13,6 @@ ghost use Rattle.gb_why_command.specs.Told.{AreTold, AreToldOf, IsAnswerTo, IsNo
 use crate::answer::Answer;
 use gb_action::actions::Actions;
 use gb_action::table::ActionTable;
-use gb_command::run::Handed;
 use gb_core::name::Name;
 use gb_core::path::TaskPath;
 use gb_core::text::Text;
@@ -22,10 +21,11 @@ use gb_foretell::foretell::foretell;
 use gb_graph::plan::plan;
 use gb_meaning::events::{Invocation, Properties};
 use gb_order::tasks::Tasks;
-use gb_plan::plan::Planned;
+use gb_plan::plan::{Planned, paths_of};
 use gb_provider::transforms::Transforms;
 use gb_records::reading::read_records;
 use gb_registry::configured::Configured;
+use gb_registry::tables::Handed;
 use gb_report::report::Options;
 use gb_scripts::reading::read_registry;
 use gb_tasks::script_tasks::ScriptTasks;
@@ -45,7 +45,8 @@ pub(crate) fn tell<A: Actions, T: Transforms, F: Folder>(
         (record { contents = F.contents folder.old; failures = F.failures folder.old })
         result (F.failures folder.new) }
 {
-    let given = copy_given(alloc, &asked.properties)?;
+    let copied = asked.properties.copy(alloc)?;
+    let given = copied.into_vec();
     let configured = read_registry::<A, T, F>(alloc, folder, tables, given)?;
     tell_registered::<A, T, F>(alloc, folder, &configured, asked)
 }
@@ -131,26 +132,4 @@ fn tell_planned<A: Actions, F: Folder>(
     let records = read_records(alloc, folder, paths.as_slice())?;
     let told = foretell::<A, F>(alloc, folder, plan, table, options, records.as_slice())?;
     Ok(told)
-}
-
-/// The paths of the tasks.
-fn paths_of(alloc: Global, tasks: &[Planned]) -> Result<Vec<TaskPath>, AllocError>
-    ensures { IfOk result (λ paths. paths.items ≡ order tasks.now) }
-{
-    let mut paths = Vec::new(alloc);
-    for planned in tasks {
-        paths.push(planned.task.path.copy()?)?;
-    }
-    Ok(paths)
-}
-
-/// The values of properties that are given, once more.
-fn copy_given(alloc: Global, properties: &Properties) -> Result<Vec<(Name, Text)>, AllocError>
-    ensures { IfOk result (λ given. given.items ≡ properties.now) }
-{
-    let mut given = Vec::new(alloc);
-    for property in properties.as_slice() {
-        given.push((property.0.copy()?, property.1.copy()?))?;
-    }
-    Ok(given)
 }

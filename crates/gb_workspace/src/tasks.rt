@@ -29,20 +29,11 @@ use gb_provider::providers::Providers;
 use gb_provider::transforms::Transforms;
 use gb_realised::parts::split;
 use gb_registry::names::Names;
-use gb_registry::tables::Tables;
+use gb_registry::tables::Handed;
 use gb_registry::texts::TextSet;
 use gb_registry::wrong::Scope;
 use gb_report::fault::Fault;
 use std::alloc::{AllocError, Global};
-
-/// The tables of a program whose actions and functions these naming types name.
-pub type Handed<A, T> = Tables<
-    <A as Actions>::Stored,
-    <T as Transforms>::Map,
-    <T as Transforms>::FlatMap,
-    <T as Transforms>::Zip,
-    <T as Transforms>::Test,
->;
 
 pub(crate) fn want_of_memory(fault: Fault) -> AllocError
     requires { fault ≡ OutOfMemory }

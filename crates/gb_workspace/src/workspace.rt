@@ -36,7 +36,7 @@ use gb_registry::configured::Configured;
 use gb_registry::names::Names;
 use gb_registry::projects::ProjectSet;
 use gb_registry::registry::Registry;
-use gb_registry::tables::Tables;
+use gb_registry::tables::Handed;
 use gb_registry::texts::TextSet;
 use gb_report::fault::Fault;
 use std::alloc::{AllocError, Global};
@@ -47,7 +47,7 @@ use std::marker::Model;
 /// in with what scripts say.
 #[derive(Drop)]
 pub struct Workspace<'a, A: Actions, T: Transforms> {
-    tables: &'a Tables<A::Stored, T::Map, T::FlatMap, T::Zip, T::Test>,
+    tables: &'a Handed<A, T>,
     registry: &'a Registry,
     providers: Providers<'a, T>,
     declared: Declared<'a>,
@@ -124,7 +124,7 @@ fn evaluated_entry<A: Actions, T: Transforms>(
 /// What the task of a number comes to.
 fn realised_at<A: Actions, T: Transforms>(
     alloc: Global,
-    tables: &Tables<A::Stored, T::Map, T::FlatMap, T::Zip, T::Test>,
+    tables: &Handed<A, T>,
     registry: &Registry,
     providers: &mut Providers<'_, T>,
     declared: &Declared<'_>,
@@ -156,7 +156,7 @@ fn realised_at<A: Actions, T: Transforms>(
 /// What the task at a path comes to.
 fn realised<A: Actions, T: Transforms>(
     alloc: Global,
-    tables: &Tables<A::Stored, T::Map, T::FlatMap, T::Zip, T::Test>,
+    tables: &Handed<A, T>,
     registry: &Registry,
     providers: &mut Providers<'_, T>,
     declared: &Declared<'_>,

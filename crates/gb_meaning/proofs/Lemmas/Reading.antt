@@ -7,7 +7,7 @@ use Rattle.gb_core.specs.Place.{is_under}
 use Rattle.gb_folder.specs.Files.{Place, Bytes, Files, Contents, is_empty, file_at, files_where, places_under}
 use Rattle.gb_folder.specs.Limits.{max_file}
 use Rattle.gb_tree.specs.Tree.{Entries, bytes_at, contents_at, odd_roots, too_many, too_large}
-use Rattle.gb_tree.specs.Property.{distinct, doubled, entries_in, entries_of, entry_faults, entry_order, found, in_order, inserted, is_in, path_of, paths_of}
+use Rattle.gb_tree.specs.Property.{distinct, doubled, entries_in, entries_of, entry_faults, entry_order, found, in_order, inserted, is_in, path_of, paths_of, places_of, starts_in}
 use Rattle.gb_tree.specs.declared.fault.TreeFault.TheVariants as trees
 use Rattle.gb_tree.specs.declared.property.Naming.{Naming}
 use Rattle.gb_plan.specs.declared.task.FileProperty.{FileProperty}
@@ -147,7 +147,7 @@ module _ (test : Place → Bool) where
     tree_faults_same : (odd : List (List ℕ)) → tree_faults property (record { files = files_where test files; odd = odd }) ≡ tree_faults property (record { files = files; odd = odd })
     tree_faults_same odd =
         ap (map told_of_tree)
-        ((λ i. (odd_roots (record { files = files; odd = odd }) (distinct property.roots) ++ too_many property.name (entries_same i)
+        ((λ i. (odd_roots (record { files = files; odd = odd }) (places_of (starts_in property.include (distinct property.roots))) ++ too_many property.name (entries_same i)
         ++ map (trees.DuplicateInput property.name) (doubled (paths_of (entries_same i)))) ++ too_large (files_where test files) (entries_same i))
         ∙ ap (λ large. entry_faults property.name property.naming property.roots property.include property.exclude (record { files = files; odd = odd }) ++ large) large_same)
 

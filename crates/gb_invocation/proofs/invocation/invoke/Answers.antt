@@ -26,8 +26,8 @@ use Rattle.gb_folder.proofs.Asked.{asks_nothing}
 use Rattle.gb_invocation.proofs.Asked.{refusal_asks, scripts_before}
 use Rattle.gb_invocation.proofs.invocation.invoke.Goals as goal
 
-pub returns-in_err-given-clause-leads : goal.returns-in_err-given-clause-leads
-returns-in_err-given-clause-leads g c = λ tells kinds agrees tears.
+pub returns-in_err-copied-clause-leads : goal.returns-in_err-copied-clause-leads
+returns-in_err-copied-clause-leads g c = λ tells kinds agrees tears.
     let F = g.F.Folder in
     let tables = tables_of g.T.Transforms.meanings g.A.Actions.meanings c.args.tables.now in
     let old : Shown = shows (F.contents c.args.folder.now) (F.failures c.args.folder.now) in
@@ -43,7 +43,7 @@ returns-in_err-configured-clause-leads g c = λ tells kinds agrees tears.
     let new : Shown = shows (F.contents c.read_registry.new.folder) (F.failures c.read_registry.new.folder) in
     let p = err_from_is_err_and c.from_residual-in_err-configured.result c.from_residual-in_err-configured.ensures.1 in
     refused_leads (setting_of tables kinds may_leave) old new c.args.invocation.now p.0
-    (not_read tables old.contents c.args.invocation.now c.in_ok-given.given.items c.in_ok-given.ensures
+    (not_read tables old.contents c.args.invocation.now c.into_vec-given.result.items (c.into_vec-given.ensures ∙ c.in_ok-copied.ensures)
     c.read_registry.result c.in_err-configured.field-0.0 p.0 old.failures new.failures c.in_err-configured.was p.2 c.read_registry.ensures.blamed (c.in_err-configured.ensures.said tells)
     old refl refl)
     (c.read_registry.ensures.same tells) c.from_residual-in_err-configured.result p.1
@@ -61,7 +61,7 @@ returns-clause-leads g c = λ tells kinds agrees tears.
     let new : Shown = shows (F.contents c.build_registered.new.folder) (F.failures c.build_registered.new.folder) in
     since_read kinds (registry_said tables source) (registers_in tables) first second c.read_registry.ensures.asks.tearing c.args.invocation.now before (F.failures c.args.folder.now) later
     c.read_registry.ensures.asks.count
-    (registered tables before c.in_ok-given.given.items c.args.invocation.now.properties c.in_ok-given.ensures source (c.in_ok-configured.ensures.said tells))
+    (registered tables before c.into_vec-given.result.items c.args.invocation.now.properties (c.into_vec-given.ensures ∙ c.in_ok-copied.ensures) source (c.in_ok-configured.ensures.said tells))
     c.build_registered.result new c.build_registered.ensures.count
     (subst (λ (contents : Contents). Leads (setting_by kinds (always (registry_said tables source)) second) (shows contents later) (events.Invoke c.args.invocation.now) (answer_of c.build_registered.result) new)
     (c.read_registry.ensures.same tells)
@@ -71,13 +71,13 @@ returns-clause-leads g c = λ tells kinds agrees tears.
     (c.build_registered.ensures.leads tells kinds (subst (λ (given : handed.Tables _ _ _ _ _). Agrees g.A.Actions.meanings given.actions kinds) (sym same) agrees)
     (tears_alike first second c.read_registry.ensures.asks.tearing tears))))
 
-pub returns-in_err-given-clause-holds : goal.returns-in_err-given-clause-holds
-returns-in_err-given-clause-holds g c = λ tells kinds agrees tears.
+pub returns-in_err-copied-clause-holds : goal.returns-in_err-copied-clause-holds
+returns-in_err-copied-clause-holds g c = λ tells kinds agrees tears.
     let F = g.F.Folder in
     let tables = tables_of g.T.Transforms.meanings g.A.Actions.meanings c.args.tables.now in
     led_holds (setting_of tables kinds (F.may_leave c.args.folder.now)) (shows (F.contents c.args.folder.now) (F.failures c.args.folder.now))
     (shows (F.contents c.args.folder.now) (F.failures c.args.folder.now)) c.args.invocation.now c.from_residual.result (omega arith)
-    (returns-in_err-given-clause-leads g c tells kinds agrees tears)
+    (returns-in_err-copied-clause-leads g c tells kinds agrees tears)
 
 pub returns-in_err-configured-clause-holds : goal.returns-in_err-configured-clause-holds
 returns-in_err-configured-clause-holds g c = λ tells kinds agrees tears.
@@ -102,7 +102,7 @@ returns-clause-keeps g c = λ tells.
     let source = c.in_ok-configured.configured.registry in
     let before = F.contents c.args.folder.now in
     invoked_keeps (registers_in tables) c.args.invocation.now c.build_registered.result before (F.contents c.build_registered.new.folder) (registry_said tables source)
-    (registered tables before c.in_ok-given.given.items c.args.invocation.now.properties c.in_ok-given.ensures source (c.in_ok-configured.ensures.said tells))
+    (registered tables before c.into_vec-given.result.items c.args.invocation.now.properties (c.into_vec-given.ensures ∙ c.in_ok-copied.ensures) source (c.in_ok-configured.ensures.said tells))
     (subst (λ (contents : Contents). KeepsElsewhere (registry_said tables source) contents (F.contents c.build_registered.new.folder)) (c.read_registry.ensures.same tells)
     (subst (λ (given : handed.Tables _ _ _ _ _). KeepsElsewhere (registry_said (tables_of g.T.Transforms.meanings g.A.Actions.meanings given) source)
     (F.contents c.read_registry.new.folder) (F.contents c.build_registered.new.folder))
@@ -110,8 +110,8 @@ returns-clause-keeps g c = λ tells.
     (subst (λ (contents : Contents). OnErr c.build_registered.result (F.contents c.build_registered.new.folder ≡ contents)) (c.read_registry.ensures.same tells)
     (c.build_registered.ensures.refused tells))
 
-pub returns-in_err-given-clause-keeps : goal.returns-in_err-given-clause-keeps
-returns-in_err-given-clause-keeps g c = λ tells.
+pub returns-in_err-copied-clause-keeps : goal.returns-in_err-copied-clause-keeps
+returns-in_err-copied-clause-keeps g c = λ tells.
     let F = g.F.Folder in
     let tables = tables_of g.T.Transforms.meanings g.A.Actions.meanings c.args.tables.now in
     let p = err_from_is_err_and c.from_residual.result c.from_residual.ensures.1 in
@@ -125,8 +125,8 @@ returns-in_err-configured-clause-keeps g c = λ tells.
     refusal_keeps (registers_in tables) c.args.invocation.now c.from_residual-in_err-configured.result p.0 p.1 (F.contents c.args.folder.now) (F.contents c.read_registry.new.folder)
     (c.read_registry.ensures.same tells)
 
-pub returns-in_err-given-clause-device : goal.returns-in_err-given-clause-device
-returns-in_err-given-clause-device g c =
+pub returns-in_err-copied-clause-device : goal.returns-in_err-copied-clause-device
+returns-in_err-copied-clause-device g c =
     let F = g.F.Folder in
     let p = err_from_is_err_and c.from_residual.result c.from_residual.ensures.1 in
     memory_blames_none c.from_residual.result p.0 (F.failures c.args.folder.now) (F.failures c.args.folder.now) (omega arith) p.1 p.2
@@ -146,8 +146,8 @@ returns-clause-device g c =
 
 -- ---- Why it is refused
 
-pub returns-in_err-given-clause-places : goal.returns-in_err-given-clause-places
-returns-in_err-given-clause-places g c =
+pub returns-in_err-copied-clause-places : goal.returns-in_err-copied-clause-places
+returns-in_err-copied-clause-places g c =
     let p = err_from_is_err_and c.from_residual.result c.from_residual.ensures.1 in
     of_fault (λ (fault : Fault). (place : List ℕ) → fault ≡ faults.Device place → IsTrue (is_read_first c.args.invocation.now.options place)) c.from_residual.result p.0 p.1
     (λ place is. absurd (no_device place (sym p.2 ∙ is)))
@@ -155,8 +155,8 @@ returns-in_err-given-clause-places g c =
     no_device : (place : List ℕ) → faults.OutOfMemory ≡ faults.Device place → ⊥
     no_device place e = cc
 
-pub returns-in_err-given-clause-not_built : goal.returns-in_err-given-clause-not_built
-returns-in_err-given-clause-not_built g c = λ tells.
+pub returns-in_err-copied-clause-not_built : goal.returns-in_err-copied-clause-not_built
+returns-in_err-copied-clause-not_built g c = λ tells.
     let F = g.F.Folder in
     let tables = tables_of g.T.Transforms.meanings g.A.Actions.meanings c.args.tables.now in
     let p = err_from_is_err_and c.from_residual.result c.from_residual.ensures.1 in
@@ -177,7 +177,7 @@ returns-in_err-configured-clause-not_built g c = λ tells.
     let after = F.failures c.read_registry.new.folder in
     let p = err_from_is_err_and c.from_residual-in_err-configured.result c.from_residual-in_err-configured.ensures.1 in
     of_fault (λ (fault : Fault). IsNotBuilt (registers_in tables) old c.args.invocation.now fault after) c.from_residual-in_err-configured.result p.0 p.1
-    (not_read tables old.contents c.args.invocation.now c.in_ok-given.given.items c.in_ok-given.ensures
+    (not_read tables old.contents c.args.invocation.now c.into_vec-given.result.items (c.into_vec-given.ensures ∙ c.in_ok-copied.ensures)
     c.read_registry.result c.in_err-configured.field-0.0 p.0 old.failures after c.in_err-configured.was p.2 c.read_registry.ensures.blamed (c.in_err-configured.ensures.said tells)
     old refl refl)
 
@@ -198,7 +198,7 @@ returns-clause-not_built g c = λ tells.
     let after = F.failures c.build_registered.new.folder in
     each_fault (IsNotBegun (registry_said tables source) c.args.invocation.now later after) (λ (fault : Fault). IsNotBuilt (registers_in tables) old c.args.invocation.now fault after)
     (λ fault why. not_built (registers_in tables) (registry_said tables source) old c.args.invocation.now fault after
-    (registered tables old.contents c.in_ok-given.given.items c.args.invocation.now.properties c.in_ok-given.ensures source (c.in_ok-configured.ensures.said tells))
+    (registered tables old.contents c.into_vec-given.result.items c.args.invocation.now.properties (c.into_vec-given.ensures ∙ c.in_ok-copied.ensures) source (c.in_ok-configured.ensures.said tells))
     (begun_before (registry_said tables source) c.args.invocation.now old.failures later after c.read_registry.ensures.asks.count c.build_registered.ensures.count fault why))
     c.build_registered.result
     (subst (λ (given : handed.Tables _ _ _ _ _). IfErr c.build_registered.result
@@ -211,13 +211,13 @@ returns-clause-dry g c = λ tells dry.
 
 -- ---- The promise
 
-pub returns-in_err-given-clause-promise : goal.returns-in_err-given-clause-promise
-returns-in_err-given-clause-promise g c = λ tells kinds agrees tears.
+pub returns-in_err-copied-clause-promise : goal.returns-in_err-copied-clause-promise
+returns-in_err-copied-clause-promise g c = λ tells kinds agrees tears.
     let F = g.F.Folder in
     let tables = tables_of g.T.Transforms.meanings g.A.Actions.meanings c.args.tables.now in
     headline (setting_of tables kinds (F.may_leave c.args.folder.now)) (shows (F.contents c.args.folder.now) (F.failures c.args.folder.now))
     (shows (F.contents c.args.folder.now) (F.failures c.args.folder.now)) (events.Invoke c.args.invocation.now ∷ []) (answer_of c.from_residual.result ∷ [])
-    (returns-in_err-given-clause-holds g c tells kinds agrees tears)
+    (returns-in_err-copied-clause-holds g c tells kinds agrees tears)
 
 pub returns-in_err-configured-clause-promise : goal.returns-in_err-configured-clause-promise
 returns-in_err-configured-clause-promise g c = λ tells kinds agrees tears.
@@ -237,8 +237,8 @@ returns-clause-promise g c = λ tells kinds agrees tears.
 
 -- ---- What it asks
 
-pub returns-in_err-given-clause-asks : goal.returns-in_err-given-clause-asks
-returns-in_err-given-clause-asks g c =
+pub returns-in_err-copied-clause-asks : goal.returns-in_err-copied-clause-asks
+returns-in_err-copied-clause-asks g c =
     let p = err_from_is_err_and c.from_residual.result c.from_residual.ensures.1 in
     refusal_asks g.F.Folder.failures g.F.Folder.may_leave g.F.Folder.asked g.A.Actions.meanings c.args.tables.now.actions c.args.invocation.now c.from_residual.result p.0 c.args.folder.now c.args.folder.now p.1 (asks_nothing c.args.folder.now)
 

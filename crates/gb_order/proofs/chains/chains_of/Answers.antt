@@ -32,8 +32,8 @@ index-requires c =
     let same : length a ≡ length c.args.after.now = length-map _ _ in
     let known : t < length a = order_known c.requires.order t (Contains-get_or order k 0 lt) in
     let in_after : t < length c.args.after.now = omega (arith, known, same) in
-    let xs = c.deref-before-items.result.now in
-    let taken : row a t ≡ xs = rows_row c.args.after.now t c.index-after-task.result in_after c.index-after-task.is ∙ sym c.deref-before-items.ensures.value in
+    let xs = c.as_slice-earlier.result.now in
+    let taken : row a t ≡ xs = rows_row c.args.after.now t c.index-after-task.result in_after c.index-after-task.is ∙ sym c.as_slice-earlier.ensures.value in
     let m = c.loop-before.before-index in
     let b = get_or xs m 0 in
     let has : Contains (row a t) b = subst (λ ys. Contains ys b) (sym taken) (Contains-get_or xs m 0 c.loop-before-test.true) in
@@ -50,8 +50,8 @@ join-requires c =
     let same : length a ≡ length c.args.after.now = length-map _ _ in
     let known : t < length a = order_known c.requires.order t (Contains-get_or order k 0 lt) in
     let in_after : t < length c.args.after.now = omega (arith, known, same) in
-    let xs = c.deref-before-items.result.now in
-    let taken : row a t ≡ xs = rows_row c.args.after.now t c.index-after-task.result in_after c.index-after-task.is ∙ sym c.deref-before-items.ensures.value in
+    let xs = c.as_slice-earlier.result.now in
+    let taken : row a t ≡ xs = rows_row c.args.after.now t c.index-after-task.result in_after c.index-after-task.is ∙ sym c.as_slice-earlier.ensures.value in
     let m = c.loop-before.before-index in
     let b = get_or xs m 0 in
     let has : Contains (row a t) b = subst (λ ys. Contains ys b) (sym taken) (Contains-get_or xs m 0 c.loop-before-test.true) in
@@ -60,7 +60,8 @@ join-requires c =
     let oe : row (rows c.loop-task.found.items) b ≡ c.deref.result.now = rows_row c.loop-task.found.items b c.index.result.now in_found c.index.ensures ∙ sym c.deref.ensures.value in
     let e = ap length oe in
     let w = c.loop-task.invariant.widths b (omega (arith, bk, same)) in
-    omega (arith, w, e, c.deref_mut.ensures.len, c.loop-before.invariant.width)
+    let wide = c.loop-before.invariant.wide b (Contains-get_or xs m 0 c.loop-before-test.true) in
+    omega (arith, w, e, c.deref_mut.ensures.len, wide)
 
 pub mark-requires : goal.mark-requires
 mark-requires c =
@@ -72,13 +73,14 @@ mark-requires c =
     let same : length a ≡ length c.args.after.now = length-map _ _ in
     let known : t < length a = order_known c.requires.order t (Contains-get_or order k 0 lt) in
     let in_after : t < length c.args.after.now = omega (arith, known, same) in
-    let xs = c.deref-before-items.result.now in
-    let taken : row a t ≡ xs = rows_row c.args.after.now t c.index-after-task.result in_after c.index-after-task.is ∙ sym c.deref-before-items.ensures.value in
+    let xs = c.as_slice-earlier.result.now in
+    let taken : row a t ≡ xs = rows_row c.args.after.now t c.index-after-task.result in_after c.index-after-task.is ∙ sym c.as_slice-earlier.ensures.value in
     let m = c.loop-before.before-index in
     let b = get_or xs m 0 in
     let has : Contains (row a t) b = subst (λ ys. Contains ys b) (sym taken) (Contains-get_or xs m 0 c.loop-before-test.true) in
     let bk : b < length a = c.requires.tasks t b has in
-    omega (arith, bk, same, c.deref_mut-in-loop-before.ensures.len, c.loop-before.invariant.width)
+    let wide = c.loop-before.invariant.wide b (Contains-get_or xs m 0 c.loop-before-test.true) in
+    omega (arith, bk, same, c.deref_mut-in-loop-before.ensures.len, wide)
 
 pub loop-before-preserved : goal.loop-before-preserved
 loop-before-preserved c =
@@ -90,8 +92,8 @@ loop-before-preserved c =
     let same : length a ≡ length c.args.after.now = length-map _ _ in
     let known : t < length a = order_known c.requires.order t (Contains-get_or order k 0 lt) in
     let in_after : t < length c.args.after.now = omega (arith, known, same) in
-    let xs = c.deref-before-items.result.now in
-    let taken : row a t ≡ xs = rows_row c.args.after.now t c.index-after-task.result in_after c.index-after-task.is ∙ sym c.deref-before-items.ensures.value in
+    let xs = c.as_slice-earlier.result.now in
+    let taken : row a t ≡ xs = rows_row c.args.after.now t c.index-after-task.result in_after c.index-after-task.is ∙ sym c.as_slice-earlier.ensures.value in
     let m = c.loop-before.before-index in
     let b = get_or xs m 0 in
     let has : Contains (row a t) b = subst (λ ys. Contains ys b) (sym taken) (Contains-get_or xs m 0 c.loop-before-test.true) in
@@ -114,7 +116,8 @@ loop-before-preserved c =
     let of : (p : ℕ) → bit_in other p ≡ 1 → IsAfter a b p = λ p h. c.loop-task.invariant.sound b p standing (subst (λ x. bit_in x p ≡ 1) (sym oe) h) in
     let to : (p : ℕ) → IsAfter a b p → bit_in other p ≡ 1 = λ p h. subst (λ x. bit_in x p ≡ 1) oe (c.loop-task.invariant.complete b p standing h) in
     record {
-      width = c.loop-before.invariant.width;
+      most = c.loop-before.invariant.most;
+      wide = c.loop-before.invariant.wide;
       sound = λ p h. takes_sound a t b r0 r1 r2 other has joined kept of c.loop-before.invariant.sound p (subst (λ x. bit_in x p ≡ 1) w2 h);
       complete = λ j p l h. subst (λ x. bit_in x p ≡ 1) (sym w2) (takes_complete a b m xs r0 r1 r2 other refl joined c.mark.ensures.same kept to c.loop-before.invariant.complete j p l h);
     }
@@ -135,8 +138,8 @@ loop-task-preserved c =
     let same : length a ≡ length c.args.after.now = length-map _ _ in
     let known : t < length a = order_known c.requires.order t (Contains-get_or order k 0 lt) in
     let in_after : t < length c.args.after.now = omega (arith, known, same) in
-    let xs = c.deref-before-items.result.now in
-    let taken : row a t ≡ xs = rows_row c.args.after.now t c.index-after-task.result in_after c.index-after-task.is ∙ sym c.deref-before-items.ensures.value in
+    let xs = c.as_slice-earlier.result.now in
+    let taken : row a t ≡ xs = rows_row c.args.after.now t c.index-after-task.result in_after c.index-after-task.is ∙ sym c.as_slice-earlier.ensures.value in
     let found = c.loop-task.found.items in
     let new = rows (set found t c.loop-before.row) in
     let bits = c.loop-before.row.items in
@@ -149,8 +152,10 @@ loop-task-preserved c =
     record {
       places = c.loop-task.invariant.places;
       widths = λ u l. elim (cases_eq u t) [
-        | inl e ↦ ap (λ v. length (row new v)) e ∙ ap length here ∙ wide ∙ c.loop-before.invariant.width
-        | inr n ↦ ap length (other u n) ∙ c.loop-task.invariant.widths u l
+        | inl e ↦
+            let at : length (row new u) ≡ length bits = ap (λ v. length (row new v)) e ∙ ap length here in
+            omega (arith, at, wide, c.loop-before.invariant.most)
+        | inr n ↦ let at : length (row new u) ≡ length (row (rows found) u) = ap length (other u n) in omega (arith, at, c.loop-task.invariant.widths u l)
       ];
       sound = λ u p h g. elim (cases_eq u t) [
         | inl e ↦ subst (λ v. IsAfter a v p) (sym e) (c.loop-before.invariant.sound p (subst (λ x. bit_in x p ≡ 1) (ap (λ v. row new v) e ∙ here) g))

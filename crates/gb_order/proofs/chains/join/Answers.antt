@@ -5,5 +5,5 @@ use Rattle.gb_order.proofs.chains.join.Goals as goal
 pub returns : goal.returns
 returns c = record {
   bits = bits_joined c.loop-at.row c.args.row.now c.args.other.now
-      (word_joined c.loop-at.row c.args.row.now c.args.other.now c.loop-at.at (omega arith) (omega arith) c.loop-at.invariant.joined c.loop-at.invariant.rest);
+      (word_joined c.loop-at.row c.args.row.now c.args.other.now c.loop-at.at (omega arith) c.loop-at.invariant.joined c.loop-at.invariant.rest);
 }

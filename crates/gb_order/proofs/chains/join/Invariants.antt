@@ -4,7 +4,7 @@ use Rattle.gb_order.proofs.chains.join.Given as goal
 
 abbrev pub invariant-loop-at : goal.invariant-loop-at
 invariant-loop-at l = record {
-  same : length l.row ≡ length l.other;
+  fits : length l.other ≤ length l.row;
   joined : (k : ℕ) → k < l.at → get_or l.row k 0 ≡ bit_or (get_or l.initial.row k 0) (get_or l.other k 0);
   rest : (k : ℕ) → l.at ≤ k → get_or l.row k 0 ≡ get_or l.initial.row k 0;
 }

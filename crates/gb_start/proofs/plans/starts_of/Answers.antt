@@ -1,10 +1,11 @@
-use Rattle.std.proofs.Common.{◌≡◌, ◌⊎◌, ◌↔◌, ℕ, true, List, length, Contains, sym, ap, subst, ◌∙◌, arith, Vec}
+use Rattle.std.proofs.Common.{◌≡◌, ◌⊎◌, ◌↔◌, ℕ, true, List, length, Contains, sym, ap, subst, ◌∙◌, arith, Vec, replicate}
 use Rattle.std.specs.Global.{Global}
 use Rattle.std.proofs.lemmas.Result.{IfOk-weaker}
 use Rattle.std.proofs.lemmas.List.{length-map}
 use Rattle.gb_plan.specs.declared.plan.Planned.{Planned}
 use Rattle.gb_start.specs.Plans.{AreOfPlan, IsNeeded, TellRows, finalizers_of, needs_of}
-use Rattle.gb_start.specs.Starts.{mark_at, row, rows}
+use Rattle.gb_start.specs.Starts.{Progress, mark_at, row, rows}
+use Rattle.gb_start.specs.declared.starts.Ending.TheVariants.{ToCome}
 use Rattle.gb_start.proofs.Rowed.{tell_rows, needs_within, wired, of_plan}
 use Rattle.gb_start.proofs.plans.starts_of.Goals as goal
 
@@ -41,4 +42,13 @@ returns-clause-plan c =
     (λ starts is. subst (AreOfPlan plan) (sym is)
     (of_plan plan (rows c.in_ok-needs.needs.items) (rows c.in_ok-finalizers.finalizers.items) needs finalizers c.in_ok-wanted.wanted.items c.mark_rows.new.marks.items _
     c.in_ok-wanted.ensures marked))
+    c.new.ensures
+
+pub returns-clause-endings : goal.returns-clause-endings
+returns-clause-endings c =
+    let plan = c.args.plan.now in
+    let table = c.in_ok-needs.needs.items in
+    let each : length table ≡ length plan = sym (length-map table (λ (v : Vec ℕ Global). v.items)) ∙ ap length c.in_ok-needs.ensures ∙ length-map plan _ in
+    IfOk-weaker c.new.result _ (λ (starts : Progress). starts.endings ≡ replicate (length plan) ToCome)
+    (λ starts is. ap (λ (s : Progress). s.endings) is ∙ ap (λ n. replicate n ToCome) each)
     c.new.ensures

@@ -1,4 +1,4 @@
-use Rattle.std.proofs.Common.{IfErr, IfOk, inl, inr, refl, sym, subst}
+use Rattle.std.proofs.Common.{◌∙◌, IfErr, IfOk, inl, inr, refl, sym, subst}
 use Rattle.std.proofs.lemmas.Result.{err_from_is_err_and}
 use Rattle.gb_folder.specs.Files.{Contents}
 use Rattle.gb_invocation.proofs.Reading.{not_read, registered}
@@ -11,8 +11,8 @@ use Rattle.gb_why_command.specs.Told.{Answer, AreToldOf, IsAnswerTo, IsNotTold, 
 use Rattle.gb_why_command.proofs.Told.{answers_it, shows}
 use Rattle.gb_why_command.proofs.telling.tell.Goals as goal
 
-pub returns-in_err-given-clause-answer : goal.returns-in_err-given-clause-answer
-returns-in_err-given-clause-answer g c =
+pub returns-in_err-copied-clause-answer : goal.returns-in_err-copied-clause-answer
+returns-in_err-copied-clause-answer g c =
     let F = g.F.Folder in
     let tables = tables_of g.T.Transforms.meanings g.A.Actions.meanings c.args.tables.now in
     let old : Shown = shows (F.contents c.args.folder.now) (F.failures c.args.folder.now) in
@@ -28,7 +28,7 @@ returns-in_err-configured-clause-answer g c =
     let residual = c.from_residual-in_err-configured in
     let p = err_from_is_err_and residual.result residual.ensures.1 in
     subst (λ (r : Answer). IsAnswerTo tables F.tells c.args.asked.now old r after) (sym p.1)
-    (λ tells. not_read tables old.contents (in_earnest c.args.asked.now) c.in_ok-given.given.items c.in_ok-given.ensures
+    (λ tells. not_read tables old.contents (in_earnest c.args.asked.now) c.into_vec-given.result.items (c.into_vec-given.ensures ∙ c.in_ok-copied.ensures)
     c.read_registry.result c.in_err-configured.field-0.0 p.0 old.failures after c.in_err-configured.was p.2 c.read_registry.ensures.blamed (c.in_err-configured.ensures.said tells)
     old refl refl)
 
@@ -48,7 +48,7 @@ returns-clause-answer g c =
     let tables = tables_of g.T.Transforms.meanings M c.args.tables.now in
     answers_it tables F.tells asked old mid (F.failures c.args.folder.now) later after
     c.read_registry.ensures.same c.read_registry.ensures.asks.count c.tell_registered.ensures.asks.count (registry_said tables source)
-    (λ tells. registered tables old c.in_ok-given.given.items asked.properties c.in_ok-given.ensures source (c.in_ok-configured.ensures.said tells))
+    (λ tells. registered tables old c.into_vec-given.result.items asked.properties (c.into_vec-given.ensures ∙ c.in_ok-copied.ensures) source (c.in_ok-configured.ensures.said tells))
     result
     (subst (λ given. IfOk result (λ told. IsRegistry (registry_by given))) same c.tell_registered.ensures.sound)
     (subst (λ (given : handed.Tables _ _ _ _ _). IfOk result (λ told. AreToldOf F.tells M given.actions (registry_by given) asked.requested asked.excluded asked.options (shows mid later) after told.items))

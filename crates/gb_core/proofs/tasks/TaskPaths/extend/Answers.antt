@@ -1,6 +1,6 @@
-use Rattle.std.proofs.Common.{rules, ◌≡◌, ◌∷◌, ◌++◌, ◌∙◌, ap, sym}
+use Rattle.std.proofs.Common.{rules, ◌≡◌, ◌∷◌, ◌++◌, ◌∙◌, ap, sym, length}
 use native.Mathlib.Omega.{arith}
-use Rattle.gb_core.proofs.Ordered.{front_grows, front_counted, if_refused}
+use Rattle.gb_core.proofs.Ordered.{front_grows, front_counted, if_refused, with_cloned, if_done}
 use Rattle.gb_core.proofs.tasks.TaskPaths.extend.Goals as goal
 
 pub returns-in_err-copy-clause-err : goal.returns-in_err-copy-clause-err
@@ -21,3 +21,9 @@ returns-in_err-insert-clause-err c =
     let put = c.loop-task.invariant in
     if_refused c.from_residual-in_err-insert.result
     (front_counted c.args.self.now c.insert.new.self put.0 c.args.more.now c.loop-task.task-iterator put.1 (c.in_err-insert.ensures.err ∙ put.2))
+
+pub returns-then-is_empty-clause-ok : goal.returns-then-is_empty-clause-ok
+returns-then-is_empty-clause-ok c =
+    let none : length c.self.inside.paths.keys ≡ 0 = search rules in
+    let same = if_done c.clone_from.result (with_cloned c.self.inside.paths.keys c.more.inside.paths.keys c.clone_from.new.self.keys none c.more.invariant) c.clone_from.ensures.ok in
+    rw (← c.self.view_is, ← c.more.view_is) same

@@ -1,0 +1,155 @@
+//! Small files that were read wait for one another: as soon as there are four, they are digested side by
+//! side.
+ghost use Rattle.std.specs.Prelude.{◌≡◌, ◌++◌, [], ◌∷◌, IfOk, OnOk};
+ghost use Rattle.gb_tree.specs.Waiting.{file_in, file_of, waiting_files};
+ghost use Rattle.sha2.specs.Sha256.{sha256};
+
+use crate::kept::SeenFile;
+use gb_core::bytes::Bytes;
+use gb_core::place::{Place, RelPath};
+use gb_lanes::digest_four;
+use sha2::{Digest, Sha256};
+use std::alloc::AllocError;
+
+/// A small file that was read and is not digested yet.
+#[derive(Drop)]
+pub(crate) struct SmallFile {
+    /// Its path in the tree.
+    pub path: RelPath,
+    /// Where it stands.
+    pub place: Place,
+    /// Its bytes.
+    pub bytes: Bytes,
+    /// Whether they are kept once they are digested.
+    pub is_kept: bool,
+}
+
+/// A file that was read.
+#[derive(Drop)]
+pub(crate) enum Found {
+    /// A small one, which may wait for others.
+    Small(SmallFile),
+    /// One that was digested as it was read.
+    Seen(SeenFile),
+}
+
+/// The small files that wait, in their order.
+#[derive(Drop)]
+pub(crate) enum Waiting {
+    Nothing,
+    One(SmallFile),
+    Two(SmallFile, SmallFile),
+    Three(SmallFile, SmallFile, SmallFile),
+}
+
+/// A small file with the digest of its bytes.
+fn with_digest(small: SmallFile, digest: [u8; 32]) -> SeenFile
+    requires { digest ≡ sha256 small.bytes }
+    ensures { result ≡ file_of small }
+{
+    let SmallFile {
+        path,
+        place,
+        bytes,
+        is_kept,
+    } = small;
+    let kept = if is_kept { Some(bytes) } else { None };
+    SeenFile {
+        path,
+        place,
+        digest,
+        kept,
+    }
+}
+
+/// Digests one file and puts it behind those that were seen.
+fn push_one(seen: &mut Vec<SeenFile>, small: SmallFile) -> Result<(), AllocError>
+    ensures { OnOk result (seen.new.items ≡ seen.old.items ++ file_of small ∷ []) }
+{
+    let digest = Sha256::digest(small.bytes.as_slice());
+    seen.push(with_digest(small, digest))?;
+    Ok(())
+}
+
+/// Digests four files side by side and puts them behind those that were seen.
+fn push_four(
+    seen: &mut Vec<SeenFile>,
+    first: SmallFile,
+    second: SmallFile,
+    third: SmallFile,
+    fourth: SmallFile,
+) -> Result<(), AllocError>
+    ensures { OnOk result (seen.new.items ≡ seen.old.items
+        ++ file_of first ∷ file_of second ∷ file_of third ∷ file_of fourth ∷ []) }
+{
+    let digests = digest_four(
+        first.bytes.as_slice(),
+        second.bytes.as_slice(),
+        third.bytes.as_slice(),
+        fourth.bytes.as_slice(),
+    );
+    seen.push(with_digest(first, digests[0]))?;
+    seen.push(with_digest(second, digests[1]))?;
+    seen.push(with_digest(third, digests[2]))?;
+    seen.push(with_digest(fourth, digests[3]))?;
+    Ok(())
+}
+
+/// Digests the files that wait, one after another, and puts them behind those that were seen.
+pub(crate) fn digest_waiting(seen: &mut Vec<SeenFile>, waiting: Waiting) -> Result<(), AllocError>
+    ensures { OnOk result (seen.new.items ≡ seen.old.items ++ waiting_files waiting) }
+{
+    match waiting {
+        Waiting::Nothing => Ok(()),
+        Waiting::One(first) => push_one(seen, first),
+        Waiting::Two(first, second) => {
+            push_one(seen, first)?;
+            push_one(seen, second)
+        }
+        Waiting::Three(first, second, third) => {
+            push_one(seen, first)?;
+            push_one(seen, second)?;
+            push_one(seen, third)
+        }
+    }
+}
+
+/// One small file more: it waits, or is digested with the three that do.
+fn add_small(
+    seen: &mut Vec<SeenFile>,
+    waiting: Waiting,
+    small: SmallFile,
+) -> Result<Waiting, AllocError>
+    ensures { IfOk result (λ left. seen.new.items ++ waiting_files left
+        ≡ (seen.old.items ++ waiting_files waiting) ++ file_of small ∷ []) }
+{
+    match waiting {
+        Waiting::Nothing => Ok(Waiting::One(small)),
+        Waiting::One(first) => Ok(Waiting::Two(first, small)),
+        Waiting::Two(first, second) => Ok(Waiting::Three(first, second, small)),
+        Waiting::Three(first, second, third) => {
+            push_four(seen, first, second, third, small)?;
+            Ok(Waiting::Nothing)
+        }
+    }
+}
+
+/// One file more behind those that were seen and those that wait; a file that need not wait comes behind
+/// them once they are digested.
+pub(crate) fn add(
+    seen: &mut Vec<SeenFile>,
+    waiting: Waiting,
+    found: Found,
+) -> Result<Waiting, AllocError>
+    ensures { IfOk result (λ left. seen.new.items ++ waiting_files left
+        ≡ (seen.old.items ++ waiting_files waiting) ++ file_in found ∷ []) }
+{
+    match found {
+        Found::Small(small) => add_small(seen, waiting, small),
+        Found::Seen(file) => {
+            digest_waiting(seen, waiting)?;
+            seen.push(file)?;
+            Ok(Waiting::Nothing)
+        }
+    }
+}
