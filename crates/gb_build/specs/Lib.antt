@@ -1,1 +1,13 @@
+pub mod Texts
+pub mod Turns
+pub mod Scripts
+pub mod Laws
+pub mod Refusing
+pub mod Asking
+pub mod Leading
+pub mod RequestAsked
+pub mod Registering
+pub mod InvocationAsked
+pub mod Answers
+pub mod EventAsked
 pub mod Words

@@ -1,14 +1,14 @@
 -- What the contracts of builds speak of.
 pub use Rattle.gb_action.specs.Meanings.{Meanings}
-pub use Rattle.gb_events.specs.Answers.{AnswerIsOutlined}
-pub use Rattle.gb_events.specs.Asked.{EventAsks, EventsAsk}
+pub use Rattle.gb_build.specs.Answers.{AnswerIsOutlined}
+pub use Rattle.gb_build.specs.EventAsked.{EventAsks, EventsAsk}
 pub use Rattle.gb_folder.specs.Files.{Bytes, Contents, SameTearing}
 pub use Rattle.gb_graph.specs.Answer.{IsPlanOf, IsRefusalOf}
 pub use Rattle.gb_history.specs.Places.{record_place}
-pub use Rattle.gb_invocation.specs.Asked.{InvocationAsks}
-pub use Rattle.gb_invocation.specs.Scripts.{registers_in, setting_of}
-pub use Rattle.gb_invoke.specs.Leading.{Leads}
-pub use Rattle.gb_listen.specs.Telling.{Refuses}
+pub use Rattle.gb_build.specs.InvocationAsked.{InvocationAsks}
+pub use Rattle.gb_build.specs.Registering.{registers_in, setting_of}
+pub use Rattle.gb_build.specs.Leading.{Leads}
+pub use Rattle.gb_exec.specs.Telling.{Refuses}
 pub use Rattle.gb_meaning.specs.Edits.{Shown}
 pub use Rattle.gb_meaning.specs.Events.{IsBuild, IsNotBuilt, Setting, State, has_failure, is_read_first}
 pub use Rattle.gb_meaning.specs.Every.{IsFromScratch, PlainRun, PromiseHolds, Succeeds}
@@ -35,4 +35,4 @@ pub use Rattle.gb_report.specs.declared.fault.Fault.{Fault}
 pub use Rattle.gb_report.specs.declared.report.Heard.{Heard}
 pub use Rattle.gb_report.specs.declared.report.Outcome.{Outcome}
 pub use Rattle.gb_report.specs.declared.report.Report.{Report}
-pub use Rattle.gb_project.specs.Registered.{registry_said}
+pub use Rattle.gb_declare.specs.Registered.{registry_said}

@@ -1,4 +1,4 @@
-//! Builds, behind one door: all that one needs who embeds the tool, but the kinds themselves (`gb_kinds`).
+//! Builds: all that one needs who embeds the tool, but the kinds themselves (`gb_kinds`).
 //!
 //! A folder holds scripts. [`invoke`] makes one build of it, [`run_events`] takes any list of edits and
 //! builds, and [`run_from_nothing`] does so over an empty folder in memory. [`read_words`] reads an
@@ -8,15 +8,29 @@
 //! The parts that a build is made of stand here too, and their calls in a module for each task at hand:
 //! [`scripts`], [`plans`], [`trees`] and [`records`]. `docs/CRATES.md` has a table of them.
 //!
-//! A door has no code of its own: it hands on what the crates behind it have. `specs/Words.antt` hands on
-//! what the contracts of builds speak of, so that a caller's own clauses can say it.
+//! Inside, a build goes down three steps: [`reading`] reads the scripts, each file once and none before the
+//! settings are known to be good; [`invoking`] hands what they say to [`requested`], which plans, reads the
+//! records and has the tasks take their turns. `specs/Words.antt` hands on what the contracts speak of.
 #![tactic(auto)]
 
+mod before;
+mod each_script;
+mod edits;
+pub mod events;
+pub mod invoking;
+pub mod laws;
+pub mod nothing;
+mod one_script;
 pub mod plans;
+pub mod reading;
 pub mod records;
+mod requested;
 pub mod scripts;
 pub mod trees;
 
+pub use crate::events::run_events;
+pub use crate::invoking::invoke;
+pub use crate::nothing::run_from_nothing;
 pub use gb_action::change::{Change, InputChanges};
 pub use gb_action::list::ActionList;
 pub use gb_action::output::Form;
@@ -32,20 +46,19 @@ pub use gb_core::place::{Place, RelPath};
 pub use gb_core::text::{Text, Texts};
 pub use gb_core::value::Value;
 pub use gb_disk::disk::DiskFolder;
-pub use gb_events::events::run_events;
-pub use gb_events::nothing::run_from_nothing;
 pub use gb_exec::{
     ActionTable, Actions, Fault, Folder, FolderFault, Heard, Options, Outcome, Page, Plan, Planned,
     Printer, Record, Recorder, Report, Silent, TaskListener, TaskReport, TaskReports, execute,
 };
 pub use gb_folder::faulty::{FaultMode, FaultPlan, FaultyFolder};
 pub use gb_folder::memory::MemoryFolder;
+pub use gb_graph::tasks::Tasks;
 pub use gb_history::decide::{Decision, Present};
 pub use gb_history::history::History;
-pub use gb_invocation::invocation::invoke;
 pub use gb_meaning::events::{Answer, Event, Invocation, Properties};
-pub use gb_order::tasks::Tasks;
 pub use gb_plan::task::TaskDeclaration;
+pub use gb_project::script_tasks::ScriptTasks;
+pub use gb_project::workspaces::Workspace;
 pub use gb_provider::expression::Node;
 pub use gb_provider::providers::Providers;
 pub use gb_provider::table::TransformTable;
@@ -55,8 +68,6 @@ pub use gb_registry::registry::Registry;
 pub use gb_registry::tables::{Handed, Tables};
 pub use gb_report::render::{render, render_fault};
 pub use gb_script::script::{Script, Settings};
-pub use gb_tasks::script_tasks::ScriptTasks;
 pub use gb_tree::pattern::Pattern;
 pub use gb_tree::prints::Prints;
 pub use gb_words::words::read as read_words;
-pub use gb_workspace::workspace::Workspace;

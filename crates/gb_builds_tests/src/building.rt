@@ -1,11 +1,11 @@
 //! Events over a folder, and what becomes of it.
 use gb_action::actions::Actions;
+use gb_build::events::run_events;
 use gb_core::bytes::Bytes;
 use gb_core::place::Place;
-use gb_events::events::run_events;
+use gb_exec::listener::{Recorder, TaskListener};
 use gb_folder::folder::Folder;
 use gb_folder::memory::MemoryFolder;
-use gb_listen::listener::{Recorder, TaskListener};
 use gb_meaning::events::{Answer, Event};
 use gb_provider::transforms::Transforms;
 use gb_registry::tables::Handed;

@@ -1,6 +1,6 @@
 //! Builds of a plan of one task without actions.
 ghost use Rattle.std.specs.Prelude.{◌≡◌, [], IfOk, length};
-ghost use Rattle.gb_execute.specs.Building.{CanBuild};
+ghost use Rattle.gb_exec.specs.Building.{CanBuild};
 ghost use Rattle.gb_builds_tests.specs.Idle.{idle};
 
 use gb_action::actions::Actions;
@@ -9,10 +9,10 @@ use gb_action::table::ActionTable;
 use gb_action::values::NamedValues;
 use gb_core::path::TaskPath;
 use gb_core::tasks::TaskPaths;
-use gb_execute::execute::execute;
+use gb_exec::building::execute;
+use gb_exec::listener::{Recorder, TaskListener};
 use gb_folder::memory::MemoryFolder;
 use gb_kinds::builtin::{Builtin, StoredAction};
-use gb_listen::listener::{Recorder, TaskListener};
 use gb_plan::plan::{Plan, Planned};
 use gb_plan::task::{FileProperties, Outputs, TaskDeclaration};
 use gb_printer::printer::Silent;

@@ -2,9 +2,9 @@
 use crate::building::{Step, are_held, are_told, events};
 use crate::offering::offered;
 use gb_action::actions::Actions;
-use gb_events::nothing::run_from_nothing;
+use gb_build::nothing::run_from_nothing;
+use gb_exec::listener::Recorder;
 use gb_kinds::builtin::Builtin;
-use gb_listen::listener::Recorder;
 use gb_provider::transforms::Transforms;
 use gb_registry::tables::Handed;
 use std::alloc::Global;

@@ -3,11 +3,11 @@ use crate::building::{Step, are_held, go_on, is_told, is_told_of, told_beside, t
 use crate::listening::{Refusing, heard_by_each, heard_text};
 use crate::offering::offered;
 use gb_action::actions::Actions;
+use gb_exec::listener::{Recorder, TaskListener};
 use gb_folder::faulty::{FaultMode, FaultyFolder};
 use gb_folder::folder::Folder;
 use gb_folder::memory::MemoryFolder;
 use gb_kinds::builtin::Builtin;
-use gb_listen::listener::{Recorder, TaskListener};
 use gb_provider::transforms::Transforms;
 use gb_registry::tables::Handed;
 use std::alloc::Global;

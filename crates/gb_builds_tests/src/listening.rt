@@ -4,7 +4,7 @@ ghost use Rattle.gb_meaning.specs.Headline.{counted};
 ghost use Rattle.gb_report.specs.declared.report.Heard.TheVariants.{Start, End};
 
 use gb_core::path::TaskPath;
-use gb_listen::listener::{Recorder, TaskListener};
+use gb_exec::listener::{Recorder, TaskListener};
 use gb_report::report::{Heard, Outcome};
 use std::alloc::{AllocError, Global};
 use std::test::Fail;

@@ -5,8 +5,8 @@ use Rattle.gb_action.specs.Meanings.{Meanings}
 use Rattle.gb_folder.specs.Calls.{Asks, Call, no_change}
 use Rattle.gb_folder.specs.Files.{Tearing}
 use Rattle.gb_history.specs.Places.{record_place}
-use Rattle.gb_invocation.specs.Asked.{InvocationAsks}
-use Rattle.gb_invocation.specs.Scripts.{registers_in, setting_of}
+use Rattle.gb_build.specs.InvocationAsked.{InvocationAsks}
+use Rattle.gb_build.specs.Registering.{registers_in, setting_of}
 use Rattle.gb_meaning.specs.Edits.{Shown}
 use Rattle.gb_meaning.specs.Headline.{Agrees, EventKeeps, InvocationHolds, TearsAreSeen, answer_of}
 use Rattle.gb_meaning.specs.Every.{PromiseHolds}

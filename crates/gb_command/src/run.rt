@@ -12,9 +12,9 @@ ghost use Rattle.gb_command.specs.Answered.{Answers, AreRefused, AskFor, AsksFor
 use gb_action::actions::Actions;
 use gb_answer::answer::status_of;
 use gb_answer::printing::print_rest;
+use gb_build::invoking::invoke;
+use gb_exec::listener::Recorder;
 use gb_folder::folder::Folder;
-use gb_invocation::invocation::invoke;
-use gb_listen::listener::Recorder;
 use gb_meaning::events::Invocation;
 use gb_printer::printer::Printer;
 use gb_provider::transforms::Transforms;

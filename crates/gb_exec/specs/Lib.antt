@@ -1,1 +1,9 @@
+pub mod Telling
+pub mod Starts
+pub mod Plans
+pub mod Building
+pub mod Failing
+pub mod Reports
+pub mod Built
+pub mod Asking
 pub mod Words

@@ -1,13 +1,13 @@
 -- What the contract of `execute` speaks of.
-pub use Rattle.gb_execute.specs.Asking.{WereCurrent, in_build}
-pub use Rattle.gb_execute.specs.Building.{CanBuild, IsBuildable, is_of_turns}
-pub use Rattle.gb_execute.specs.Built.{AreWorth, HasBuilt}
-pub use Rattle.gb_execute.specs.Failing.{times_blamed}
-pub use Rattle.gb_execute.specs.Reports.{IsOf}
+pub use Rattle.gb_exec.specs.Asking.{WereCurrent, in_build}
+pub use Rattle.gb_exec.specs.Building.{CanBuild, IsBuildable, is_of_turns}
+pub use Rattle.gb_exec.specs.Built.{AreWorth, HasBuilt}
+pub use Rattle.gb_exec.specs.Failing.{times_blamed}
+pub use Rattle.gb_exec.specs.Reports.{IsOf}
 pub use Rattle.gb_folder.specs.Calls.{Asks}
 pub use Rattle.gb_folder.specs.Files.{Bytes, Contents}
 pub use Rattle.gb_history.specs.Places.{record_place}
-pub use Rattle.gb_listen.specs.Telling.{Refuses}
+pub use Rattle.gb_exec.specs.Telling.{Refuses}
 pub use Rattle.gb_meaning.specs.Headline.{Agrees, Ear, HasFailed, HaveHeard, HearsAll, TearsAreSeen}
 pub use Rattle.gb_meaning.specs.Kinds.{Kinds}
 pub use Rattle.gb_meaning.specs.Memory.{Memory}
@@ -15,7 +15,7 @@ pub use Rattle.gb_meaning.specs.Outline.{Outlines}
 pub use Rattle.gb_printer.specs.Printing.{Prints, parts_text}
 pub use Rattle.gb_records.specs.Said.{IsText}
 pub use Rattle.gb_store.specs.Changes.{ChangesOnly}
-pub use Rattle.gb_task.specs.Turned.{Registering, setting_with}
+pub use Rattle.gb_turn.specs.Turned.{Registering, setting_with}
 pub use Rattle.gb_report.specs.declared.report.Heard.{Heard}
 pub use Rattle.gb_report.specs.declared.report.Options.{Options}
 pub use Rattle.gb_report.specs.declared.report.Outcome.{Outcome}

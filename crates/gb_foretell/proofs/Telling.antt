@@ -2,7 +2,7 @@
 use Rattle.std.specs.Prelude.{ℕ, ◌≡◌, ◌≢◌, ◌≤◌, ◌⊎◌, Bool, true, false, List, [], ◌∷◌, ◌++◌, map, if◌then◌else◌, Option, None, Some, Result, Ok, Err, IfOk, IfErr, OnOk}
 use Rattle.std.specs.List.{AllZip, flat_map}
 use Rattle.std.proofs.Common.{refl, sym, ap, subst, ◌∙◌, inl, inr, true≢false}
-use Rattle.gb_case.specs.Turns.{goes_by_changes}
+use Rattle.gb_turn.specs.Turns.{goes_by_changes}
 use Rattle.gb_core.specs.Lists.{first_of}
 use Rattle.gb_folder.specs.Files.{Contents, is_empty}
 use Rattle.gb_history.specs.Remembered.{Remembered}
@@ -27,7 +27,7 @@ use Rattle.gb_report.specs.declared.fault.Fault.{Fault}
 use Rattle.gb_report.specs.declared.report.Options.{Options}
 use Rattle.gb_store.specs.Faults.{IsOfMachine}
 use Rattle.gb_store.proofs.Machine.{machine_after, machine_before}
-use Rattle.gb_turn.specs.Reading.{CannotRead, digests_in, print_faults, recorded_of}
+use Rattle.gb_label.specs.Reading.{CannotRead, digests_in, print_faults, recorded_of}
 use Rattle.gb_foretell.specs.Explained.{IsExplained}
 use Rattle.gb_foretell.specs.Foretold.{AreReasons, IsForetold, IsFound, IsReasoned, IsRun, RunsFor, is_of_machine, told_of}
 use Rattle.gb_foretell.specs.declared.coming.Coming.{Coming}

@@ -1,6 +1,6 @@
 -- What a decision by a record comes to.
 use Rattle.std.specs.Prelude.{◌≡◌, ◌≢◌, Some}
-use Rattle.gb_case.specs.Turns.{goes_by_changes}
+use Rattle.gb_turn.specs.Turns.{goes_by_changes}
 use Rattle.gb_history.specs.Decision.{DecidesFrom}
 use Rattle.gb_history.specs.Remembered.{Remembered}
 use Rattle.gb_history.specs.declared.decide.Decision.{Decision}

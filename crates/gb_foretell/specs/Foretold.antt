@@ -2,7 +2,7 @@
 use Rattle.std.specs.Prelude.{ℕ, ◌≡◌, ◌≢◌, Bool, false, true, List, []}
 use Rattle.std.specs.Prelude.{◌∷◌, map, Option, Some, None, Result, Ok, Err, ⊤}
 use Rattle.std.specs.List.{AllZip, flat_map, zip}
-use Rattle.gb_case.specs.Turns.{goes_by_changes}
+use Rattle.gb_turn.specs.Turns.{goes_by_changes}
 use Rattle.gb_folder.specs.Files.{Contents, is_empty}
 use Rattle.gb_history.specs.Remembered.{Remembered}
 use Rattle.gb_history.specs.declared.decide.Decision.{Decision}
@@ -20,7 +20,7 @@ use Rattle.gb_reason.specs.declared.reason.Reason.{Reason}
 use Rattle.gb_report.specs.declared.fault.Fault.{Fault}
 use Rattle.gb_report.specs.declared.fault.Fault.TheVariants as faults
 use Rattle.gb_report.specs.declared.report.Options.{Options}
-use Rattle.gb_turn.specs.Reading.{digests_in, print_faults, recorded_of}
+use Rattle.gb_label.specs.Reading.{digests_in, print_faults, recorded_of}
 use Rattle.gb_foretell.specs.declared.coming.Coming.{Coming}
 use Rattle.gb_foretell.specs.declared.coming.Coming.TheVariants as comings
 use Rattle.gb_foretell.specs.declared.coming.Foretold.{Foretold}

@@ -1,7 +1,7 @@
 //! A task that is compared with its record.
 ghost use Rattle.std.specs.Prelude.{◌≡◌, ◌≢◌, [], map, false, true, IfErr, IfOk, IsTrue, OnErr, OnOk, Some};
 ghost use Rattle.std.specs.List.{list_any};
-ghost use Rattle.gb_case.specs.Turns.{goes_by_changes};
+ghost use Rattle.gb_turn.specs.Turns.{goes_by_changes};
 ghost use Rattle.gb_folder.specs.Calls.{Asks, no_change};
 ghost use Rattle.gb_folder.specs.Files.{is_own};
 ghost use Rattle.gb_foretell.specs.Explained.{IsExplained};
@@ -13,8 +13,8 @@ ghost use Rattle.gb_meaning.specs.Headline.{Agrees};
 ghost use Rattle.gb_meaning.specs.Kinds.{Kinds};
 ghost use Rattle.gb_meaning.specs.Tree.{listing_faults, trees_of};
 ghost use Rattle.gb_plan.specs.Ready.{IsReady};
-ghost use Rattle.gb_turn.specs.Reading.{AreInputs, AreOutputs, CannotRead, digests_in, prints_read};
-ghost use Rattle.gb_turn.specs.Reading.{records_with};
+ghost use Rattle.gb_label.specs.Reading.{AreInputs, AreOutputs, CannotRead, digests_in, prints_read};
+ghost use Rattle.gb_label.specs.Reading.{records_with};
 
 use crate::coming::Coming;
 use crate::sourced::listed;
@@ -23,15 +23,15 @@ use gb_action::table::ActionTable;
 use gb_folder::folder::Folder;
 use gb_history::decide::{Decision, Present};
 use gb_history::record::Record;
-use gb_incremental::asking::has_one_writer;
 use gb_label::deciding::{DecidedOn, decide_on};
+use gb_label::outputs::read_outputs;
+use gb_label::prints::prints_of;
 use gb_plan::task::TaskDeclaration;
 use gb_reason::explain::explain;
 use gb_report::fault::Fault;
 use gb_report::report::Options;
+use gb_run::asking_changes::has_one_writer;
 use gb_tree::kept::Reading;
-use gb_turn::outputs::read_outputs;
-use gb_turn::prints::prints_of;
 use std::alloc::{AllocError, Global};
 
 /// What a task comes to by this record, its inputs and its outputs as they stand.

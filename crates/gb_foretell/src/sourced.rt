@@ -9,7 +9,7 @@ ghost use Rattle.gb_meaning.specs.Headline.{Agrees};
 ghost use Rattle.gb_meaning.specs.Kinds.{Kinds};
 ghost use Rattle.gb_meaning.specs.Tree.{listing_faults, trees_of};
 ghost use Rattle.gb_plan.specs.Ready.{IsReady};
-ghost use Rattle.gb_turn.specs.Reading.{AreInputs, CannotRead, digests_in, prints_read};
+ghost use Rattle.gb_label.specs.Reading.{AreInputs, CannotRead, digests_in, prints_read};
 
 use crate::coming::Coming;
 use crate::compared::compared;

@@ -10,7 +10,7 @@ use Rattle.gb_plan.specs.Task.{Path, output_places}
 use Rattle.gb_plan.specs.Refusal.{outputs_of}
 use Rattle.gb_plan.proofs.Tests.{not_true}
 use Rattle.gb_plan.proofs.Same.{In}
-use Rattle.gb_order.proofs.Numbers.{in_of, of_in, in_front, in_back, in_either}
+use Rattle.gb_graph.proofs.Numbers.{in_of, of_in, in_front, in_back, in_either}
 use Rattle.gb_graph.specs.declared.places.TaskPlace.{TaskPlace}
 use Rattle.gb_graph.specs.Places.{with_places, places_from}
 

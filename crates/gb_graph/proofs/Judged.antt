@@ -12,9 +12,9 @@ use Rattle.gb_plan.specs.Refusal.{Meeting, outputs_of, IsOverlap, IsRead, IsOwnI
 use Rattle.gb_plan.proofs.Tests.{itself, neither}
 use Rattle.gb_plan.proofs.Same.{In}
 use Rattle.gb_plan.proofs.Refused.{places_of}
-use Rattle.gb_order.specs.Order.{row, rows}
-use Rattle.gb_order.specs.Chains.{bit_in}
-use Rattle.gb_order.proofs.Numbers.{of_in}
+use Rattle.gb_graph.specs.Order.{row, rows}
+use Rattle.gb_graph.specs.Chains.{bit_in}
+use Rattle.gb_graph.proofs.Numbers.{of_in}
 use Rattle.gb_graph.specs.declared.least.Found.{Found}
 use Rattle.gb_graph.specs.declared.met.Search.{Search}
 use Rattle.gb_graph.specs.declared.met.Search.TheVariants.{Overlaps, OwnInputs, Undeclared}

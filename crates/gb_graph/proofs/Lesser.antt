@@ -11,8 +11,8 @@ use Rattle.std.specs.declared.cmp.Ordering.{Ordering}
 use Rattle.gb_core.specs.Lists.{byte_order}
 use Rattle.gb_plan.specs.declared.plan.Planned.{Planned}
 use Rattle.gb_plan.specs.Refusal.{Meeting, is_before}
-use Rattle.gb_order.proofs.Edges.{take_grows}
-use Rattle.gb_order.specs.Circle.{path_at}
+use Rattle.gb_graph.proofs.Edges.{take_grows}
+use Rattle.gb_graph.specs.Circle.{path_at}
 use Rattle.gb_graph.specs.declared.least.Found.{Found}
 use Rattle.gb_graph.specs.declared.least.Met.{Met}
 use Rattle.gb_graph.specs.declared.met.Search.{Search}

@@ -4,16 +4,16 @@ use Rattle.std.proofs.Common.{sym, ap, subst, ◌∙◌, inl, inr}
 use Rattle.std.proofs.lemmas.List.{get_or_default}
 use Rattle.std.proofs.lemmas.List.Elements.{Contains-append_left, Contains-push, Contains-push_cases}
 use Rattle.gb_core.specs.Place.{overlaps}
-use Rattle.gb_order.proofs.Edges.{take_grows}
-use Rattle.gb_order.proofs.Keeping.{not_both}
-use Rattle.gb_order.specs.Circle.{path_at}
+use Rattle.gb_graph.proofs.Edges.{take_grows}
+use Rattle.gb_graph.proofs.Keeping.{not_both}
+use Rattle.gb_graph.specs.Circle.{path_at}
 use Rattle.gb_plan.specs.declared.plan.Planned.{Planned}
 use Rattle.gb_plan.specs.Refusal.{Meeting}
 use Rattle.gb_graph.specs.declared.met.Search.{Search}
 use Rattle.gb_graph.specs.declared.places.TaskPlace.{TaskPlace}
 use Rattle.gb_graph.specs.Places.{place_at}
 use Rattle.gb_graph.specs.Meetings.{IsMet, IsMetAt, IsMetTask, counts}
-use Rattle.gb_graph.proofs.Rows.{place_found}
+use Rattle.gb_graph.proofs.RefusalRows.{place_found}
 
 -- the output of one of these indices counts
 pub record IsMetBy (search : Search) (chains : List (List ℕ)) (outputs : List TaskPlace) (at : TaskPlace) (indices : List ℕ) (task : ℕ) : Type 0 where

@@ -13,17 +13,17 @@ use Rattle.gb_plan.specs.Graph.{Plan, order, no_repeats, IsAfter}
 use Rattle.gb_plan.specs.Refusal.{Meeting, outputs_of, IsOverlap, IsRead, IsOwnInput, IsUndeclared}
 use Rattle.gb_plan.proofs.Tests.{left_of, right_of, itself}
 use Rattle.gb_plan.proofs.Same.{In}
-use Rattle.gb_order.specs.Order.{row}
-use Rattle.gb_order.specs.Chains.{bit_in}
-use Rattle.gb_order.specs.Circle.{path_at}
-use Rattle.gb_order.proofs.Keeping.{not_both}
-use Rattle.gb_order.proofs.Numbers.{in_of, of_in, both}
+use Rattle.gb_graph.specs.Order.{row}
+use Rattle.gb_graph.specs.Chains.{bit_in}
+use Rattle.gb_graph.specs.Circle.{path_at}
+use Rattle.gb_graph.proofs.Keeping.{not_both}
+use Rattle.gb_graph.proofs.Numbers.{in_of, of_in, both}
 use Rattle.gb_graph.specs.declared.met.Search.TheVariants.{Overlaps, OwnInputs, Undeclared}
 use Rattle.gb_graph.specs.declared.places.TaskPlace.{TaskPlace}
 use Rattle.gb_graph.specs.Places.{AreSamePlaces, with_places, places_from}
 use Rattle.gb_graph.specs.Meetings.{IsMet, TellChains}
 use Rattle.gb_graph.proofs.Bridges.{At, at_in, in_at, at_get, at_map, of_at_map, parted, around, any_in, some_in, of_row, into_row, into_placed, outputs_mapped}
-use Rattle.gb_graph.proofs.Plans.{one_path}
+use Rattle.gb_graph.proofs.Planned.{one_path}
 
 pub differ : (a b : ℕ) → not (a == b) ≡ true → a ≡ b → ⊥
 differ a b h e = grind (arith, nat_tests)

@@ -11,7 +11,7 @@ use Rattle.std.specs.List.Sorted.{IsSortedBy}
 use Rattle.std.specs.Ordering.{is_lt, nat_cmp, ordering_then}
 use Rattle.gb_core.specs.Lists.{byte_order}
 use Rattle.gb_folder.specs.Files.{Place}
-use Rattle.gb_order.proofs.Keeping.{not_both}
+use Rattle.gb_graph.proofs.Keeping.{not_both}
 use Rattle.gb_graph.specs.declared.places.TaskPlace.{TaskPlace}
 use Rattle.gb_graph.specs.Places.{IsRising, by_place, is_before, place_at}
 use Rattle.std.proofs.Common.{inl, inr}

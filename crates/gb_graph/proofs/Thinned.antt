@@ -7,10 +7,10 @@ use Rattle.std.proofs.lemmas.List.Elements.{Contains-append_left, Contains-push,
 use Rattle.gb_core.specs.Place.{overlaps}
 use Rattle.gb_plan.specs.declared.plan.Planned.{Planned}
 use Rattle.gb_plan.specs.Refusal.{Meeting}
-use Rattle.gb_order.specs.Order.{row}
-use Rattle.gb_order.specs.Chains.{bit_in}
-use Rattle.gb_order.specs.Circle.{path_at}
-use Rattle.gb_order.proofs.Numbers.{in_of, of_in}
+use Rattle.gb_graph.specs.Order.{row}
+use Rattle.gb_graph.specs.Chains.{bit_in}
+use Rattle.gb_graph.specs.Circle.{path_at}
+use Rattle.gb_graph.proofs.Numbers.{in_of, of_in}
 use Rattle.gb_graph.specs.declared.met.Search.{Search}
 use Rattle.gb_graph.specs.declared.met.Search.TheVariants.{Overlaps, OwnInputs, Undeclared}
 use Rattle.gb_graph.specs.declared.places.TaskPlace.{TaskPlace}

@@ -3,7 +3,7 @@ use Rattle.std.specs.Prelude.{ℕ, ◌<◌, ◌+◌, ◌↔◌, List, [], ◌∷
 use Rattle.std.proofs.Common.{sym, subst, inl, inr, arith}
 use Rattle.std.proofs.lemmas.Bool.{cases_eq, cases_order}
 use Rattle.std.proofs.lemmas.List.Elements.{Contains-append_left, Contains-push, Contains-push_cases}
-use Rattle.gb_order.specs.Order.{row, InOrder, goes_on}
+use Rattle.gb_graph.specs.Order.{row, InOrder, goes_on}
 
 pub turn_told : (numbers : List ℕ) (n : ℕ) → ((k : ℕ) → Contains numbers k ↔ (k < n)) → (k : ℕ) → Contains (numbers ++ n ∷ []) k ↔ (k < n + 1)
 turn_told numbers n told k = (

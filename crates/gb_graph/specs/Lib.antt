@@ -1,3 +1,11 @@
+pub mod Order
+pub mod Settled
+pub mod Chains
+pub mod Ranked
+pub mod Queue
+pub mod Reach
+pub mod Words
+pub mod Circle
 pub mod Places
 pub mod Overlaps
 pub mod Meetings

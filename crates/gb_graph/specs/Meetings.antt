@@ -8,9 +8,9 @@ use Rattle.gb_plan.specs.declared.plan.Planned.{Planned}
 use Rattle.gb_plan.specs.Task.{output_places, roots_of}
 use Rattle.gb_plan.specs.Graph.{Plan, IsAfter}
 use Rattle.gb_plan.specs.Refusal.{Meeting, is_before, IsLeastMeeting, IsOverlap, IsOwnInput, IsUndeclared}
-use Rattle.gb_order.specs.Order.{row, rows}
-use Rattle.gb_order.specs.Chains.{bit_in}
-use Rattle.gb_order.specs.Circle.{path_at}
+use Rattle.gb_graph.specs.Order.{row, rows}
+use Rattle.gb_graph.specs.Chains.{bit_in}
+use Rattle.gb_graph.specs.Circle.{path_at}
 use Rattle.gb_graph.specs.declared.least.Found.{Found}
 use Rattle.gb_graph.specs.declared.least.Met.{Met}
 use Rattle.gb_graph.specs.declared.met.Search.{Search}

@@ -1,11 +1,11 @@
 //! The chains of a plan whose tasks stand in order.
 ghost use Rattle.std.specs.Prelude.{◌≡◌, ◌<◌, ℕ, [], length, true, Contains, IfOk};
 ghost use Rattle.gb_plan.specs.Graph.{order, no_repeats, stuck};
-ghost use Rattle.gb_order.specs.Order.{rows, row, InOrder};
+ghost use Rattle.gb_graph.specs.Order.{rows, row, InOrder};
 ghost use Rattle.gb_graph.specs.Meetings.{TellChains};
 
-use gb_order::chains::chains_of;
-use gb_order::ranked::after_of;
+use crate::chains::chains_of;
+use crate::ranked::after_of;
 use gb_plan::plan::Planned;
 use std::alloc::{AllocError, Global};
 

@@ -3,8 +3,8 @@ ghost use Rattle.std.specs.Prelude.{◌≡◌, ◌<◌, ℕ, [], true, false, le
 ghost use Rattle.std.specs.Ordering.{is_gt, is_lt};
 ghost use Rattle.gb_core.specs.Lists.{byte_order};
 ghost use Rattle.gb_plan.specs.Refusal.{is_before};
-ghost use Rattle.gb_order.specs.Order.{rows};
-ghost use Rattle.gb_order.specs.Circle.{path_at};
+ghost use Rattle.gb_graph.specs.Order.{rows};
+ghost use Rattle.gb_graph.specs.Circle.{path_at};
 ghost use Rattle.gb_graph.specs.Places.{IsRising, place_at};
 ghost use Rattle.gb_graph.specs.declared.places.TaskPlace.{TaskPlace};
 ghost use Rattle.gb_graph.specs.Meetings.{IsLeast, IsLeastTask, IsMet, IsWithin};

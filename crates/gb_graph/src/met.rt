@@ -1,7 +1,7 @@
 //! Which tasks have outputs that a place meets.
 ghost use Rattle.std.specs.Prelude.{◌≡◌, ◌↔◌, ℕ, Contains, IfOk, IsTrue};
-ghost use Rattle.gb_order.specs.Order.{row, rows};
-ghost use Rattle.gb_order.specs.Chains.{bit_in};
+ghost use Rattle.gb_graph.specs.Order.{row, rows};
+ghost use Rattle.gb_graph.specs.Chains.{bit_in};
 ghost use Rattle.gb_graph.specs.Places.{IsRising};
 ghost use Rattle.gb_graph.specs.Meetings.{IsMetTask, counts};
 

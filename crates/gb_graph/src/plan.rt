@@ -2,10 +2,10 @@
 ghost use Rattle.std.specs.Prelude.{◌≡◌, IfOk, IfErr};
 ghost use Rattle.gb_graph.specs.Answer.{IsPlanOf, IsRefusalOf};
 
+use crate::plans::ordered;
 use crate::refusal::{refusal_of, told};
+use crate::tasks::Tasks;
 use gb_core::text::Text;
-use gb_order::plans::ordered;
-use gb_order::tasks::Tasks;
 use gb_plan::plan::Plan;
 use gb_report::fault::Fault;
 use std::alloc::Global;

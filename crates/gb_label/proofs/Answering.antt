@@ -9,9 +9,9 @@ use Rattle.gb_history.specs.declared.decide.Decision.TheVariants as decisions
 use Rattle.gb_history.specs.declared.decide.Present.{Present}
 use Rattle.gb_plan.specs.declared.task.TaskDeclaration.{TaskDeclaration as Task}
 use Rattle.gb_report.specs.declared.report.Options.{Options}
-use Rattle.gb_turn.proofs.Answering.{outputs_longer}
-use Rattle.gb_turn.specs.Answered.{AreOutputsAnswered}
-use Rattle.gb_turn.specs.Reading.{AreOutputs, Read, prints_read, records_with}
+use Rattle.gb_label.proofs.ReadingAnswering.{outputs_longer}
+use Rattle.gb_label.specs.ReadingAnswered.{AreOutputsAnswered}
+use Rattle.gb_label.specs.Reading.{AreOutputs, Read, prints_read, records_with}
 use Rattle.gb_label.specs.Answered.{WasDecided}
 use Rattle.gb_label.specs.Deciding.{IsPresentOf}
 

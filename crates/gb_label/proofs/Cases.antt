@@ -11,7 +11,7 @@ use Rattle.gb_plan.proofs.Tests.{not_false}
 use Rattle.gb_plan.specs.declared.task.TaskDeclaration.{TaskDeclaration as Task}
 use Rattle.gb_report.specs.declared.fault.Fault.{Fault}
 use Rattle.gb_store.proofs.Machine.{machine_before}
-use Rattle.gb_turn.specs.Reading.{CannotRead}
+use Rattle.gb_label.specs.Reading.{CannotRead}
 use Rattle.gb_label.specs.Looking.{IsHindered}
 
 abbrev cased : Bool → Bool → List Fault → Bool → Option Early

@@ -15,7 +15,7 @@ use Rattle.gb_report.specs.declared.fault.Fault.TheVariants as faults
 use Rattle.gb_tree.specs.Tree.{Entries, entries_from, odd_roots, output_entries, output_faults, output_listing_faults, too_large, too_many}
 use Rattle.gb_tree.specs.declared.fault.TreeFault.{TreeFault}
 use Rattle.gb_tree.specs.declared.fault.TreeFault.TheVariants as trees
-use Rattle.gb_turn.specs.Reading.{CannotRead, print_faults}
+use Rattle.gb_label.specs.Reading.{CannotRead, print_faults}
 use Rattle.gb_label.specs.Deciding.{IsGrown}
 
 abbrev Grown : TreeFault → Type 0

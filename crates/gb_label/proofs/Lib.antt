@@ -1,3 +1,7 @@
+pub mod Told
+pub mod Loops
+pub mod Readings
+pub mod ReadingAnswering
 pub mod Cases
 mod Current
 pub mod Growth

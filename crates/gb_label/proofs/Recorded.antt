@@ -8,7 +8,7 @@ use Rattle.gb_history.specs.declared.decide.Decision.TheVariants as decisions
 use Rattle.gb_history.specs.declared.record.OutputRecord.{OutputRecord}
 use Rattle.gb_plan.specs.declared.task.Output.{Output}
 use Rattle.gb_plan.specs.declared.task.TaskDeclaration.{TaskDeclaration as Task}
-use Rattle.gb_turn.specs.Reading.{AreOutputs, AreOutputsSeen, Read, prints_read, recorded_of, records_with}
+use Rattle.gb_label.specs.Reading.{AreOutputs, AreOutputsSeen, Read, prints_read, recorded_of, records_with}
 use Rattle.gb_label.specs.Deciding.{AreOutputsFor, AreOutputsSeenFor}
 
 -- as many digests as outputs stand in as many records

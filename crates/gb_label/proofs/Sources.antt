@@ -11,7 +11,7 @@ use Rattle.gb_plan.specs.declared.task.TaskDeclaration.{TaskDeclaration as Task}
 use Rattle.gb_tree.specs.Prints.{digests_of}
 use Rattle.gb_tree.specs.Reading.{digests_seen}
 use Rattle.gb_tree.specs.declared.kept.SeenFile.{SeenFile}
-use Rattle.gb_turn.specs.Reading.{Read, digests_in, prints_read}
+use Rattle.gb_label.specs.Reading.{Read, digests_in, prints_read}
 use Rattle.gb_label.specs.Looking.{gives_no_source, lacks_source}
 
 -- one pair more passes

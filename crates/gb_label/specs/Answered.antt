@@ -9,8 +9,8 @@ use Rattle.gb_history.specs.declared.decide.Decision.TheVariants as decisions
 use Rattle.gb_history.specs.declared.decide.Present.{Present}
 use Rattle.gb_plan.specs.declared.task.TaskDeclaration.{TaskDeclaration as Task}
 use Rattle.gb_report.specs.declared.report.Options.{Options}
-use Rattle.gb_turn.specs.Answered.{AreInputsAnswered, AreOutputsAnswered}
-use Rattle.gb_turn.specs.Reading.{AreInputs, AreOutputs, Read, prints_read, records_with}
+use Rattle.gb_label.specs.ReadingAnswered.{AreInputsAnswered, AreOutputsAnswered}
+use Rattle.gb_label.specs.Reading.{AreInputs, AreOutputs, Read, prints_read, records_with}
 use Rattle.gb_label.specs.Deciding.{IsPresentOf}
 use Rattle.gb_label.specs.Looking.{lacks_source}
 use Rattle.gb_label.specs.declared.look.Look.{Look}

@@ -18,7 +18,7 @@ use Rattle.gb_report.specs.declared.fault.Fault.{Fault}
 use Rattle.gb_report.specs.declared.fault.Fault.TheVariants as faults
 use Rattle.gb_report.specs.declared.report.Options.{Options}
 use Rattle.gb_report.specs.declared.report.Outcome.TheVariants as outcomes
-use Rattle.gb_turn.specs.Reading.{AreOutputs, AreOutputsSeen, Read, digests_in, print_faults, recorded_of}
+use Rattle.gb_label.specs.Reading.{AreOutputs, AreOutputsSeen, Read, digests_in, print_faults, recorded_of}
 
 -- the names of the task's values, file properties and outputs strictly rise
 pub record HasNamesInOrder (task : Task) : Type 0 where

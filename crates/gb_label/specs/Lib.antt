@@ -1,3 +1,5 @@
+pub mod Reading
+pub mod ReadingAnswered
 pub mod Deciding
 pub mod Looking
 pub mod Preparing

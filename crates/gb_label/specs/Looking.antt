@@ -9,7 +9,7 @@ use Rattle.gb_plan.specs.declared.task.FileProperty.{FileProperty}
 use Rattle.gb_plan.specs.declared.task.TaskDeclaration.{TaskDeclaration as Task}
 use Rattle.gb_report.specs.declared.fault.Fault.{Fault}
 use Rattle.gb_store.specs.Faults.{IsOfMachine}
-use Rattle.gb_turn.specs.Reading.{AreInputs, AreInputsSeen, digests_in, prints_read}
+use Rattle.gb_label.specs.Reading.{AreInputs, AreInputsSeen, digests_in, prints_read}
 use Rattle.gb_label.specs.declared.look.Look.{Look}
 use Rattle.gb_label.specs.declared.look.Look.TheVariants as looks
 

@@ -12,12 +12,14 @@ ghost use Rattle.gb_label.specs.Deciding.{IsDecided, IsGrown, IsPresentOf, MayDe
 ghost use Rattle.gb_meaning.specs.Tree.{listing_faults, trees_of};
 ghost use Rattle.gb_plan.specs.Task.{is_output_of};
 ghost use Rattle.gb_store.specs.Faults.{Blames, BlamesOnly};
-ghost use Rattle.gb_turn.specs.Answered.{AreOutputsAnswered};
-ghost use Rattle.gb_turn.specs.Reading.{AreOutputs, AreOutputsSeen, CannotRead};
-ghost use Rattle.gb_turn.specs.Reading.{digests_in, print_faults, prints_read, recorded_of, records_with};
+ghost use Rattle.gb_label.specs.ReadingAnswered.{AreOutputsAnswered};
+ghost use Rattle.gb_label.specs.Reading.{AreOutputs, AreOutputsSeen, CannotRead};
+ghost use Rattle.gb_label.specs.Reading.{digests_in, print_faults, prints_read, recorded_of, records_with};
 
 use crate::listing::check_outputs;
+use crate::outputs::{read_outputs, records_of};
 use crate::present::present_of;
+use crate::prints::prints_of;
 use gb_folder::folder::Folder;
 use gb_folder::own::is_own;
 use gb_history::decide::{Decision, Present, decide};
@@ -27,8 +29,6 @@ use gb_report::fault::Fault;
 use gb_report::report::Options;
 use gb_tree::kept::Reading;
 use gb_tree::prints::Prints;
-use gb_turn::outputs::{read_outputs, records_of};
-use gb_turn::prints::prints_of;
 use std::alloc::{AllocError, Global};
 
 /// What is to be done with a task that has a source: by its record and by what it has now. Its outputs are

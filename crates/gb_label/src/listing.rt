@@ -4,7 +4,7 @@ ghost use Rattle.gb_folder.specs.Calls.{Asks, no_change};
 ghost use Rattle.gb_meaning.specs.Tree.{listing_faults};
 ghost use Rattle.gb_plan.specs.Task.{is_output_of};
 ghost use Rattle.gb_store.specs.Faults.{Blames, BlamesOnly};
-ghost use Rattle.gb_turn.specs.Reading.{CannotRead};
+ghost use Rattle.gb_label.specs.Reading.{CannotRead};
 
 use gb_folder::folder::Folder;
 use gb_plan::task::TaskDeclaration;

@@ -7,14 +7,14 @@ ghost use Rattle.gb_label.specs.Answered.{WasLookedAt};
 ghost use Rattle.gb_label.specs.Looking.{IsCase, IsHindered, MayBe, gives_no_source, lacks_source};
 ghost use Rattle.gb_plan.specs.Task.{is_output_of};
 ghost use Rattle.gb_store.specs.Faults.{Blames, BlamesOnly};
-ghost use Rattle.gb_turn.specs.Reading.{is_input_of};
+ghost use Rattle.gb_label.specs.Reading.{is_input_of};
 
+use crate::inputs::read_inputs;
 use crate::listing::check_outputs;
 use gb_folder::folder::Folder;
 use gb_plan::task::{FileProperty, TaskDeclaration};
 use gb_report::fault::Fault;
 use gb_tree::kept::Reading;
-use gb_turn::inputs::read_inputs;
 use std::alloc::Global;
 
 /// What a task is found to be before its record is looked at.

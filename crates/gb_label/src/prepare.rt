@@ -8,7 +8,7 @@ ghost use Rattle.gb_label.specs.Answered.{WasPrepared};
 ghost use Rattle.gb_label.specs.Preparing.{IsPrepared, IsRead, IsSeen, MayDecideAs, MayPrepare};
 ghost use Rattle.gb_plan.specs.Task.{is_output_of};
 ghost use Rattle.gb_store.specs.Faults.{Blames, BlamesOnly};
-ghost use Rattle.gb_turn.specs.Reading.{is_input_of};
+ghost use Rattle.gb_label.specs.Reading.{is_input_of};
 
 use crate::deciding::decided;
 use crate::look::{Look, looked_at};

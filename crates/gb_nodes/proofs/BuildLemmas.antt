@@ -14,7 +14,7 @@ use Rattle.gb_registry.proofs.Fine.{AreFine, both_true, fits, is_fine, projects_
 use Rattle.gb_registry.proofs.Folders.{folder_is_place}
 use Rattle.gb_registry.specs.Projects.{Path, absolute, crowd_faults, folder_text, included, is_among, lineage_of, path_faults, paths_faults, place_faults, project_paths, root_path, text_faults, texts_faults, with_path, with_paths}
 use Rattle.gb_script.specs.declared.script.Statement.{Statement}
-use Rattle.gb_project.specs.Whole.{build_folder}
+use Rattle.gb_declare.specs.Whole.{build_folder}
 use Rattle.gb_nodes.specs.Scripts.{build_faults}
 use Rattle.gb_nodes.specs.Standing.{BuildsArePlaces}
 use Rattle.gb_nodes.proofs.FoundLemmas.{nil_both}

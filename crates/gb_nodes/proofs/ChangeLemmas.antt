@@ -13,7 +13,7 @@ use Rattle.gb_provider.specs.declared.expression.Property.{Property}
 use Rattle.gb_provider.specs.declared.fault.Chosen.{Chosen}
 use Rattle.gb_provider.proofs.SearchLemmas.{get_set_same, get_set_other}
 use Rattle.gb_provider.proofs.WithinLemmas.{changed_within}
-use Rattle.gb_project.specs.Partly.{IsPartOf, renamed}
+use Rattle.gb_declare.specs.Partly.{IsPartOf, renamed}
 use Rattle.gb_nodes.specs.Changing.{IsApart, ChangesKeepParts}
 
 -- where the first stands that passes, where one that does not is changed to one that does not

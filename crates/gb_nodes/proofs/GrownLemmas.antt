@@ -23,12 +23,12 @@ use Rattle.gb_registry.specs.Wrong.{found_in, found_at, found_in_all, found_alon
 use Rattle.gb_script.specs.Tree.{Tree, Chain, Root, TextOf, FlagOf, ListOf, PropertyOf, DirOf, FileOf, TheBuildDir, GradlePropertyOf, TaskOf, Link, MapBy, FlatMapBy, ZipBy, Else, Trees, NoTree, AndTree, trees_of, Links, NoLink, AndLink}
 use Rattle.gb_script.specs.declared.function.Function.{Function}
 use Rattle.gb_report.specs.declared.fault.Fault.{Fault}
-use Rattle.gb_project.specs.Circles.{is_named}
-use Rattle.gb_project.specs.Growing.{extended}
-use Rattle.gb_project.specs.Partly.{IsPartOf, renamed}
-use Rattle.gb_project.specs.Spots.{Spot, Written, spot_of, parts, root_parts, trees_parts, links_parts, link_parts, onto}
-use Rattle.gb_project.specs.Whole.{number_of, numbers_of, given_value, if_found}
-use Rattle.gb_project.proofs.GrowLemmas.{part_grows}
+use Rattle.gb_declare.specs.Circles.{is_named}
+use Rattle.gb_declare.specs.Growing.{extended}
+use Rattle.gb_declare.specs.Partly.{IsPartOf, renamed}
+use Rattle.gb_declare.specs.Spots.{Spot, Written, spot_of, parts, root_parts, trees_parts, links_parts, link_parts, onto}
+use Rattle.gb_declare.specs.Whole.{number_of, numbers_of, given_value, if_found}
+use Rattle.gb_declare.proofs.GrowLemmas.{part_grows}
 use Rattle.gb_nodes.specs.Site.{Site, property_node}
 use Rattle.gb_nodes.specs.Grown.{IsPlain, Stands, IsRight, IsGrown, IsRowGrown, TreesGrow, RowsGrow}
 use Rattle.gb_nodes.specs.Nodes.{Made, added, as_text, constant_of, number_in, zip_made, else_made, tree_made, root_made, trees_made, links_made, link_made, behind}

@@ -12,8 +12,8 @@ use Rattle.gb_provider.specs.declared.expression.Property.{Property}
 use Rattle.gb_provider.specs.declared.fault.Chosen.{Chosen}
 use Rattle.gb_provider.proofs.SearchLemmas.{get_set_same, get_set_other}
 use Rattle.gb_registry.specs.Projects.{Path}
-use Rattle.gb_project.specs.Circles.{is_named}
-use Rattle.gb_project.specs.Partly.{renamed}
+use Rattle.gb_declare.specs.Circles.{is_named}
+use Rattle.gb_declare.specs.Partly.{renamed}
 use Rattle.gb_nodes.proofs.GrownLemmas.{ArePlain, at_front}
 
 -- a property by its project and its name

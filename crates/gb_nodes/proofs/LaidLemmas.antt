@@ -18,9 +18,9 @@ use Rattle.gb_registry.specs.Said.{declared_property}
 use Rattle.gb_registry.specs.Source.{Source}
 use Rattle.gb_registry.specs.Tables.{Tables}
 use Rattle.gb_script.specs.Tree.{PropertyOf}
-use Rattle.gb_project.specs.Partly.{IsPartOf}
-use Rattle.gb_project.specs.Spots.{Spot, Written}
-use Rattle.gb_project.specs.Whole.{number_of}
+use Rattle.gb_declare.specs.Partly.{IsPartOf}
+use Rattle.gb_declare.specs.Spots.{Spot, Written}
+use Rattle.gb_declare.specs.Whole.{number_of}
 use Rattle.gb_nodes.specs.Laid.{AreUnset, ScriptsAreLaid}
 use Rattle.gb_nodes.specs.Statements.{named_from, properties_made, unset_property}
 use Rattle.gb_nodes.proofs.GrownLemmas.{one_more}

@@ -17,7 +17,7 @@ use Rattle.gb_script.specs.Tree.{Tree, Chain, Root, trees_of, Link, Links, links
 use Rattle.gb_script.specs.View.{link_of}
 use Rattle.gb_script.specs.declared.expression.Step.{Step}
 use Rattle.std.specs.Borrow.{Bor}
-use Rattle.gb_project.specs.Borrowed.{now_of}
+use Rattle.gb_declare.specs.Borrowed.{now_of}
 use Rattle.gb_nodes.specs.Site.{Site, AreThere}
 use Rattle.gb_nodes.specs.Nodes.{Made, IsMade, behind, tree_made, trees_made, link_made, links_made}
 use Rattle.gb_nodes.specs.Wrong.{root_faults, link_faults, making_faults}

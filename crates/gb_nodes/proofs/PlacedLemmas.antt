@@ -9,10 +9,10 @@ use Rattle.gb_registry.specs.Said.{Said, tasks_of}
 use Rattle.gb_registry.specs.Source.{Source}
 use Rattle.gb_registry.specs.Tables.{Tables}
 use Rattle.gb_script.specs.Tree.{Tree, Chain, Root, TextOf, FlagOf, ListOf, PropertyOf, DirOf, FileOf, TheBuildDir, GradlePropertyOf, TaskOf, Link, MapBy, FlatMapBy, ZipBy, Else, Trees, NoTree, AndTree, Links, NoLink, AndLink}
-use Rattle.gb_project.specs.Spots.{Spot, Written, Made, parts, root_parts, trees_parts, links_parts, link_parts}
-use Rattle.gb_project.specs.Whole.{expression_at, number_of, spots, statement_spots, table_of, task_spots}
-use Rattle.gb_project.specs.Declaring.{declared}
-use Rattle.gb_project.proofs.SpotLemmas.{spot_stands}
+use Rattle.gb_declare.specs.Spots.{Spot, Written, Made, parts, root_parts, trees_parts, links_parts, link_parts}
+use Rattle.gb_declare.specs.Whole.{expression_at, number_of, spots, statement_spots, table_of, task_spots}
+use Rattle.gb_declare.specs.Declaring.{declared}
+use Rattle.gb_declare.proofs.SpotLemmas.{spot_stands}
 use Rattle.gb_nodes.specs.Grown.{Stands}
 use Rattle.gb_nodes.proofs.LaidLemmas.{at_place}
 

@@ -20,8 +20,8 @@ use Rattle.gb_registry.specs.Source.{Source}
 use Rattle.gb_registry.specs.Tables.{Tables}
 use Rattle.gb_script.specs.Tree.{Tree, Root, TextOf, FlagOf, ListOf, PropertyOf, DirOf, FileOf, TheBuildDir, GradlePropertyOf, TaskOf, MapBy, FlatMapBy, ZipBy, Else}
 use Rattle.gb_script.specs.declared.script.Statement.{Statement}
-use Rattle.gb_project.specs.Spots.{Spot, Written, Made, spot_of}
-use Rattle.gb_project.specs.Whole.{expression_at, number_of, property_of, table_of}
+use Rattle.gb_declare.specs.Spots.{Spot, Written, Made, spot_of}
+use Rattle.gb_declare.specs.Whole.{expression_at, number_of, property_of, table_of}
 use Rattle.gb_nodes.proofs.KeyLemmas.{key_of}
 
 pub same_bytes : (a : List ℕ) → bytes_eq a a ≡ true

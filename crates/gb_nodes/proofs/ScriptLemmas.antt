@@ -23,8 +23,8 @@ use Rattle.gb_registry.specs.Tables.{Tables}
 use Rattle.gb_script.specs.Tree.{PropertyOf}
 use Rattle.gb_script.specs.declared.script.Statement.{Statement}
 use Rattle.gb_script.specs.declared.script.Statement.TheVariants as statements
-use Rattle.gb_project.specs.Spots.{Spot, Written}
-use Rattle.gb_project.specs.Whole.{statement_spots}
+use Rattle.gb_declare.specs.Spots.{Spot, Written}
+use Rattle.gb_declare.specs.Whole.{statement_spots}
 use Rattle.gb_nodes.specs.Statements.{named_from, properties_made, unset_property}
 use Rattle.gb_nodes.proofs.GivenLemmas.{lookup_put}
 use Rattle.gb_nodes.proofs.GrownLemmas.{at_last, at_front, nil_back, nil_front}

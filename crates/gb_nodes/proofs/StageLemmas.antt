@@ -14,9 +14,9 @@ use Rattle.gb_registry.specs.Said.{Said}
 use Rattle.gb_registry.specs.Source.{Source}
 use Rattle.gb_registry.specs.Tables.{Tables}
 use Rattle.gb_script.specs.declared.script.Statement.{Statement}
-use Rattle.gb_project.specs.Circles.{is_named}
-use Rattle.gb_project.specs.Partly.{IsPartOf, renamed}
-use Rattle.gb_project.specs.Spots.{Spot}
+use Rattle.gb_declare.specs.Circles.{is_named}
+use Rattle.gb_declare.specs.Partly.{IsPartOf, renamed}
+use Rattle.gb_declare.specs.Spots.{Spot}
 use Rattle.gb_nodes.specs.Grown.{IsGrown, IsRight}
 use Rattle.gb_nodes.specs.Nodes.{Made}
 use Rattle.gb_nodes.specs.Site.{Site}

@@ -24,11 +24,11 @@ use Rattle.gb_registry.specs.Source.{Source}
 use Rattle.gb_registry.specs.Tables.{Tables}
 use Rattle.gb_script.specs.Tree.{PropertyOf}
 use Rattle.gb_script.specs.declared.script.Statement.{Statement}
-use Rattle.gb_project.specs.Circles.{is_named}
-use Rattle.gb_project.specs.Joined.{Named}
-use Rattle.gb_project.specs.Partly.{IsPartOf}
-use Rattle.gb_project.specs.Spots.{Spot}
-use Rattle.gb_project.specs.Whole.{spots, statement_spots, whole}
+use Rattle.gb_declare.specs.Circles.{is_named}
+use Rattle.gb_declare.specs.Joined.{Named}
+use Rattle.gb_declare.specs.Partly.{IsPartOf}
+use Rattle.gb_declare.specs.Spots.{Spot}
+use Rattle.gb_declare.specs.Whole.{spots, statement_spots, whole}
 use Rattle.gb_nodes.specs.Laid.{AreUnset, IsLaid}
 use Rattle.gb_nodes.specs.Scripts.{build_faults, script_faults, script_made, script_site}
 use Rattle.gb_nodes.specs.Site.{Site}

@@ -23,9 +23,9 @@ use Rattle.gb_script.specs.Tree.{Tree, PropertyOf}
 use Rattle.gb_script.specs.declared.script.Assignment.{Assignment}
 use Rattle.gb_script.specs.declared.script.Statement.{Statement}
 use Rattle.gb_script.specs.declared.script.Statement.TheVariants as statements
-use Rattle.gb_project.specs.Partly.{IsPartOf, renamed, renamed_setting}
-use Rattle.gb_project.specs.Spots.{Spot, Written, parts}
-use Rattle.gb_project.specs.Whole.{statement_spots}
+use Rattle.gb_declare.specs.Partly.{IsPartOf, renamed, renamed_setting}
+use Rattle.gb_declare.specs.Spots.{Spot, Written, parts}
+use Rattle.gb_declare.specs.Whole.{statement_spots}
 use Rattle.gb_nodes.specs.Nodes.{Made, number_in, tree_made}
 use Rattle.gb_nodes.specs.Site.{Site, property_node}
 use Rattle.gb_nodes.specs.Statements.{change_faults, final_faults, property_faults, statement_faults, statement_made, with_change, with_property}

@@ -4,7 +4,7 @@ use Rattle.gb_provider.specs.Rules.{OperandsWithin}
 use Rattle.gb_provider.specs.declared.expression.Expression.{Expression}
 use Rattle.gb_provider.specs.declared.expression.Expression.TheVariants.{OfProperty}
 use Rattle.gb_provider.specs.declared.expression.Property.{Property}
-use Rattle.gb_project.specs.Partly.{IsPartOf, renamed}
+use Rattle.gb_declare.specs.Partly.{IsPartOf, renamed}
 
 -- no other of the first n has the same number
 abbrev pub IsApart : (ℕ → ℕ) → ℕ → ℕ → Type 0

@@ -8,11 +8,11 @@ use Rattle.gb_registry.specs.Projects.{Path}
 use Rattle.gb_registry.specs.Source.{Source}
 use Rattle.gb_registry.specs.Tables.{Tables}
 use Rattle.gb_script.specs.Tree.{Tree}
-use Rattle.gb_project.specs.Circles.{is_named}
-use Rattle.gb_project.specs.Joined.{Joined}
-use Rattle.gb_project.specs.Partly.{IsPartOf}
-use Rattle.gb_project.specs.Spots.{spot_of}
-use Rattle.gb_project.specs.Whole.{number_of, spots, trees_of, whole}
+use Rattle.gb_declare.specs.Circles.{is_named}
+use Rattle.gb_declare.specs.Joined.{Joined}
+use Rattle.gb_declare.specs.Partly.{IsPartOf}
+use Rattle.gb_declare.specs.Spots.{spot_of}
+use Rattle.gb_declare.specs.Whole.{number_of, spots, trees_of, whole}
 
 module _ {M F Z S A : Type 0} (tables : Tables M F Z S A) (source : Source) where
   -- the number of an expression of a project in the whole table

@@ -11,10 +11,10 @@ use Rattle.gb_registry.specs.Source.{Source}
 use Rattle.gb_registry.specs.Tables.{Tables}
 use Rattle.gb_registry.specs.Wrong.{found_in_all}
 use Rattle.gb_script.specs.Tree.{Tree, Root, PropertyOf, trees_of}
-use Rattle.gb_project.specs.Circles.{is_named}
-use Rattle.gb_project.specs.Partly.{IsPartOf}
-use Rattle.gb_project.specs.Spots.{Spot, Written, Made, parts, spot_of}
-use Rattle.gb_project.specs.Whole.{build_folder, expression_at, number_of}
+use Rattle.gb_declare.specs.Circles.{is_named}
+use Rattle.gb_declare.specs.Partly.{IsPartOf}
+use Rattle.gb_declare.specs.Spots.{Spot, Written, Made, parts, spot_of}
+use Rattle.gb_declare.specs.Whole.{build_folder, expression_at, number_of}
 use Rattle.gb_nodes.specs.Site.{Site, given_under, property_node}
 use Rattle.gb_nodes.specs.Nodes.{Made as These, tree_made, trees_made}
 use Rattle.gb_nodes.specs.Wrong.{link_faults, making_faults, root_faults}

@@ -11,10 +11,10 @@ use Rattle.gb_registry.specs.Source.{Source}
 use Rattle.gb_registry.specs.Tables.{Tables}
 use Rattle.gb_script.specs.Tree.{PropertyOf}
 use Rattle.gb_script.specs.declared.script.Statement.{Statement}
-use Rattle.gb_project.specs.Joined.{Named}
-use Rattle.gb_project.specs.Partly.{IsPartOf}
-use Rattle.gb_project.specs.Spots.{Spot, Written}
-use Rattle.gb_project.specs.Whole.{number_of}
+use Rattle.gb_declare.specs.Joined.{Named}
+use Rattle.gb_declare.specs.Partly.{IsPartOf}
+use Rattle.gb_declare.specs.Spots.{Spot, Written}
+use Rattle.gb_declare.specs.Whole.{number_of}
 use Rattle.gb_nodes.specs.Grown.{IsRight}
 use Rattle.gb_nodes.specs.Scripts.{script_site}
 use Rattle.gb_nodes.specs.Statements.{properties_made, unset_property}

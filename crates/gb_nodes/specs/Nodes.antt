@@ -15,7 +15,7 @@ use Rattle.gb_script.specs.Tree.{TheBuildDir, GradlePropertyOf, TaskOf, Link, Ma
 use Rattle.gb_script.specs.Tree.{Trees, NoTree, AndTree, Links, NoLink, AndLink}
 use Rattle.gb_script.specs.declared.function.Function.{Function}
 use Rattle.gb_registry.specs.Projects.{absolute, folder_of}
-use Rattle.gb_project.specs.Whole.{if_found}
+use Rattle.gb_declare.specs.Whole.{if_found}
 use Rattle.gb_nodes.specs.Site.{Site, property_node, given_under}
 
 -- all expressions of a table, and the number of one of them, or the numbers of several

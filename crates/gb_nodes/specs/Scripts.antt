@@ -9,8 +9,8 @@ use Rattle.gb_report.specs.declared.fault.Fault.TheVariants as faults
 use Rattle.gb_registry.specs.Projects.{Path}
 use Rattle.gb_registry.specs.Said.{declared_property}
 use Rattle.gb_script.specs.declared.script.Statement.{Statement}
-use Rattle.gb_project.specs.Joined.{Named}
-use Rattle.gb_project.specs.Whole.{build_folder}
+use Rattle.gb_declare.specs.Joined.{Named}
+use Rattle.gb_declare.specs.Whole.{build_folder}
 use Rattle.gb_nodes.specs.declared.scripts.Laid.{Laid}
 use Rattle.gb_nodes.specs.Site.{Site}
 use Rattle.gb_nodes.specs.Statements.{named_from, properties_made, statements_faults, statements_made}

@@ -5,7 +5,7 @@ use Rattle.std.specs.Map.{lookup}
 use Rattle.gb_core.specs.Lists.{byte_order}
 use Rattle.gb_provider.specs.declared.expression.Node.{Node}
 use Rattle.gb_registry.specs.Projects.{Path}
-use Rattle.gb_project.specs.Joined.{Named}
+use Rattle.gb_declare.specs.Joined.{Named}
 use Rattle.gb_nodes.specs.declared.site.Site as handed
 
 -- the project, the folder of what it builds, the node of each of its properties, and what is given by name

@@ -18,8 +18,8 @@ use Rattle.gb_registry.specs.Said.{said_by}
 use Rattle.gb_registry.specs.Source.{Source}
 use Rattle.gb_registry.specs.Tables.{Tables}
 use Rattle.gb_script.specs.declared.script.Statement.{Statement}
-use Rattle.gb_project.specs.Joined.{Named}
-use Rattle.gb_project.specs.Whole.{spots, whole}
+use Rattle.gb_declare.specs.Joined.{Named}
+use Rattle.gb_declare.specs.Whole.{spots, whole}
 use Rattle.gb_nodes.specs.Complete.{IsLaidOut}
 use Rattle.gb_nodes.specs.Grown.{IsRight}
 use Rattle.gb_nodes.specs.Scripts.{build_faults, script_faults, script_made, script_site}

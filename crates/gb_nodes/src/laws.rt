@@ -3,7 +3,7 @@ ghost use Rattle.std.specs.Prelude.{List};
 ghost use Rattle.gb_provider.specs.declared.expression.Expression.{Expression};
 ghost use Rattle.gb_registry.specs.Source.{Source};
 ghost use Rattle.gb_registry.specs.Tables.{Tables};
-ghost use Rattle.gb_project.specs.Spots.{Spot};
+ghost use Rattle.gb_declare.specs.Spots.{Spot};
 ghost use Rattle.gb_nodes.specs.Changing.{ChangesKeepParts};
 ghost use Rattle.gb_nodes.specs.Grown.{RowsGrow, TreesGrow};
 ghost use Rattle.gb_nodes.specs.Laid.{ScriptsAreLaid};

@@ -2,14 +2,14 @@
 ghost use Rattle.std.specs.Prelude.{◌≡◌, ◌++◌, IfOk, OnOk, map};
 ghost use Rattle.std.specs.List.{flat_map};
 ghost use Rattle.std.specs.Option.{option_copied, option_to_list};
-ghost use Rattle.gb_project.specs.Borrowed.{named_in, now_of, outputs_in};
-ghost use Rattle.gb_project.specs.Views.{joined_of};
-ghost use Rattle.gb_project.specs.Whole.{trees_of};
+ghost use Rattle.gb_declare.specs.Borrowed.{named_in, now_of, outputs_in};
+ghost use Rattle.gb_declare.specs.Views.{joined_of};
+ghost use Rattle.gb_declare.specs.Whole.{trees_of};
 
 use gb_action::list::ActionList;
 use gb_action::output::Form;
 use gb_core::name::Name;
-use gb_project::registered::Joined;
+use gb_declare::registered::Joined;
 use gb_script::expression::{Expression, Expressions};
 use gb_script::script::{Call, Condition, InputFiles};
 use std::alloc::{AllocError, Global};

@@ -2,7 +2,7 @@
 ghost use Rattle.std.specs.Prelude.{◌≡◌, ◌++◌, [], IfOk, OnOk, filter_map, length};
 ghost use Rattle.gb_registry.specs.Faults.{TellsFirst};
 ghost use Rattle.gb_registry.specs.Said.{declared_property};
-ghost use Rattle.gb_project.specs.Whole.{build_folder};
+ghost use Rattle.gb_declare.specs.Whole.{build_folder};
 ghost use Rattle.gb_nodes.specs.Scripts.{build_faults, laid_site, script_faults, script_made, script_site};
 ghost use Rattle.gb_nodes.specs.Site.{AreThere};
 ghost use Rattle.gb_nodes.specs.Statements.{IsRun, named_from, statements_faults, statements_made};

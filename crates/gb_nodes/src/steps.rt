@@ -4,7 +4,7 @@ ghost use Rattle.gb_provider.specs.Table.{flat_map_named, map_named, zip_named};
 ghost use Rattle.gb_provider.specs.declared.expression.Expression.TheVariants.{FlatMapped, Mapped, Zipped};
 ghost use Rattle.gb_registry.specs.Faults.{TellsFirst};
 ghost use Rattle.gb_registry.specs.Wrong.{function_faults};
-ghost use Rattle.gb_project.specs.Whole.{if_found};
+ghost use Rattle.gb_declare.specs.Whole.{if_found};
 ghost use Rattle.gb_nodes.specs.Nodes.{IsMade, added};
 ghost use Rattle.gb_nodes.specs.Wrong.{step_fault};
 

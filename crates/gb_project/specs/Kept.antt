@@ -1,8 +1,65 @@
--- What a workspace keeps of its providers: they are a part of the whole table.
-use Rattle.std.specs.Prelude.{ℕ, List}
+-- All tasks of the scripts are declared, and all that they declare stands in the whole table.
+use Rattle.std.specs.Prelude.{◌≡◌, ℕ, ◌<◌, List, [], ◌∷◌, length, map, Option, Some, None, Ok, Err}
+use Rattle.std.specs.List.{AllByRecursion}
 use Rattle.gb_provider.specs.declared.expression.Expression.{Expression}
-use Rattle.gb_project.specs.Partly.{IsPartOf}
+use Rattle.gb_report.specs.declared.fault.Fault.{Fault}
+use Rattle.gb_registry.specs.Projects.{Path}
+use Rattle.gb_registry.specs.Said.{Registered, tasks_of}
+use Rattle.gb_registry.specs.Source.{Source}
+use Rattle.gb_registry.specs.Tables.{Tables}
+use Rattle.gb_script.specs.declared.script.Statement.{Statement}
+use Rattle.gb_declare.specs.Declaring.{declared}
+use Rattle.gb_declare.specs.Joined.{Named}
+use Rattle.gb_declare.specs.Whole.{build_folder, trees_of}
+use Rattle.gb_nodes.specs.Complete.{IsComplete, place_in_whole}
+use Rattle.gb_nodes.specs.Standing.{AreSaid, scripts_made, sites_made}
+use Rattle.gb_evaluate.specs.Parts.{HavePatterns}
+use Rattle.gb_project.specs.Stage.{AreAllGood, Entry, Stage, begun, with_scripts}
 
--- by some numbers
-abbrev pub IsPart : {M F Z : Type 0} → List (Expression M F Z) → List (Expression M F Z) → Type 0
-IsPart part whole = ∥ ((number : ℕ → ℕ) × IsPartOf number part whole) ∥₁
+module _ {M F Z S A : Type 0} (tables : Tables M F Z S A) (source : Source) where
+  module _ (number : ℕ → ℕ) (nodes : List (Expression M F Z)) where
+    -- What is kept of a task is what it declares: the folder of what its project builds, and its expressions
+    -- in a row, each by its number in the whole table; and its patterns are some.
+    pub record IsKept (at : Registered) (entry : Entry) : Type 0 where
+      pub is_declared : declared tables source.names source.said at ≡ Ok entry.task
+      pub build : entry.build ≡ build_folder at.project
+      pub within : AllByRecursion (λ place. place < length nodes) entry.row
+      pub numbers : map number entry.row ≡ map (place_in_whole tables source at.project) (trees_of entry.task)
+      pub patterns : HavePatterns entry.task.files
+
+    -- of a task that is declared this, and of one at fault its fault
+    abbrev pub IsKeptAs : Registered → Option Fault → Option Entry → Type 0
+    IsKeptAs at None (Some entry) = IsKept at entry
+    IsKeptAs at None None = ⊥
+    IsKeptAs at (Some fault) (Some entry) = ⊥
+    IsKeptAs at (Some fault) None = declared tables source.names source.said at ≡ Err fault
+
+    -- of one task after another
+    abbrev pub AreKept : List Registered → List (Option Fault) → List (Option Entry) → Type 0
+    AreKept [] [] [] = Unit {0}
+    AreKept (at ∷ tasks) (fault ∷ faults) (entry ∷ entries) =
+        IsKeptAs at fault entry × AreKept tasks faults entries
+    AreKept tasks faults entries = ⊥
+
+  -- All registered tasks are kept, in expressions in which all that the scripts declare stands.
+  pub record AreDeclared (stage : Stage M F Z) : Type 0 where
+    pub number : ℕ → ℕ
+    pub complete : IsComplete tables source number stage.nodes
+    pub kept : AreKept number stage.nodes (tasks_of source.said) stage.faults stage.entries
+
+  -- Scripts in which no statement is at fault register tasks that come to be declared so, behind all that the
+  -- statements make of properties.
+  abbrev pub TasksStand : Type 0
+  TasksStand =
+      (scripts : List (Path × List Statement)) (given : List (Named (List ℕ)))
+      → AreSaid tables source scripts given
+      → AreDeclared (with_scripts tables source.names
+      (begun (scripts_made tables.functions given [] scripts))
+      (sites_made tables.functions given [] scripts) scripts)
+
+  -- Nothing is wrong with the expressions of such tasks that are declared.
+  abbrev pub TasksAreGood : Type 0
+  TasksAreGood =
+      (scripts : List (Path × List Statement)) (given : List (Named (List ℕ)))
+      → AreSaid tables source scripts given
+      → AreAllGood tables source.names (sites_made tables.functions given [] scripts) scripts

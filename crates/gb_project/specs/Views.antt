@@ -1,40 +1,26 @@
--- Tasks whose parts are borrowed from a script, as the definitions have them.
-use Rattle.std.specs.Prelude.{List, ◌++◌}
-use Rattle.std.specs.List.{flat_map}
-use Rattle.std.specs.Option.{option_copied}
-use Rattle.gb_report.specs.declared.fault.Fault.{Fault}
-use Rattle.gb_registry.specs.Said.{Registered}
-use Rattle.gb_registry.specs.References.{name_faults}
-use Rattle.gb_project.specs.Borrowed.{now_of, named_in, outputs_in}
-use Rattle.gb_project.specs.Joined.{Joined, depends_on_in, must_run_after_in, finalized_by_in}
-use Rattle.gb_project.specs.declared.registered.Registered as borrowed
-use Rattle.gb_project.specs.declared.registered.Joined as read
+-- Declared tasks as the code keeps them.
+use Rattle.std.specs.Prelude.{List, map, Option, option_map}
+use Rattle.gb_provider.specs.Rules.{numbers_of}
+use Rattle.gb_provider.specs.declared.expression.Expression.{Expression}
+use Rattle.gb_declare.specs.Views.{joined_of}
+use Rattle.gb_project.specs.Stage.{Entry, Stage}
+use Rattle.gb_project.specs.declared.entry.Declared.{Declared}
+use Rattle.gb_project.specs.declared.entry.Entry as kept
 
-abbrev pub registered_of : borrowed.Registered → Registered
-registered_of task = record {
-  project = task.project.now;
-  path = task.path.now;
-  action = option_copied task.action;
-  clauses = now_of task.clauses.items;
+abbrev pub entry_of : kept.Entry → Entry
+entry_of entry = record {
+  build = entry.build;
+  task = joined_of entry.task;
+  row = numbers_of entry.row.items;
 }
 
-abbrev pub joined_of : read.Joined → Joined
-joined_of said = record {
-  enabled = option_copied said.enabled;
-  only_if = now_of said.only_if.items;
-  up_to_date_when = now_of said.up_to_date_when.items;
-  values = named_in said.values;
-  files = named_in said.files;
-  outputs = outputs_in said.outputs;
-  actions = now_of said.actions;
-  depends_on = said.depends_on;
-  must_run_after = said.must_run_after;
-  finalizers = said.finalizers;
-}
+abbrev pub entries_of : List (Option kept.Entry) → List (Option Entry)
+entries_of entries = map (option_map entry_of) entries
 
--- the texts of a task that are no paths
-abbrev pub text_faults : Registered → List Fault
-text_faults task =
-    flat_map (name_faults task.project) (flat_map depends_on_in task.clauses)
-    ++ flat_map (name_faults task.project) (flat_map must_run_after_in task.clauses)
-    ++ flat_map (name_faults task.project) (flat_map finalized_by_in task.clauses)
+-- all expressions of providers, and what became of tasks
+abbrev pub stage_of : {M F Z : Type 0} → List (Expression M F Z) → Declared → Stage M F Z
+stage_of nodes declared = record {
+  nodes = nodes;
+  faults = declared.faults.items;
+  entries = entries_of declared.entries.items;
+}

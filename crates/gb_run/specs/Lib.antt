@@ -7,3 +7,13 @@ pub mod Step
 pub mod Emptying
 pub mod Laws
 pub mod Digests
+pub mod Steps
+pub mod Named
+pub mod ChangeTexts
+pub mod Stepping
+pub mod AskingChanges
+pub mod Changing
+pub mod ChangeLaws
+pub mod Turn
+pub mod Requests
+pub mod ChangeDigests

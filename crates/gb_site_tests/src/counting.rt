@@ -1,11 +1,11 @@
 //! A listener of one's own: it counts the tasks that were executed, beside all that it hears.
 ghost use Rattle.std.specs.Prelude.{◌≡◌, ◌∷◌, [], OnErr, OnOk};
-ghost use Rattle.gb_listen.specs.Telling.{Refuses};
+ghost use Rattle.gb_exec.specs.Telling.{Refuses};
 ghost use Rattle.gb_meaning.specs.Headline.{HearsAll};
 ghost use Rattle.gb_report.specs.declared.report.Heard.TheVariants.{Start, End};
 
 use gb_core::path::TaskPath;
-use gb_listen::listener::{Recorder, TaskListener};
+use gb_exec::listener::{Recorder, TaskListener};
 use gb_report::report::{Heard, Outcome};
 use std::alloc::{AllocError, Global};
 

@@ -2,10 +2,10 @@
 use crate::counting::Counting;
 use gb_action::actions::Actions;
 use gb_answer::answer::answer_text;
+use gb_build::invoking::invoke;
 use gb_core::place::Place;
 use gb_folder::folder::Folder;
 use gb_folder::memory::MemoryFolder;
-use gb_invocation::invocation::invoke;
 use gb_printer::printer::Silent;
 use gb_provider::transforms::Transforms;
 use gb_registry::tables::Handed;

@@ -1,136 +1,65 @@
--- What was answered of a task's files on a part of the way was so on all of it.
-use Rattle.std.proofs.Common.{arith, ◌≡◌, ◌<◌, ◌++◌, ℕ, zero, suc, List, [], ◌∷◌, length, get_or, take, refl, sym, ap, subst}
-use Rattle.std.specs.List.{AllByRecursion, AllZip, zip}
-use Rattle.gb_action.specs.Files.{Trees}
-use Rattle.gb_action.specs.declared.output.OutputFiles.{OutputFiles}
-use Rattle.gb_folder.proofs.Asked.{asks_nothing, asks_then}
-use Rattle.gb_folder.specs.Calls.{Asks, Call, no_change}
-use Rattle.gb_folder.specs.Files.{Files, Tearing}
-use Rattle.gb_plan.specs.declared.task.FileProperty.{FileProperty}
-use Rattle.gb_plan.specs.declared.task.Output.{Output}
+-- What a task's turn answers, over any folder.
+use Rattle.std.specs.Prelude.{◌≡◌, Bool, true, false, [], Result, Ok, Err, IfOk}
+use Rattle.std.specs.List.{list_any}
+use Rattle.std.proofs.Common.{sym, subst, ◌∙◌}
+use Rattle.gb_folder.specs.Files.{is_empty}
+use Rattle.gb_history.specs.declared.decide.Decision.TheVariants as decisions
+use Rattle.gb_label.specs.Preparing.{MayDecideAs, MayPrepare}
+use Rattle.gb_label.specs.declared.prepare.Prepared.{Prepared}
+use Rattle.gb_label.specs.declared.prepare.Prepared.TheVariants as prepared
+use Rattle.gb_meaning.specs.Outline.{MayAnswer, PrintsNothing}
+use Rattle.gb_plan.specs.Task.{Path}
 use Rattle.gb_plan.specs.declared.task.TaskDeclaration.{TaskDeclaration as Task}
-use Rattle.gb_tree.proofs.Answering.{all_seen_longer, all_zip_more, entries_longer, output_entries_longer, tree_longer}
-use Rattle.gb_tree.specs.Answered.{IsTreeRead, WereSeen}
-use Rattle.gb_tree.specs.Reading.{entries_seen}
-use Rattle.gb_turn.specs.Answered.{AreInputsAnswered, AreInputsRead, AreOutputsAnswered, AreOutputsRead, IsInputAnswered, IsInputRead, IsOutputAnswered, IsOutputRead}
-use Rattle.gb_turn.specs.Reading.{Read}
+use Rattle.gb_plan.proofs.Tests.{not_true}
+use Rattle.gb_report.specs.declared.fault.Fault.{Fault}
+use Rattle.gb_report.specs.declared.report.Options.{Options}
+use Rattle.gb_report.specs.declared.report.Outcome.{Outcome}
+use Rattle.gb_report.specs.declared.report.Outcome.TheVariants as outcomes
+use Rattle.gb_report.specs.declared.report.TaskReport.{TaskReport}
+use Rattle.gb_turn.specs.Settled.{IsAnswer, TellsAnswer, settled_as}
+use Rattle.gb_turn.specs.Turned.{IsToldOf, cleared_outcome, outcome_of}
 
--- ---- Rows side by side
+-- a report without a line prints nothing
+no_lines : (outcome : Outcome) (report : TaskReport) → report.lines ≡ [] → PrintsNothing outcome report
+no_lines outcomes.Executed report none = tt
+no_lines outcomes.UpToDate report none = none
+no_lines outcomes.Skipped report none = none
+no_lines outcomes.NoSource report none = none
+no_lines (outcomes.Failed fault) report none = tt
+no_lines outcomes.NotRun report none = none
 
-pub as_many : {A B : Type 0} (R : A → B → Type 0) (xs : List A) (ys : List B) → AllZip R xs ys → length xs ≡ length ys
-as_many R [] [] all = refl
-as_many R [] (y ∷ ys) all = absurd all
-as_many R (x ∷ xs) [] all = absurd all
-as_many R (x ∷ xs) (y ∷ ys) all = ap suc (as_many R xs ys all.1)
+module _ (options : Options) (task : Task) where
+  pub tells : (path : Path) (need : Bool) (result : Result Prepared Fault) → IfOk result (MayPrepare task) → IfOk result (MayDecideAs options task)
+      → TellsAnswer options task (settled_as task path result need)
+  tells path need (Err fault) may decides = λ runs acts. tt
+  tells path need (Ok prepared.Skips) may decides = λ runs acts. not_true (sym may ∙ runs)
+  tells path need (Ok prepared.HasNoActions) may decides = λ runs acts. not_true (sym acts ∙ may.1)
+  tells path need (Ok prepared.HasNoSource) may decides = tt
+  tells path need (Ok (prepared.Decided decisions.UpToDate seen)) may decides = λ runs acts. decides
+  tells path need (Ok (prepared.Decided (decisions.Incremental changes) seen)) may decides = tt
+  tells path need (Ok (prepared.Decided decisions.Full seen)) may decides = tt
 
--- what is made of the next one stands behind what is made of those before it
-pub next_made : {A B C : Type 0} (R : A → B → Type 0) (S : A → C → Type 0) (xs : List A) (ys : List B) (made : List C) (i : ℕ) (y : B) (z : C) → i < length ys
-    → y ≡ get_or ys i y → AllZip R xs ys → ((x : A) → R x y → S x z) → AllZip S (take i xs) made → AllZip S (take (suc i) xs) (made ++ z ∷ [])
-next_made R S [] [] made i y z less is all step so_far = absurd (omega (arith, less))
-next_made R S [] (b ∷ ys) made i y z less is all step so_far = absurd all
-next_made R S (x ∷ xs) [] made i y z less is all step so_far = absurd all
-next_made R S (x ∷ xs) (b ∷ ys) [] zero y z less is all step so_far = (step x (subst (R x) (sym is) all.0), tt)
-next_made R S (x ∷ xs) (b ∷ ys) (c ∷ made) zero y z less is all step so_far = absurd so_far
-next_made R S (x ∷ xs) (b ∷ ys) [] (suc i) y z less is all step so_far = absurd so_far
-next_made R S (x ∷ xs) (b ∷ ys) (c ∷ made) (suc i) y z less is all step so_far =
-    (so_far.0, next_made R S xs ys made i y z (omega (arith, less)) is all.1 step so_far.1)
+  pub told_answers : (report : TaskReport) → report.lines ≡ [] → (task.runs ≡ true → is_empty task.actions ≡ false → MayAnswer options task report.outcome)
+      → IsAnswer options task report
+  told_answers report none answer = record { lines = no_lines report.outcome report none; answer = answer }
 
-pub pairs_all : {A B : Type 0} (R : A → B → Type 0) (xs : List A) (ys : List B) → AllZip R xs ys → AllByRecursion (λ pair. R pair.0 pair.1) (zip xs ys)
-pairs_all R [] ys all = tt
-pairs_all R (x ∷ xs) [] all = absurd all
-pairs_all R (x ∷ xs) (y ∷ ys) all = (all.0, pairs_all R xs ys all.1)
+  pub cleared_answers : (report : TaskReport) → report.lines ≡ [] → list_any (λ property. property.skip_when_empty) task.files ≡ true
+      → IsToldOf cleared_outcome report.outcome → IsAnswer options task report
+  cleared_answers report none skips ended = record { lines = no_lines report.outcome report none; answer = λ runs acts. answer ended.0 ended.1 }
+    where
+      answer : (result : Result (Unit {0}) Fault) → report.outcome ≡ cleared_outcome result → MayAnswer options task report.outcome
+      answer (Ok done) is = subst (MayAnswer options task) (sym is) skips
+      answer (Err fault) is = subst (MayAnswer options task) (sym is) tt
 
--- what is made of the pairs is made of the first of each
-pub firsts_made : {A B C : Type 0} (R : A → B → Type 0) (S : A → C → Type 0) (xs : List A) (ys : List B) (made : List C) → AllZip R xs ys
-    → AllZip (λ pair z. S pair.0 z) (zip xs ys) made → AllZip S xs made
-firsts_made R S [] ys [] all so_far = tt
-firsts_made R S [] ys (z ∷ made) all so_far = absurd so_far
-firsts_made R S (x ∷ xs) [] made all so_far = absurd all
-firsts_made R S (x ∷ xs) (y ∷ ys) [] all so_far = absurd so_far
-firsts_made R S (x ∷ xs) (y ∷ ys) (z ∷ made) all so_far = (so_far.0, firsts_made R S xs ys made all.1 so_far.1)
-
-module _ {F : Type 0} {failures : F → ℕ} {may_leave : F → Tearing} {asked : F → Call → F → Type 0} where
-  -- ---- One property, and one output
-
-  pub input_longer : {first old new end : F} → Asks failures may_leave asked no_change first old → Asks failures may_leave asked no_change new end
-      → (property : FileProperty) (reading : Read) → IsInputAnswered failures may_leave asked old new property reading
-      → IsInputAnswered failures may_leave asked first end property reading
-  input_longer before behind property reading was = (
-    entries_longer before behind property.naming property.roots property.include property.exclude (entries_seen reading.1) was.0,
-    all_seen_longer before behind reading.1 was.1,
-  )
-
-  pub output_longer : {first old new end : F} → Asks failures may_leave asked no_change first old → Asks failures may_leave asked no_change new end
-      → (output : Output) (reading : Read) → IsOutputAnswered failures may_leave asked old new output reading
-      → IsOutputAnswered failures may_leave asked first end output reading
-  output_longer before behind output reading was =
-      (output_entries_longer before behind output.place (entries_seen reading.1) was.0, all_seen_longer before behind reading.1 was.1)
-
-  pub tree_read_longer : {first old new end : F} → Asks failures may_leave asked no_change first old → Asks failures may_leave asked no_change new end
-      → (property : FileProperty) (tree : List ℕ × Files) → IsInputRead failures may_leave asked old new property tree
-      → IsInputRead failures may_leave asked first end property tree
-  tree_read_longer before behind property tree was = (
-    was.0,
-    entries_longer before behind property.naming property.roots property.include property.exclude was.0 was.1,
-    tree_longer before behind was.0 tree.1 was.2,
-  )
-
-  pub files_read_longer : {first old new end : F} → Asks failures may_leave asked no_change first old → Asks failures may_leave asked no_change new end
-      → (output : Output) (seen : OutputFiles) → IsOutputRead failures may_leave asked old new output seen
-      → IsOutputRead failures may_leave asked first end output seen
-  files_read_longer before behind output seen was = (
-    was.0,
-    output_entries_longer before behind output.place was.0 was.1,
-    tree_longer before behind was.0 seen.files was.2,
-  )
-
-  -- one that was answered, and is completed later
-  pub input_completed : {first old mid new : F} → Asks failures may_leave asked no_change old mid → Asks failures may_leave asked no_change mid new
-      → (property : FileProperty) (reading : Read) (tree : List ℕ × Files)
-      → (WereSeen failures may_leave asked first mid reading.1 → IsTreeRead failures may_leave asked first new (entries_seen reading.1) tree.1)
-      → IsInputAnswered failures may_leave asked first old property reading → IsInputRead failures may_leave asked first new property tree
-  input_completed {first = first} before now property reading tree completes was = (
-    entries_seen reading.1,
-    entries_longer (asks_nothing first) (asks_then before now) property.naming property.roots property.include property.exclude (entries_seen reading.1) was.0,
-    completes (all_seen_longer (asks_nothing first) before reading.1 was.1),
-  )
-
-  pub output_completed : {first old mid new : F} → Asks failures may_leave asked no_change old mid → Asks failures may_leave asked no_change mid new
-      → (output : Output) (reading : Read) (seen : OutputFiles)
-      → (WereSeen failures may_leave asked first mid reading.1 → IsTreeRead failures may_leave asked first new (entries_seen reading.1) seen.files)
-      → IsOutputAnswered failures may_leave asked first old output reading → IsOutputRead failures may_leave asked first new output seen
-  output_completed {first = first} before now output reading seen completes was = (
-    entries_seen reading.1,
-    output_entries_longer (asks_nothing first) (asks_then before now) output.place (entries_seen reading.1) was.0,
-    completes (all_seen_longer (asks_nothing first) before reading.1 was.1),
-  )
-
-  -- ---- All of a task
-
-  pub inputs_longer : {first old new end : F} → Asks failures may_leave asked no_change first old → Asks failures may_leave asked no_change new end
-      → (task : Task) (readings : List Read) → AreInputsAnswered failures may_leave asked old new task readings
-      → AreInputsAnswered failures may_leave asked first end task readings
-  inputs_longer {first = first} {old = old} {new = new} {end = end} before behind task readings were =
-      all_zip_more (IsInputAnswered failures may_leave asked old new) (IsInputAnswered failures may_leave asked first end) (input_longer before behind)
-      task.files readings were
-
-  pub outputs_longer : {first old new end : F} → Asks failures may_leave asked no_change first old → Asks failures may_leave asked no_change new end
-      → (task : Task) (readings : List Read) → AreOutputsAnswered failures may_leave asked old new task readings
-      → AreOutputsAnswered failures may_leave asked first end task readings
-  outputs_longer {first = first} {old = old} {new = new} {end = end} before behind task readings were =
-      all_zip_more (IsOutputAnswered failures may_leave asked old new) (IsOutputAnswered failures may_leave asked first end) (output_longer before behind)
-      task.outputs readings were
-
-  pub trees_longer : {first old new end : F} → Asks failures may_leave asked no_change first old → Asks failures may_leave asked no_change new end
-      → (task : Task) (trees : Trees) → AreInputsRead failures may_leave asked old new task trees
-      → AreInputsRead failures may_leave asked first end task trees
-  trees_longer {first = first} {old = old} {new = new} {end = end} before behind task trees were =
-      all_zip_more (IsInputRead failures may_leave asked old new) (IsInputRead failures may_leave asked first end) (tree_read_longer before behind)
-      task.files trees were
-
-  pub files_longer : {first old new end : F} → Asks failures may_leave asked no_change first old → Asks failures may_leave asked no_change new end
-      → (task : Task) (seen : List OutputFiles) → AreOutputsRead failures may_leave asked old new task seen
-      → AreOutputsRead failures may_leave asked first end task seen
-  files_longer {first = first} {old = old} {new = new} {end = end} before behind task seen were =
-      all_zip_more (IsOutputRead failures may_leave asked old new) (IsOutputRead failures may_leave asked first end) (files_read_longer before behind)
-      task.outputs seen were
+  pub run_answers : (report : TaskReport) → IsToldOf outcome_of report.outcome → IsAnswer options task report
+  run_answers report ended = by ended.0 ended.1
+    where
+      by : (result : Result (Unit {0}) Fault) → report.outcome ≡ outcome_of result → IsAnswer options task report
+      by (Ok done) is = record {
+        lines = subst (λ (outcome : Outcome). PrintsNothing outcome report) (sym is) tt;
+        answer = λ runs acts. subst (MayAnswer options task) (sym is) tt;
+      }
+      by (Err fault) is = record {
+        lines = subst (λ (outcome : Outcome). PrintsNothing outcome report) (sym is) tt;
+        answer = λ runs acts. subst (MayAnswer options task) (sym is) tt;
+      }

@@ -1,2 +1,12 @@
+pub mod Case
+pub mod Known
+pub mod Turns
 pub mod Reading
-pub mod Answered
+pub mod Keeping
+pub mod Clearing
+pub mod Turned
+pub mod Settled
+pub mod Anew
+pub mod Asking
+pub mod Truth
+pub mod Current

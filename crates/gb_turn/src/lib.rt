@@ -1,12 +1,22 @@
-//! What a task's turn reads before anything is changed: its inputs and its outputs, once.
+//! A started task's turn: what it comes to, what is done then, and what is told of it.
 //!
-//! The label decides on digests, and a run works on contents. Both come of one reading: what the label
-//! reads is kept as far as there is room, and a run completes it. What was not kept is read again, and
-//! its digests are taken anew: the digests that are recorded are those of the very contents.
+//! All that a run reads is read before the first change, and once. Then the task's record is taken out, its
+//! actions run, and a new record is put in: of the inputs that they worked on, and of the outputs as they
+//! made them, whatever stands there by then. A run in full empties the outputs first; a run by changes goes
+//! on from what stands there, and keeps what is right also where it fails.
+//!
+//! That what a turn comes to by digests is what it comes to by whole contents is said by [`case_laws`].
 #![tactic(auto)]
 
-mod completing;
-mod fault;
-pub mod inputs;
-pub mod outputs;
-pub mod prints;
+mod adding;
+mod anew;
+pub mod case_laws;
+mod changes;
+mod clearing;
+mod full;
+mod going;
+mod keeping;
+pub mod laws;
+mod settle;
+mod sourceless;
+pub mod turn;

@@ -8,9 +8,9 @@ use Rattle.gb_foretell.specs.Foretold.{AreForetold, IsForetold}
 use Rattle.gb_foretell.specs.declared.coming.Foretold.{Foretold}
 use Rattle.gb_foretell.proofs.Telling.{all_related, foretold_wider}
 use Rattle.gb_history.specs.Remembered.{Remembered}
-use Rattle.gb_invocation.proofs.Keeping.{begun_before}
-use Rattle.gb_invocation.specs.Scripts.{registers_in}
-use Rattle.gb_invoke.proofs.Refusing.{not_built}
+use Rattle.gb_build.proofs.Keeping.{begun_before}
+use Rattle.gb_build.specs.Registering.{registers_in}
+use Rattle.gb_build.proofs.Refusing.{not_built}
 use Rattle.gb_meaning.specs.Edits.{Shown}
 use Rattle.gb_meaning.specs.Kinds.{Kinds}
 use Rattle.gb_meaning.specs.TrueRecord.{outside}

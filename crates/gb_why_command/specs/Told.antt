@@ -12,8 +12,8 @@ use Rattle.gb_foretell.specs.Marks.{AreMarked}
 use Rattle.gb_foretell.specs.declared.coming.Foretold.{Foretold}
 use Rattle.gb_graph.specs.Answer.{IsPlanOf, IsRefusalOf}
 use Rattle.gb_history.specs.Remembered.{Remembered}
-use Rattle.gb_invocation.specs.Scripts.{registers_in}
-use Rattle.gb_invoke.specs.Refusing.{IsUnread}
+use Rattle.gb_build.specs.Registering.{registers_in}
+use Rattle.gb_build.specs.Refusing.{IsUnread}
 use Rattle.gb_meaning.specs.Edits.{Shown}
 use Rattle.gb_meaning.specs.Events.{IsNotBuilt}
 use Rattle.gb_meaning.specs.Headline.{Agrees}

@@ -1,34 +1,34 @@
 //! What is told of what is asked for.
 ghost use Rattle.std.specs.Prelude.{◌≡◌, false, IfErr, IfOk, IsTrue};
 ghost use Rattle.std.specs.List.{AllByRecursion};
-ghost use Rattle.gb_execute.specs.Building.{IsBuildable};
+ghost use Rattle.gb_exec.specs.Building.{IsBuildable};
 ghost use Rattle.gb_folder.specs.Calls.{Asks, no_change};
-ghost use Rattle.gb_invoke.specs.Asking.{AreBuildable};
-ghost use Rattle.gb_invoke.specs.Refusing.{IsUnread};
+ghost use Rattle.gb_build.specs.Asking.{AreBuildable};
+ghost use Rattle.gb_build.specs.Refusing.{IsUnread};
 ghost use Rattle.gb_plan.specs.Graph.{IsRegistry, order};
-ghost use Rattle.gb_project.specs.Registered.{registry_said};
+ghost use Rattle.gb_declare.specs.Registered.{registry_said};
 ghost use Rattle.gb_registry.specs.Tables.{tables_of};
 ghost use Rattle.gb_why_command.specs.Told.{AreTold, AreToldOf, IsAnswerTo, IsNotTold};
 
 use crate::answer::Answer;
 use gb_action::actions::Actions;
 use gb_action::table::ActionTable;
+use gb_build::reading::read_registry;
 use gb_core::name::Name;
 use gb_core::path::TaskPath;
 use gb_core::text::Text;
 use gb_folder::folder::Folder;
 use gb_foretell::foretell::foretell;
 use gb_graph::plan::plan;
+use gb_graph::tasks::Tasks;
 use gb_meaning::events::{Invocation, Properties};
-use gb_order::tasks::Tasks;
 use gb_plan::plan::{Planned, paths_of};
+use gb_project::script_tasks::ScriptTasks;
 use gb_provider::transforms::Transforms;
 use gb_records::reading::read_records;
 use gb_registry::configured::Configured;
 use gb_registry::tables::Handed;
 use gb_report::report::Options;
-use gb_scripts::reading::read_registry;
-use gb_tasks::script_tasks::ScriptTasks;
 use std::alloc::{AllocError, Global};
 
 /// Reads the scripts of a folder with the values that are given, and tells what is asked of the tasks that

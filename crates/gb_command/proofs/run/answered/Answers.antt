@@ -3,7 +3,7 @@ use Rattle.gb_action.specs.Meanings.{Meanings}
 use Rattle.gb_folder.specs.Calls.{Call}
 use Rattle.gb_folder.specs.Files.{Tearing}
 use Rattle.gb_folder.proofs.Asked.{asks_nothing}
-use Rattle.gb_invocation.specs.Asked.{InvocationAsks}
+use Rattle.gb_build.specs.InvocationAsked.{InvocationAsks}
 use Rattle.gb_meaning.specs.declared.events.Invocation.{Invocation}
 use Rattle.gb_plan.specs.Ready.{Rows}
 use Rattle.gb_report.specs.declared.fault.Fault.{Fault}

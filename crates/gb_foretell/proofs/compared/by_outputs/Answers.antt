@@ -5,7 +5,7 @@ use Rattle.gb_label.specs.Deciding.{IsPresentOf}
 use Rattle.gb_label.proofs.Recorded.{names_read}
 use Rattle.gb_meaning.specs.Headline.{Agrees}
 use Rattle.gb_meaning.specs.Kinds.{Kinds}
-use Rattle.gb_turn.specs.Reading.{prints_read, records_with}
+use Rattle.gb_label.specs.Reading.{prints_read, records_with}
 use Rattle.gb_foretell.specs.Explained.{IsExplained}
 use Rattle.gb_foretell.specs.declared.coming.Coming.{Coming}
 use Rattle.gb_foretell.proofs.Telling.{with_present}

@@ -10,7 +10,7 @@ use Rattle.gb_label.proofs.Recorded.{with_standing}
 use Rattle.gb_meaning.specs.Tree.{listing_faults, trees_of}
 use Rattle.gb_report.specs.declared.fault.Fault.{Fault}
 use Rattle.gb_store.proofs.Machine.{at_err}
-use Rattle.gb_turn.specs.Reading.{CannotRead, Read, digests_in, prints_read, records_with}
+use Rattle.gb_label.specs.Reading.{CannotRead, Read, digests_in, prints_read, records_with}
 use Rattle.gb_foretell.proofs.Telling.{found_of, machine_read, outputs_grown}
 use Rattle.gb_foretell.proofs.compared.compared.Goals as goal
 

@@ -3,7 +3,7 @@ use Rattle.gb_folder.specs.Files.{Contents}
 use Rattle.gb_label.specs.Looking.{IsCase, MayBe}
 use Rattle.gb_label.specs.declared.look.Look.{Look}
 use Rattle.gb_meaning.specs.Tree.{listing_faults, trees_of}
-use Rattle.gb_turn.specs.Reading.{AreInputs, CannotRead, Read, digests_in, prints_read}
+use Rattle.gb_label.specs.Reading.{AreInputs, CannotRead, Read, digests_in, prints_read}
 use Rattle.gb_foretell.specs.Foretold.{IsForetold, IsFound, IsReasoned}
 use Rattle.gb_foretell.specs.declared.coming.Coming.{Coming}
 use Rattle.gb_foretell.proofs.Telling.{sourced_foretold, told_reasoned}

@@ -2,10 +2,10 @@ use Rattle.std.proofs.Common.{◌≡◌, ◌<◌, ◌↔◌, ℕ, Vec, length, C
 use Rattle.std.proofs.lemmas.List.{length-map}
 use Rattle.std.proofs.lemmas.Result.{IfOk-weaker}
 use Rattle.std.specs.Global.{Global}
-use Rattle.gb_order.specs.Order.{rows, row, InOrder, AreTasks}
-use Rattle.gb_order.specs.Chains.{IsAfter, bit_in}
+use Rattle.gb_graph.specs.Order.{rows, row, InOrder, AreTasks}
+use Rattle.gb_graph.specs.Chains.{IsAfter, bit_in}
 use Rattle.gb_graph.specs.Meetings.{TellChains}
-use Rattle.gb_graph.proofs.Plans.{lower, chains_told}
+use Rattle.gb_graph.proofs.Planned.{lower, chains_told}
 use Rattle.gb_graph.proofs.chained.chains_in.Goals as goal
 
 pub in_turn-requires : goal.in_turn-requires

@@ -1,6 +1,6 @@
 use Rattle.std.proofs.Common.{◌≡◌, ◌<◌, ℕ, List, length, Contains, sym, subst, ◌↔◌, ◌+◌, arith, ap}
 use Rattle.std.proofs.lemmas.List.{length-map}
-use Rattle.gb_order.specs.Order.{rows, InOrder, begins}
+use Rattle.gb_graph.specs.Order.{rows, InOrder, begins}
 use Rattle.gb_graph.proofs.Turns.{turn_order, turn_told}
 use Rattle.gb_graph.proofs.chained.in_turn.Goals as goal
 

@@ -1,5 +1,5 @@
 use Rattle.std.proofs.Common.{◌<◌, ◌↔◌, ℕ, Contains}
-use Rattle.gb_order.specs.Order.{rows, InOrder}
+use Rattle.gb_graph.specs.Order.{rows, InOrder}
 use Rattle.gb_graph.proofs.chained.in_turn.Given as goal
 
 abbrev pub invariant-loop-number : goal.invariant-loop-number

@@ -4,15 +4,15 @@ use Rattle.std.proofs.lemmas.List.{get_or_default}
 use Rattle.std.proofs.lemmas.Result.{IfOk-weaker}
 use Rattle.std.specs.Ordering.{is_gt}
 use Rattle.gb_core.specs.Lists.{byte_order}
-use Rattle.gb_order.specs.Order.{rows}
-use Rattle.gb_order.specs.Circle.{path_at}
+use Rattle.gb_graph.specs.Order.{rows}
+use Rattle.gb_graph.specs.Circle.{path_at}
 use Rattle.gb_graph.specs.declared.least.Found.{Found}
 use Rattle.gb_graph.specs.declared.least.Met.{Met}
 use Rattle.gb_graph.specs.declared.places.TaskPlace.{TaskPlace}
 use Rattle.gb_graph.specs.Meetings.{IsLeast, IsMet, IsMetAt, IsMetTask, IsWithin, found_by, lesser}
 use Rattle.gb_graph.proofs.Lesser.{IsNear, least_same, least_either, least_near, passed_near, task_within, within_near}
 use Rattle.gb_graph.proofs.Meets.{meets_more}
-use Rattle.gb_graph.proofs.Rows.{place_found}
+use Rattle.gb_graph.proofs.RefusalRows.{place_found}
 use Rattle.gb_graph.proofs.least.least_met.Goals as goal
 use Rattle.gb_graph.proofs.least.least_met.Goals.{then-not-is_later+in_ok-others, else-not-is_later}
 

@@ -1,5 +1,5 @@
 use Rattle.std.proofs.Common.{take, MatchOption}
-use Rattle.gb_order.specs.Order.{rows}
+use Rattle.gb_graph.specs.Order.{rows}
 use Rattle.gb_graph.specs.Meetings.{IsLeast, IsMet, IsWithin, found_by}
 use Rattle.gb_graph.proofs.least.least_met.Given as goal
 

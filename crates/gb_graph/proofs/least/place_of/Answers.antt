@@ -1,5 +1,5 @@
 use Rattle.std.proofs.Common.{sym}
-use Rattle.gb_graph.proofs.Rows.{place_found}
+use Rattle.gb_graph.proofs.RefusalRows.{place_found}
 use Rattle.gb_graph.proofs.least.place_of.Goals as goal
 
 pub returns : goal.returns

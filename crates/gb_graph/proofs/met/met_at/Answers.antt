@@ -3,7 +3,7 @@ use Rattle.std.proofs.Math.Seq.{take-length}
 use Rattle.std.proofs.lemmas.List.{get_or_default}
 use Rattle.std.proofs.lemmas.List.Elements.{Contains-get_or}
 use Rattle.gb_core.specs.Place.{overlaps}
-use Rattle.gb_order.specs.Order.{rows}
+use Rattle.gb_graph.specs.Order.{rows}
 use Rattle.gb_graph.specs.Places.{place_at}
 use Rattle.gb_graph.specs.declared.places.TaskPlace.{TaskPlace}
 use Rattle.gb_graph.proofs.Meets.{IsMetBy, met_more, met_passed, met_all}

@@ -1,5 +1,5 @@
 use Rattle.std.proofs.Common.{◌↔◌, ℕ, take, Contains}
-use Rattle.gb_order.specs.Order.{rows}
+use Rattle.gb_graph.specs.Order.{rows}
 use Rattle.gb_graph.proofs.Meets.{IsMetBy}
 use Rattle.gb_graph.proofs.met.met_at.Given as goal
 

@@ -3,8 +3,8 @@ use Rattle.std.proofs.lemmas.Bool.{cases_Bool}
 use Rattle.gb_graph.specs.Places.{is_before, place_at}
 use Rattle.gb_graph.specs.declared.places.TaskPlace.{TaskPlace}
 use Rattle.gb_graph.proofs.Cuts.{below_or_at}
-use Rattle.gb_graph.proofs.Rows.{place_found}
-use Rattle.gb_order.proofs.Keeping.{not_both}
+use Rattle.gb_graph.proofs.RefusalRows.{place_found}
+use Rattle.gb_graph.proofs.Keeping.{not_both}
 use Rattle.gb_graph.proofs.overlaps.end_from.Goals as goal
 
 pub returns-then-not-is_before-clause-above : goal.returns-then-not-is_before-clause-above

@@ -3,8 +3,8 @@ use Rattle.std.proofs.lemmas.Bool.{cases_Bool}
 use Rattle.gb_graph.specs.Overlaps.{with_sign}
 use Rattle.gb_graph.specs.Places.{is_before, place_at}
 use Rattle.gb_graph.specs.declared.places.TaskPlace.{TaskPlace}
-use Rattle.gb_graph.proofs.Rows.{place_found}
-use Rattle.gb_order.proofs.Keeping.{not_both}
+use Rattle.gb_graph.proofs.RefusalRows.{place_found}
+use Rattle.gb_graph.proofs.Keeping.{not_both}
 use Rattle.gb_graph.proofs.overlaps.first_from.Goals as goal
 
 pub loop-low-preserved-then-is_before : goal.loop-low-preserved-then-is_before

@@ -4,7 +4,7 @@ use Rattle.std.proofs.lemmas.List.{drop_all, map-append}
 use Rattle.gb_folder.specs.Files.{Place}
 use Rattle.gb_plan.specs.declared.task.FileProperty.{FileProperty}
 use Rattle.gb_graph.specs.Places.{with_places}
-use Rattle.gb_graph.proofs.Rows.{drop_next, placed_on}
+use Rattle.gb_graph.proofs.RefusalRows.{drop_next, placed_on}
 use Rattle.gb_graph.proofs.places.add_files.Goals as goal
 
 abbrev roots : List FileProperty → List Place

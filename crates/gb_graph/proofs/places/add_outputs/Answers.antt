@@ -3,7 +3,7 @@ use Rattle.std.proofs.lemmas.List.{drop_all}
 use Rattle.gb_folder.specs.Files.{Place}
 use Rattle.gb_plan.specs.declared.task.Output.{Output}
 use Rattle.gb_graph.specs.Places.{with_places}
-use Rattle.gb_graph.proofs.Rows.{drop_next, placed_on}
+use Rattle.gb_graph.proofs.RefusalRows.{drop_next, placed_on}
 use Rattle.gb_graph.proofs.places.add_outputs.Goals as goal
 
 abbrev pairs : ℕ → List Output → List (ℕ × Place)

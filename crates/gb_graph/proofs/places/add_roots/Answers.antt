@@ -2,7 +2,7 @@ use Rattle.std.proofs.Common.{◌≡◌, ◌+◌, ◌∷◌, [], ℕ, map, drop,
 use Rattle.std.proofs.lemmas.List.{drop_all}
 use Rattle.gb_folder.specs.Files.{Place}
 use Rattle.gb_graph.specs.Places.{with_places}
-use Rattle.gb_graph.proofs.Rows.{drop_next, placed_on}
+use Rattle.gb_graph.proofs.RefusalRows.{drop_next, placed_on}
 use Rattle.gb_graph.proofs.places.add_roots.Goals as goal
 
 abbrev pairs : ℕ → List Place → List (ℕ × Place)

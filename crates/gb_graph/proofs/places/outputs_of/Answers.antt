@@ -4,7 +4,7 @@ use Rattle.gb_folder.specs.Files.{Place}
 use Rattle.gb_plan.specs.declared.task.Output.{Output}
 use Rattle.gb_plan.specs.Task.{output_places}
 use Rattle.gb_graph.specs.Places.{places_from, with_places}
-use Rattle.gb_graph.proofs.Rows.{drop_next, placed_on}
+use Rattle.gb_graph.proofs.RefusalRows.{drop_next, placed_on}
 use Rattle.gb_graph.proofs.places.outputs_of.Goals as goal
 
 abbrev pairs_of : ℕ → List Output → List (ℕ × Place)

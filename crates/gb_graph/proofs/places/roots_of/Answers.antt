@@ -5,7 +5,7 @@ use Rattle.std.specs.List.{flat_map}
 use Rattle.gb_plan.specs.declared.task.FileProperty.{FileProperty}
 use Rattle.gb_plan.specs.Task.{roots_of}
 use Rattle.gb_graph.specs.Places.{places_from, with_places}
-use Rattle.gb_graph.proofs.Rows.{drop_next, placed_on}
+use Rattle.gb_graph.proofs.RefusalRows.{drop_next, placed_on}
 use Rattle.gb_graph.proofs.places.roots_of.Goals as goal
 
 abbrev pairs_of : ℕ → List FileProperty → List (ℕ × Place)

@@ -1,6 +1,6 @@
 use Rattle.std.proofs.Common.{◌≡◌, [], sym, subst, arith}
 use Rattle.std.specs.Vec.Iter.{into_iter_items}
-use Rattle.gb_order.proofs.Reached.{nil_of}
+use Rattle.gb_graph.proofs.Reached.{nil_of}
 use Rattle.gb_graph.specs.Places.{StandsTwice}
 use Rattle.gb_graph.proofs.Thinned.{IsSoFar, so_far_left, so_far_kept, all_thinned, all_rising}
 use Rattle.gb_graph.proofs.places.thinned.Goals as goal

@@ -1,7 +1,7 @@
 use Rattle.std.proofs.Common.{List, Vec, ℕ, Option, Contains, sym, subst}
 use Rattle.std.specs.Global.{Global}
 use Rattle.std.proofs.lemmas.Result.{IfOk-weaker}
-use Rattle.gb_order.specs.Order.{rows}
+use Rattle.gb_graph.specs.Order.{rows}
 use Rattle.gb_graph.specs.declared.least.Found.{Found}
 use Rattle.gb_graph.specs.declared.places.TaskPlace.{TaskPlace}
 use Rattle.gb_graph.specs.Places.{IsRising}

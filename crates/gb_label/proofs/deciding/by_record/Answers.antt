@@ -7,7 +7,7 @@ use Rattle.gb_history.specs.declared.record.OutputRecord.{OutputRecord}
 use Rattle.gb_meaning.specs.Tree.{listing_faults, trees_of}
 use Rattle.gb_report.specs.declared.fault.Fault.{Fault}
 use Rattle.gb_store.proofs.Machine.{at_err}
-use Rattle.gb_turn.specs.Reading.{CannotRead, Read, digests_in, prints_read, records_with}
+use Rattle.gb_label.specs.Reading.{CannotRead, Read, digests_in, prints_read, records_with}
 use Rattle.gb_label.specs.Deciding.{IsDecided, IsPresentOf, MayDecide, by_record, grown}
 use Rattle.gb_label.proofs.Answering.{full_decided, record_decided}
 use Rattle.gb_label.proofs.Current.{may_decide}

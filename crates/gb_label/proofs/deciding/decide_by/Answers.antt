@@ -2,7 +2,7 @@ use Rattle.std.proofs.Common.{List, map, ap, subst, ◌∙◌}
 use Rattle.gb_history.specs.Remembered.{Prints}
 use Rattle.gb_label.specs.Deciding.{IsPresentOf}
 use Rattle.gb_label.proofs.Recorded.{names_read}
-use Rattle.gb_turn.specs.Reading.{prints_read, records_with}
+use Rattle.gb_label.specs.Reading.{prints_read, records_with}
 use Rattle.gb_label.proofs.deciding.decide_by.Goals as goal
 
 pub decide_on-requires-clause-inputs : goal.decide_on-requires-clause-inputs

@@ -4,9 +4,9 @@ use Rattle.std.proofs.lemmas.Result.{err_from_is_err_and, on_ok_weaker}
 use Rattle.gb_folder.specs.Files.{Contents, is_empty}
 use Rattle.gb_meaning.specs.Tree.{listing_faults}
 use Rattle.gb_store.proofs.Machine.{at_err}
-use Rattle.gb_turn.specs.Reading.{print_faults}
+use Rattle.gb_label.specs.Reading.{print_faults}
 use Rattle.gb_folder.proofs.Asked.{asks_nothing}
-use Rattle.gb_turn.proofs.Answering.{outputs_longer}
+use Rattle.gb_label.proofs.ReadingAnswering.{outputs_longer}
 use Rattle.gb_label.proofs.Cases.{cannot_before}
 use Rattle.gb_label.proofs.Growth.{CannotPrint, cannot_print_listed, err_as, ok_as}
 use Rattle.gb_label.proofs.deciding.read_checked.Goals as goal

@@ -6,12 +6,12 @@ use Rattle.gb_plan.specs.declared.task.FileProperty.{FileProperty}
 use Rattle.gb_plan.specs.declared.task.TaskDeclaration.{TaskDeclaration as Task}
 use Rattle.gb_report.specs.declared.fault.Fault.{Fault}
 use Rattle.gb_store.proofs.Machine.{at_err}
-use Rattle.gb_turn.specs.Reading.{Read, digests_in, prints_read}
+use Rattle.gb_label.specs.Reading.{Read, digests_in, prints_read}
 use Rattle.gb_label.specs.Looking.{IsHindered, lacks_source}
 use Rattle.gb_label.proofs.Cases.{by_source, first_in_front, hindered}
 use Rattle.gb_label.proofs.Sources.{same_source, source_read}
 use Rattle.gb_folder.proofs.Asked.{asks_nothing}
-use Rattle.gb_turn.proofs.Answering.{inputs_longer}
+use Rattle.gb_label.proofs.ReadingAnswering.{inputs_longer}
 use Rattle.gb_label.proofs.look.look_at_files.Goals as goal
 
 pub returns-in_err-inputs-clause-err : goal.returns-in_err-inputs-clause-err

@@ -1,7 +1,7 @@
 use Rattle.std.proofs.Common.{List, option_copied, subst}
 use Rattle.gb_folder.proofs.Asked.{asks_nothing}
-use Rattle.gb_turn.proofs.Answering.{inputs_longer}
-use Rattle.gb_turn.specs.Reading.{Read}
+use Rattle.gb_label.proofs.ReadingAnswering.{inputs_longer}
+use Rattle.gb_label.specs.Reading.{Read}
 use Rattle.gb_label.specs.Answered.{WasDecided, WasLookedAt}
 use Rattle.gb_label.specs.Looking.{MayBe}
 use Rattle.gb_label.specs.declared.look.Look.{Look}

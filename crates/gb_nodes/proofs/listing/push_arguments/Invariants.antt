@@ -1,7 +1,7 @@
 use Rattle.std.proofs.Common.{◌≡◌, ◌++◌}
 use Rattle.std.specs.List.{flat_map}
 use Rattle.std.specs.VecDeque.Iter.{deque_iter_rest}
-use Rattle.gb_project.specs.Borrowed.{now_of}
+use Rattle.gb_declare.specs.Borrowed.{now_of}
 use Rattle.gb_nodes.proofs.listing.push_arguments.Given as goal
 
 abbrev pub invariant-loop-call : goal.invariant-loop-call

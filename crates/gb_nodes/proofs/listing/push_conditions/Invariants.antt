@@ -1,5 +1,5 @@
 use Rattle.std.proofs.Common.{◌≡◌, ◌++◌, drop, map}
-use Rattle.gb_project.specs.Borrowed.{now_of}
+use Rattle.gb_declare.specs.Borrowed.{now_of}
 use Rattle.gb_nodes.proofs.listing.push_conditions.Given as goal
 
 abbrev pub invariant-loop-condition : goal.invariant-loop-condition

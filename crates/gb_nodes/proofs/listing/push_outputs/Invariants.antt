@@ -1,6 +1,6 @@
 use Rattle.std.proofs.Common.{◌≡◌, ◌++◌, map}
-use Rattle.gb_project.specs.Borrowed.{now_of, outputs_in}
-use Rattle.gb_project.specs.Joined.{Named, Made}
+use Rattle.gb_declare.specs.Borrowed.{now_of, outputs_in}
+use Rattle.gb_declare.specs.Joined.{Named, Made}
 use Rattle.gb_nodes.proofs.listing.push_outputs.Given as goal
 
 abbrev pub invariant-loop-made : goal.invariant-loop-made

@@ -1,7 +1,7 @@
 use Rattle.std.proofs.Common.{◌≡◌, ◌++◌, map}
 use Rattle.std.specs.List.{flat_map}
-use Rattle.gb_project.specs.Borrowed.{now_of, named_in}
-use Rattle.gb_project.specs.Joined.{Named}
+use Rattle.gb_declare.specs.Borrowed.{now_of, named_in}
+use Rattle.gb_declare.specs.Joined.{Named}
 use Rattle.gb_script.specs.declared.script.InputFiles.{InputFiles}
 use Rattle.gb_nodes.proofs.listing.push_roots.Given as goal
 

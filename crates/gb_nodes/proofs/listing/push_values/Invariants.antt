@@ -1,6 +1,6 @@
 use Rattle.std.proofs.Common.{◌≡◌, ◌++◌, map}
-use Rattle.gb_project.specs.Borrowed.{now_of, named_in}
-use Rattle.gb_project.specs.Joined.{Named}
+use Rattle.gb_declare.specs.Borrowed.{now_of, named_in}
+use Rattle.gb_declare.specs.Joined.{Named}
 use Rattle.gb_script.specs.Tree.{Tree}
 use Rattle.gb_nodes.proofs.listing.push_values.Given as goal
 

@@ -1,5 +1,5 @@
 use Rattle.std.proofs.Common.{◌<◌, length, arith, ◌∙◌}
-use Rattle.gb_project.specs.Borrowed.{now_of}
+use Rattle.gb_declare.specs.Borrowed.{now_of}
 use Rattle.gb_registry.proofs.Firsts.{told_on}
 use Rattle.gb_nodes.specs.Site.{site_of}
 use Rattle.gb_nodes.proofs.MakingLemmas.{all_within, trees_on, trees_good, trees_first, item_now, count_now}

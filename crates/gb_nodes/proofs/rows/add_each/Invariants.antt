@@ -3,7 +3,7 @@ use Rattle.std.specs.Prelude.{All}
 use Rattle.gb_provider.specs.Rules.{numbers_of}
 use Rattle.gb_script.specs.Tree.{trees_of}
 use Rattle.gb_registry.specs.Wrong.{found_in_all}
-use Rattle.gb_project.specs.Borrowed.{now_of}
+use Rattle.gb_declare.specs.Borrowed.{now_of}
 use Rattle.gb_nodes.specs.Site.{site_of}
 use Rattle.gb_nodes.specs.Nodes.{trees_made}
 use Rattle.gb_nodes.specs.Wrong.{link_faults, root_faults}

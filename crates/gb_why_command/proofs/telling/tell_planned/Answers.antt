@@ -6,8 +6,8 @@ use Rattle.std.specs.Prelude.{length}
 use Rattle.gb_folder.specs.Files.{Contents}
 use Rattle.gb_foretell.specs.Foretold.{AreForetold}
 use Rattle.gb_history.specs.Remembered.{Remembered}
-use Rattle.gb_invoke.proofs.Read.{unread}
-use Rattle.gb_invoke.specs.Refusing.{IsUnread}
+use Rattle.gb_build.proofs.Read.{unread}
+use Rattle.gb_build.specs.Refusing.{IsUnread}
 use Rattle.gb_plan.proofs.Tests.{each_all}
 use Rattle.gb_plan.specs.Graph.{order}
 use Rattle.gb_plan.specs.Task.{Path}

@@ -1,14 +1,14 @@
 use Rattle.std.proofs.Common.{◌≡◌, List, IfErr, IfOk, inl, sym, subst}
 use Rattle.std.proofs.lemmas.Result.{err_from_is_err_and}
-use Rattle.gb_invocation.proofs.Buildable.{are_buildable}
-use Rattle.gb_invoke.specs.Asking.{AreBuildable}
+use Rattle.gb_build.proofs.Buildable.{are_buildable}
+use Rattle.gb_build.specs.Asking.{AreBuildable}
 use Rattle.gb_meaning.specs.Edits.{Shown}
 use Rattle.gb_plan.specs.Graph.{IsRegistry, Registry}
 use Rattle.gb_plan.specs.Task.{Text}
-use Rattle.gb_project.specs.Registered.{registry_said}
+use Rattle.gb_declare.specs.Registered.{registry_said}
 use Rattle.gb_registry.specs.Seen.{scripts_in}
 use Rattle.gb_registry.specs.Tables.{tables_of}
-use Rattle.gb_tasks.specs.Scripts.{registry_in}
+use Rattle.gb_project.specs.Scripts.{registry_in}
 use Rattle.gb_why_command.specs.Told.{Answer, AreToldOf, IsNotTold}
 use Rattle.gb_why_command.proofs.Told.{ok_always, shows}
 use Rattle.gb_why_command.proofs.telling.tell_registered.Goals as goal

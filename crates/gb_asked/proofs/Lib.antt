@@ -1,3 +1,0 @@
-pub mod KnownLemmas
-pub mod AskLemmas
-pub mod TellLemmas

@@ -1,0 +1,108 @@
+-- What leads a run on where a folder tears as another does leads it on there.
+use Rattle.std.specs.Prelude.{List, Option, None, Some}
+use Rattle.std.proofs.Common.{inl, inr}
+use Rattle.gb_folder.specs.Files.{Bytes, Files, Place, SameTearing, Tearing, file_at, places_under}
+use Rattle.gb_meaning.specs.declared.events.Answer.{Answer}
+use Rattle.gb_meaning.specs.declared.events.Answer.TheVariants as answers
+use Rattle.gb_meaning.specs.declared.events.Event.{Event}
+use Rattle.gb_meaning.specs.declared.events.Event.TheVariants as events
+use Rattle.gb_meaning.specs.Edits.{IsStopped, LossStep, PutStep, RemoveStep, Shown, own_place}
+use Rattle.gb_meaning.specs.Events.{State, Step, may_come, own_files, shown_in, world_in}
+use Rattle.gb_meaning.specs.Headline.{Registering}
+use Rattle.gb_meaning.specs.Kinds.{Kinds}
+use Rattle.gb_meaning.specs.Label.{Moment}
+use Rattle.gb_meaning.specs.Turn.{Guard, Standing}
+use Rattle.gb_meaning.proofs.Lemmas.Weaker.{builds_weaker}
+use Rattle.gb_plan.specs.declared.task.TaskDeclaration.{TaskDeclaration as Task}
+use Rattle.gb_report.specs.declared.fault.Fault.{Fault}
+use Rattle.gb_report.specs.declared.fault.Fault.TheVariants as faults
+use Rattle.gb_report.specs.declared.report.Options.{Options}
+use Rattle.gb_build.specs.Leading.{Leads}
+use Rattle.gb_build.proofs.Editing.{cut_before}
+use Rattle.gb_build.proofs.Passing.{setting_by}
+
+module _ (first second : Tearing) (same : SameTearing first second) where
+  stopped_before : (place : Place) (next : Option Bytes) (old new : Shown) (fault : Fault) → IsStopped second place next old fault new → IsStopped first place next old fault new
+  stopped_before place next old new fault (inl memory) = inl memory
+  stopped_before place next old new fault (inr stopped) =
+      inr (record {
+        outside = stopped.outside;
+        rose = stopped.rose;
+        told = stopped.told;
+        torn = (stopped.torn.0, (same place (file_at old.contents.files place) next stopped.torn.0).0 stopped.torn.1, stopped.torn.2);
+      })
+
+  put_before : (place : Place) (bytes : Bytes) (old new : Shown) (answer : Answer) → PutStep second place bytes old answer new → PutStep first place bytes old answer new
+  put_before place bytes old new answers.Edited step = step
+  put_before place bytes old new (answers.Refused fault) (inl stopped) = inl (stopped_before place (Some bytes) old new fault stopped)
+  put_before place bytes old new (answers.Refused fault) (inr refused) = inr refused
+  put_before place bytes old new (answers.Built report) step = step
+  put_before place bytes old new (answers.NotBuilt fault) step = step
+
+  remove_before : (place : Place) (old new : Shown) (answer : Answer) → RemoveStep second place old answer new → RemoveStep first place old answer new
+  remove_before place old new answers.Edited step = step
+  remove_before place old new (answers.Refused fault) (inl stopped) = inl (stopped_before place None old new fault stopped)
+  remove_before place old new (answers.Refused fault) (inr refused) = inr refused
+  remove_before place old new (answers.Built report) step = step
+  remove_before place old new (answers.NotBuilt fault) step = step
+
+  loss_before : (old new : Shown) (answer : Answer) → LossStep second old answer new → LossStep first old answer new
+  loss_before old new answers.Edited step = step
+  loss_before old new (answers.Refused fault) (inl unlisted) = inl unlisted
+  loss_before old new (answers.Refused fault) (inr cut) = inr (cut.0, cut_before first second (places_under old.contents.files own_place) old.contents new.contents fault same cut.1)
+  loss_before old new (answers.Built report) step = step
+  loss_before old new (answers.NotBuilt fault) step = step
+
+  module _ (kinds : Kinds) (registers : Registering) where
+    may_alike : (own : Files) (options : Options) (task : Task) (moment : Moment) (new : Standing) (fault : Fault)
+        → may_come (setting_by kinds registers second) own options task moment new fault → may_come (setting_by kinds registers first) own options task moment new fault
+    may_alike own options task moment new faults.OutOfMemory may = may
+    may_alike own options task moment new (faults.Device place) may = (
+      may.0,
+      may.1,
+      elim may.2 [
+        | inl stands ↦ inl stands
+        | inr torn ↦ inr (torn.0, torn.1, torn.2, torn.3, (same place torn.0 torn.1 _).0 torn.4)
+      ],
+    )
+    may_alike own options task moment new faults.HistoryNotWritten may = may
+    may_alike own options task moment new other may = absurd may
+
+    step_alike : (granted : Guard) (seen : List Bytes) (old : State) (event : Event) (answer : Answer) (new : State)
+        → Step (setting_by kinds registers second) granted seen old event answer new → Step (setting_by kinds registers first) granted seen old event answer new
+    step_alike granted seen old (events.Put place bytes) answer new step = (put_before place bytes (shown_in old) (shown_in new) answer step.0, step.1)
+    step_alike granted seen old (events.Remove place) answer new step = (remove_before place (shown_in old) (shown_in new) answer step.0, step.1)
+    step_alike granted seen old events.Lost answers.Edited new step = (loss_before (shown_in old) (shown_in new) answers.Edited step.0, step.1)
+    step_alike granted seen old events.Lost (answers.Refused fault) new step = (loss_before (shown_in old) (shown_in new) (answers.Refused fault) step.0, step.1)
+    step_alike granted seen old events.Lost (answers.Built report) new step = absurd step.0
+    step_alike granted seen old events.Lost (answers.NotBuilt fault) new step = absurd step.0
+    step_alike granted seen old (events.Invoke invocation) (answers.Built report) new step = record {
+      plan = step.plan;
+      planned = record {
+        registry = step.planned.registry;
+        scripts = step.planned.scripts;
+        request = step.planned.request;
+        asked = step.planned.asked;
+        planned = step.planned.planned;
+      };
+      dry_run = step.dry_run;
+      elsewhere = step.elsewhere;
+      dry_keeps = step.dry_keeps;
+      builds = builds_weaker kinds invocation.options step.plan (may_come (setting_by kinds registers second) (own_files old.contents) invocation.options)
+          (may_come (setting_by kinds registers first) (own_files old.contents) invocation.options) (may_alike (own_files old.contents) invocation.options)
+          granted granted (λ contents given. given) seen old.failures new.failures (world_in old) (world_in new) report.tasks step.builds;
+      success = step.success;
+    }
+    step_alike granted seen old (events.Invoke invocation) (answers.NotBuilt fault) new step = step
+    step_alike granted seen old (events.Invoke invocation) answers.Edited new step = absurd step
+    step_alike granted seen old (events.Invoke invocation) (answers.Refused fault) new step = absurd step
+
+    pub leads_alike : (old : Shown) (event : Event) (answer : Answer) (new : Shown) → Leads (setting_by kinds registers second) old event answer new
+        → Leads (setting_by kinds registers first) old event answer new
+    leads_alike old event answer new leads remembered clear seen worth =
+        let led = leads remembered clear seen worth in
+        record {
+          remembered = led.remembered;
+          step = step_alike _ seen _ event answer _ led.step;
+          stands = led.stands;
+        }

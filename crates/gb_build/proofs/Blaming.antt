@@ -1,0 +1,34 @@
+-- How often events blame the device.
+use Rattle.std.specs.Prelude.{ℕ, ◌≡◌, ◌≤◌, ◌+◌, ◌++◌, List, [], ◌∷◌, Ok, Err}
+use Rattle.std.proofs.Common.{arith, refl, sym, subst, inl, inr}
+use Rattle.gb_folder.specs.Files.{HasRisen}
+use Rattle.gb_meaning.specs.declared.events.Answer.{Answer}
+use Rattle.gb_meaning.specs.Headline.{HasFailed, times_blamed, times_blamed_in_all}
+use Rattle.gb_report.specs.declared.fault.Fault.TheVariants as faults
+use Rattle.gb_store.specs.Faults.{Blames}
+use Rattle.gb_build.specs.Answers.{Edit, edit_answer}
+
+sum_more : (told : List Answer) (answer : Answer) → times_blamed_in_all (told ++ answer ∷ []) ≡ times_blamed_in_all told + times_blamed answer
+sum_more [] answer = omega arith
+sum_more (a ∷ told) answer = let rest = sum_more told answer in omega arith
+
+failed_more : (first second third m n : ℕ) → HasFailed m first second → HasFailed n second third → second ≤ third → HasFailed (m + n) first third
+failed_more first second third m n (inl a) (inl b) le = inl (omega arith)
+failed_more first second third m n (inl a) (inr b) le = inr b
+failed_more first second third m n (inr a) b le = inr (omega arith)
+
+-- an answer more blames the device so often more
+pub blamed_more : (told : List Answer) (answer : Answer) (first second third : ℕ) → HasFailed (times_blamed_in_all told) first second → HasFailed (times_blamed answer) second third → second ≤ third
+    → HasFailed (times_blamed_in_all (told ++ answer ∷ [])) first third
+blamed_more told answer first second third a b le =
+    subst (λ n. HasFailed n first third) (sym (sum_more told answer)) (failed_more first second third (times_blamed_in_all told) (times_blamed answer) a b le)
+
+risen_once : (before after : ℕ) → before ≤ after → HasRisen before after → HasFailed 1 before after
+risen_once before after count (inl more) = inl (omega (arith, more))
+risen_once before after count (inr last) = inr (omega (arith, count, last))
+
+-- an edit that blames the device only where it failed
+pub edit_blames : (edit : Edit) (before after : ℕ) → before ≤ after → Blames edit before after → HasFailed (times_blamed (edit_answer edit)) before after
+edit_blames (Ok done) before after count blames = inl (omega arith)
+edit_blames (Err (faults.Device place)) before after count blames = risen_once before after count (blames place refl)
+edit_blames (Err other) before after count blames = inl (omega arith)

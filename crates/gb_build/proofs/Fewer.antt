@@ -1,0 +1,71 @@
+-- What was seen and what stands there need not be counted twice.
+use Rattle.std.specs.Prelude.{◌≡◌, ◌||◌, ◌++◌, true, List, [], ◌∷◌, Contains, zero, suc, bytes_eq}
+use Rattle.std.specs.Cmp.Lexicographic.{bytes_decides}
+use Rattle.std.proofs.Common.{sym, ap, inl, inr, arith}
+use Rattle.gb_folder.specs.Files.{Bytes}
+use Rattle.gb_meaning.specs.Label.{Moment}
+use Rattle.gb_meaning.specs.Memory.{folder_contents}
+use Rattle.gb_meaning.specs.Turn.{Builds, Guard, Rules, Standing, Turns, first_moment, moment_after}
+use Rattle.gb_meaning.proofs.Lemmas.Clear.{Among, in_left, in_one, in_right, right}
+use Rattle.gb_meaning.proofs.Lemmas.Plain.{Spreads}
+use Rattle.gb_plan.specs.Task.{has_path}
+use Rattle.gb_plan.specs.declared.plan.Planned.{Planned}
+use Rattle.gb_report.specs.declared.report.TaskReport.{TaskReport}
+use Rattle.std.proofs.lemmas.Map.Views.{Contains-from_any}
+use Rattle.gb_build.specs.Leading.{AreAmong}
+
+found : (xs : List Bytes) (c : Bytes) → Contains xs c → has_path xs c ≡ true
+found [] c (k, less, e) = absurd (omega arith)
+found (x ∷ xs) c (zero, less, e) = ap (λ b. b || has_path xs c) ((bytes_decides c x).1 (sym e))
+found (x ∷ xs) c (suc k, less, e) = right (bytes_eq c x) (has_path xs c) (found xs c (k, omega arith, e))
+
+listed : (xs : List Bytes) (c : Bytes) → has_path xs c ≡ true → Contains xs c
+listed xs c e = Contains-from_any (λ x y same. (bytes_decides x y).0 same) c xs e
+
+pub among_of : (some all : List Bytes) → AreAmong some all → Among some all
+among_of some all h c e = found all c (h c (listed some c e))
+
+pub are_among : (some all : List Bytes) → Among some all → AreAmong some all
+are_among some all h c within = listed all c (h c (found some c within))
+
+-- what stands there was counted
+pub here_again : (seen here : List Bytes) → Among (seen ++ here ++ here) (seen ++ here)
+here_again seen here c h = elim (in_one c (seen ++ here) here h) [ inl before ↦ before | inr stands ↦ in_right c seen here stands ]
+
+pub both_more : (some all more : List Bytes) → Among some all → Among (some ++ more) (all ++ more)
+both_more some all more among c h = elim (in_one c some more h) [ inl a ↦ in_left c all more (among c a) | inr b ↦ in_right c all more b ]
+
+pub once_more : (seen here more : List Bytes) → Among (seen ++ here ++ here ++ more) (seen ++ here ++ more)
+once_more seen here more = both_more (seen ++ here ++ here) (seen ++ here) more (here_again seen here)
+
+module _ (rules : Rules) (granted : Guard) (spreads : Spreads granted) where
+  -- turns that count more of what was seen are turns that count less, if it is the same with what stands there
+  turns_fewer : (more seen : List Bytes) (rest : List Planned) (moment : Moment) (reports : List TaskReport) (new : Standing)
+      → Among (more ++ folder_contents moment.world) (seen ++ folder_contents moment.world)
+      → Turns rules granted more rest moment reports new → Turns rules granted seen rest moment reports new
+  turns_fewer more seen [] moment [] new among turns = turns
+  turns_fewer more seen [] moment (report ∷ reports) new among turns = turns
+  turns_fewer more seen (planned ∷ rest) moment [] new among turns = turns
+  turns_fewer more seen (planned ∷ rest) moment (report ∷ reports) new among turns = (
+    turns.0,
+    record {
+      folder = turns.1.folder;
+      files = turns.1.files;
+      odd = turns.1.odd;
+      count = turns.1.count;
+      turn = λ given. turns.1.turn (spreads (seen ++ folder_contents moment.world) (more ++ folder_contents moment.world) among given);
+    },
+    turns_fewer (more ++ folder_contents moment.world) (seen ++ folder_contents moment.world) rest (moment_after moment report turns.0) reports new
+        (both_more (more ++ folder_contents moment.world) (seen ++ folder_contents moment.world) (folder_contents turns.0.world) among) turns.2,
+  )
+
+  -- a build that counts what stands before it among what was seen is one that does not
+  pub builds_fewer : (seen : List Bytes) (old : Standing) (reports : List TaskReport) (new : Standing)
+      → Builds rules granted (seen ++ folder_contents old.world) old reports new → Builds rules granted seen old reports new
+  builds_fewer seen old reports new builds = elim builds [
+    | inl dry ↦ inl dry
+    | inr run ↦ inr (
+      run.0,
+      turns_fewer (seen ++ folder_contents old.world) seen rules.plan (first_moment old) reports new (here_again seen (folder_contents old.world)) run.1,
+    )
+  ]

@@ -1,0 +1,50 @@
+-- What the file at a place says, by how the folder answers.
+use Rattle.std.proofs.Common.{◌≡◌, ◌≢◌, ◌<◌, ◌⊎◌, ℕ, true, false, List, [], Option, None, Some, Result, Ok, Err, IsSomeAnd, length, refl, sym, ap, subst, inl, inr}
+use Rattle.std.specs.Prelude.{MatchResult}
+use Rattle.gb_folder.specs.Files.{Place, Bytes, Files, HasRisen, IsFolder, file_at, is_blocked}
+use Rattle.gb_folder.specs.declared.folder.FolderFault.{FolderFault}
+use Rattle.gb_folder.specs.declared.folder.FolderFault.TheVariants as folders
+use Rattle.gb_report.specs.declared.fault.Fault.{Fault}
+use Rattle.gb_report.specs.declared.fault.Fault.TheVariants as faults
+use Rattle.gb_script.specs.declared.fault.ScriptFault.{ScriptFault}
+use Rattle.gb_script.specs.declared.fault.ScriptFault.TheVariants as scripts
+use Rattle.gb_store.specs.Faults.{IsOfMachine}
+use Rattle.gb_store.proofs.Emptied.{free_at}
+use Rattle.gb_build.specs.Texts.{FileSays, Tells, TextSays, unread_at}
+
+module _ {X : Type 0} (SaysAs : Bytes → Result (List X) ScriptFault → Type 0) (files : Files) (place : Place) where
+  -- the file stands, and its bytes say this
+  said_there : (bytes : Bytes) (said : Result (List X) Fault) → IsFolder files → file_at files place ≡ Some bytes → FileSays SaysAs place (Some bytes) said
+      → TextSays SaysAs files place said
+  said_there bytes said sound stands says =
+      inr (free_at files place bytes sound stands, subst (λ o. FileSays SaysAs place o said) (sym stands) says)
+
+  -- the file stands, and what its bytes say is told
+  pub told_there : (before after : ℕ) (bytes : Bytes) (result : Result (List X) Fault) → IsFolder files → file_at files place ≡ Some bytes
+      → MatchResult result (λ said. SaysAs bytes (Ok said)) (λ fault. (fault ≡ faults.OutOfMemory) ⊎ FileSays SaysAs place (Some bytes) (Err fault))
+      → Tells (TextSays SaysAs files place) before after result
+  told_there before after bytes (Ok said) sound stands says = said_there bytes (Ok said) sound stands says
+  told_there before after bytes (Err fault) sound stands (inl memory) = inl (inl memory)
+  told_there before after bytes (Err fault) sound stands (inr told) = inr (said_there bytes (Err fault) sound stands told)
+
+  -- no file stands there, and none is in the way of one
+  pub nothing_there : (said : List X) → said ≡ [] → file_at files place ≡ None → is_blocked files place ≡ false → TextSays SaysAs files place (Ok said)
+  nothing_there said empty none free = inr (free, subst (λ o. FileSays SaysAs place o (Ok said)) (sym none) (ap Ok empty))
+
+  long_there : IsFolder files → ((bytes : Bytes) → 1048576 < length bytes → SaysAs bytes (Err scripts.TooLong)) → (o : Option Bytes) → file_at files place ≡ o
+      → IsSomeAnd o (λ bytes. 1048576 < length bytes) → TextSays SaysAs files place (Err (faults.TooLong place))
+  long_there sound says None is h = absurd h
+  long_there sound says (Some bytes) is h = said_there bytes (Err (faults.TooLong place)) sound is (scripts.TooLong, says bytes h, refl)
+
+  -- the folder refused, but not for want of a file
+  pub unread_there : (before after : ℕ) (fault : FolderFault) (told : Fault) → IsFolder files → ((bytes : Bytes) → 1048576 < length bytes → SaysAs bytes (Err scripts.TooLong))
+      → (fault ≡ folders.Device → HasRisen before after) → fault ≢ folders.Missing → (fault ≡ folders.Blocked → is_blocked files place ≡ true)
+      → (fault ≡ folders.TooLarge → IsSomeAnd (file_at files place) (λ bytes. 1048576 < length bytes)) → fault ≢ folders.BadFileName → told ≡ unread_at place fault
+      → IsOfMachine before after told ⊎ TextSays SaysAs files place (Err told)
+  unread_there before after folders.OutOfMemory told sound says rose missing blocked large named is = inl (inl is)
+  unread_there before after folders.Device told sound says rose missing blocked large named is = inl (inr (place, is, rose refl))
+  unread_there before after folders.Missing told sound says rose missing blocked large named is = absurd (missing refl)
+  unread_there before after folders.Blocked told sound says rose missing blocked large named is = inr (inl (blocked refl, ap Err is))
+  unread_there before after folders.TooLarge told sound says rose missing blocked large named is =
+      inr (subst (λ f. TextSays SaysAs files place (Err f)) (sym is) (long_there sound says (file_at files place) refl (large refl)))
+  unread_there before after folders.BadFileName told sound says rose missing blocked large named is = absurd (named refl)

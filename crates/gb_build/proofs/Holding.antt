@@ -1,0 +1,218 @@
+-- A build of a plan is a step of a run by its definition.
+use Rattle.std.specs.Prelude.{ℕ, ◌≡◌, ◌≤◌, ◌++◌, ◌&&◌, Bool, true, false, not, List, Err, Ok, Option, Result, IsTrue}
+use Rattle.std.specs.List.{AllZip}
+use Rattle.std.proofs.Common.{refl, sym, ap, subst, ◌∙◌, inl, inr}
+use Rattle.sha2.specs.Sha256.{sha256}
+use Rattle.gb_folder.specs.Files.{Bytes, Contents, Files, IsFolder, SameTearing, Tearing}
+use Rattle.gb_graph.specs.Answer.{IsPlanOf}
+use Rattle.gb_meaning.specs.declared.events.Event.TheVariants as events
+use Rattle.gb_meaning.specs.declared.events.Invocation.{Invocation}
+use Rattle.gb_meaning.specs.Edits.{Shown}
+use Rattle.gb_meaning.specs.Events.{HasPlan, Setting, may_come, own_files, rules_in, world_in}
+use Rattle.gb_meaning.specs.Headline.{StillClear, answer_of, contents_outside, seen_with, state_of}
+use Rattle.gb_meaning.specs.Kinds.{Kinds}
+use Rattle.gb_meaning.specs.Label.{Moment}
+use Rattle.gb_meaning.specs.Memory.{Memory, World}
+use Rattle.gb_meaning.specs.TrueRecord.{memory_contents, outside}
+use Rattle.gb_meaning.specs.Turn.{Builds, Guard, Standing as At}
+use Rattle.gb_meaning.proofs.Lemmas.Clear.{apart_of_fewer}
+use Rattle.gb_meaning.proofs.Lemmas.Plain.{Spreads, plain_builds}
+use Rattle.gb_meaning.proofs.Lemmas.Seen.{remembered_was_seen}
+use Rattle.gb_meaning.proofs.Lemmas.Success.{success_follows, truth_follows}
+use Rattle.gb_meaning.proofs.Lemmas.Weaker.{builds_weaker}
+use Rattle.gb_plan.specs.Graph.{IsRegistry, Plan, Registry, order}
+use Rattle.gb_plan.specs.declared.task.TaskDeclaration.{TaskDeclaration as Task}
+use Rattle.gb_plan.proofs.Tests.{left_of, no_longer, not_true, right_of}
+use Rattle.gb_history.specs.Remembered.{Remembered}
+use Rattle.gb_records.specs.Said.{IsReadAt}
+use Rattle.gb_records.specs.Standing.{Standing}
+use Rattle.gb_records.proofs.Told.{stands_for_memory}
+use Rattle.gb_report.specs.declared.fault.Fault.{Fault}
+use Rattle.gb_report.specs.declared.fault.Fault.TheVariants as faults
+use Rattle.gb_report.specs.declared.report.Options.{Options}
+use Rattle.gb_report.specs.declared.report.Report.{Report}
+use Rattle.gb_store.specs.Changes.{ChangesOnly}
+use Rattle.gb_turn.specs.Turned.{Registering, setting_with}
+use Rattle.gb_exec.specs.Building.{is_of_turns}
+use Rattle.gb_exec.specs.Built.{AreWorth, HasBuilt}
+use Rattle.gb_build.proofs.Changed.{HaveOwnPlaces, records_differ}
+use Rattle.gb_build.specs.Leading.{LeadsTo, StandsSeen}
+use Rattle.gb_build.proofs.Earlier.{builds_since}
+use Rattle.gb_build.proofs.Fewer.{among_of, are_among, builds_fewer, once_more}
+
+-- what may come where a folder tears as another does may come there
+may_alike : (kinds : Kinds) (registry_of : Registering) (may_leave second : Tearing) → SameTearing may_leave second → (own : Files) (options : Options) (task : Task) (moment : Moment) (new : At) (fault : Fault)
+    → may_come (setting_with kinds registry_of second) own options task moment new fault → may_come (setting_with kinds registry_of may_leave) own options task moment new fault
+may_alike kinds registry_of may_leave second alike own options task moment new faults.OutOfMemory may = may
+may_alike kinds registry_of may_leave second alike own options task moment new (faults.Device place) may = (
+  may.0,
+  may.1,
+  elim may.2 [
+    | inl stands ↦ inl stands
+    | inr torn ↦ inr (torn.0, torn.1, torn.2, torn.3, (alike place torn.0 torn.1 _).0 torn.4)
+  ],
+)
+may_alike kinds registry_of may_leave second alike own options task moment new faults.HistoryNotWritten may = may
+may_alike kinds registry_of may_leave second alike own options task moment new other may = absurd may
+
+both : (a b : Bool) → a ≡ true → b ≡ true → (a && b) ≡ true
+both true b e f = f
+both false b e f = not_true e
+
+abbrev said_or : Registry → Result Registry Fault → Registry
+said_or other (Ok registry) = registry
+said_or other (Err fault) = other
+
+module _ (kinds : Kinds) (registry_of : Registering) (may_leave : Tearing) (registry : Registry) (sound : IsRegistry registry)
+    (invocation : Invocation) (plan : Plan) (is_plan : IsPlanOf registry invocation.requested invocation.excluded plan) (own_places : HaveOwnPlaces plan)
+    (old end : Shown) (report : Report) (dry_run : report.dry_run ≡ invocation.options.dry_run) (is_folder : IsFolder end.contents.files)
+    (changes : ChangesOnly (is_of_turns plan) old.contents end.contents) (dry : invocation.options.dry_run ≡ true → end.contents ≡ old.contents)
+    (count : old.failures ≤ end.failures)
+    (scripts : registry_of (outside old.contents).files invocation.properties ≡ Ok registry) where
+  abbrev setting : Setting
+  setting = setting_with kinds registry_of may_leave
+
+  abbrev granted : Bool → Memory → Guard
+  granted clear remembered = StillClear setting (IsTrue clear) (state_of old remembered)
+
+  abbrev IsBuiltTo : Bool → List Bytes → Memory → Memory → Type 0
+  IsBuiltTo clear seen remembered memory =
+      Builds (rules_in setting (own_files old.contents) invocation.options plan) (granted clear remembered) seen
+      (record { world = world_in (state_of old remembered); failures = old.failures }) report.tasks
+      (record { world = world_in (state_of end memory); failures = end.failures })
+
+  abbrev StandAfter : Bool → List Bytes → Memory → Memory → Type 0
+  StandAfter clear seen remembered memory =
+      granted clear remembered (seen_with seen (state_of old remembered) (state_of end memory)) → Standing end.contents.files memory
+
+  spreads : (clear : Bool) (remembered : Memory) → Spreads (granted clear remembered)
+  spreads clear remembered all some among given =
+      (given.0, elim given.1 [ inl empty ↦ inl empty | inr apart ↦ inr (apart_of_fewer sha256 all some among apart) ])
+
+  planned : HasPlan setting (outside old.contents) invocation plan
+  planned = record { registry = registry; scripts = scripts; request = is_plan.0; asked = is_plan.1; planned = is_plan.2 }
+
+  -- a build of the plan from what is remembered to what is, with its records, is a step
+  pub assembled : (remembered memory : Memory) (clear : Bool) (seen : List Bytes) → (IsTrue clear → StandsSeen setting seen (state_of old remembered))
+      → IsBuiltTo clear seen remembered memory → StandAfter clear seen remembered memory
+      → LeadsTo setting clear seen (state_of old remembered) (events.Invoke invocation) (answer_of (Ok report)) end
+  assembled remembered memory clear seen worth builds records = record {
+    remembered = memory;
+    step = record {
+      plan = plan;
+      planned = planned;
+      dry_run = dry_run;
+      elsewhere = records_differ plan own_places old.contents end.contents changes;
+      dry_keeps = λ is_dry. ap own_files (dry (sym dry_run ∙ is_dry));
+      builds = builds;
+      success = λ given none.
+          let all = success_follows one (granted clear remembered) (spreads clear remembered) (λ files properties other is. subst IsRegistry (ap (said_or registry) is) sound)
+          (state_of old remembered) (worth given.0).0 invocation plan planned_so (may_come setting (own_files old.contents) invocation.options) seen end.failures
+          (world_in (state_of end memory)) report.tasks given none builds in
+          (λ wet. all.0 (sym dry_run ∙ wet), all.1);
+    };
+    stands = λ given. (
+      stands_for_memory kinds end.contents memory is_folder
+          (truth_follows one (granted clear remembered) (spreads clear remembered) (state_of old remembered) (worth given.0).0 invocation plan planned_so
+          (may_come setting (own_files old.contents) invocation.options) seen end.failures (world_in (state_of end memory)) report.tasks given builds)
+          (records given),
+      are_among (memory_contents (world_in (state_of end memory))) ((seen ++ here) ++ contents_outside end.contents)
+          (λ c h. once_more seen here (contents_outside end.contents) c
+          (remembered_was_seen kinds invocation.options (may_come setting (own_files old.contents) invocation.options) plan (seen ++ here) old.failures end.failures
+          (world_in (state_of old remembered)) (world_in (state_of end memory)) report.tasks is_plan.2.sound.outputs_apart
+          (among_of (memory_contents (world_in (state_of old remembered))) (seen ++ here) (worth given.0).1)
+          (plain_builds one (granted clear remembered) (spreads clear remembered) (may_come setting (own_files old.contents) invocation.options) invocation.options is_plan.0 plan
+          seen (seen ++ here) old.failures end.failures (world_in (state_of old remembered)) (world_in (state_of end memory)) report.tasks is_plan.2 given builds) c h)),
+    );
+  }
+    where
+      here : List Bytes
+      here = contents_outside old.contents
+
+      one : Setting
+      one = setting_with kinds (λ files properties. Ok registry) may_leave
+
+      planned_so : HasPlan one (outside old.contents) invocation plan
+      planned_so = record { registry = registry; scripts = refl; request = is_plan.0; asked = is_plan.1; planned = is_plan.2 }
+
+  -- what a build of the plan is, by what was read before it in a folder of these contents
+  abbrev pub GivesBuild : Tearing → ℕ → List (Option Remembered) → Contents → Type 0
+  GivesBuild second failures records contents =
+      (remembered : Memory) (clear : Bool) (seen : List Bytes) → (IsTrue clear → AreWorth kinds plan records seen contents remembered)
+      → HasBuilt (setting_with kinds registry_of second) clear seen invocation.options plan
+      (record { contents = contents; remembered = remembered; failures = failures }) report.tasks end
+
+  module _ (mid : Shown) (same : mid.contents ≡ old.contents) (earlier : old.failures ≤ mid.failures) (second : Tearing) (alike : SameTearing may_leave second)
+      (records : List (Option Remembered)) (read : invocation.options.dry_run ≡ false → AllZip (IsReadAt old.contents.files) (order plan) records)
+      (builds : GivesBuild second mid.failures records mid.contents)
+      (remembered : Memory) (clear : Bool) (seen : List Bytes) (worth : IsTrue clear → StandsSeen setting seen (state_of old remembered)) where
+    -- all was clear before, and this is no dry run
+    abbrev reads : Bool
+    reads = clear && not invocation.options.dry_run
+
+    abbrev all_seen : List Bytes
+    all_seen = seen ++ contents_outside old.contents
+
+    abbrev IsBuiltFrom : Type 0
+    IsBuiltFrom =
+        HasBuilt (setting_with kinds registry_of second) reads all_seen invocation.options plan
+        (record { contents = old.contents; remembered = remembered; failures = mid.failures }) report.tasks end
+
+    stood : IsTrue clear → Standing old.contents.files remembered
+    stood is_clear = let stands = (worth is_clear).0 in record { in_order = stands.in_order; of_tasks = stands.of_tasks; records = stands.records }
+
+    -- what is remembered stands in true records, and these were read but in a dry run
+    built_from : IsBuiltFrom
+    built_from =
+        subst (GivesBuild second mid.failures records) same builds remembered reads all_seen
+        (λ ready.
+        let is_clear : IsTrue clear = left_of clear (not invocation.options.dry_run) ready in
+        record {
+          standing = stood is_clear;
+          made = (worth is_clear).0.made;
+          read = read (no_longer invocation.options.dry_run (right_of clear (not invocation.options.dry_run) ready));
+          was_seen = (worth is_clear).1;
+        })
+
+    dry_leads : IsBuiltFrom → invocation.options.dry_run ≡ true
+        → LeadsTo setting clear seen (state_of old remembered) (events.Invoke invocation) (answer_of (Ok report)) end
+    dry_leads built is_dry = elim built.builds [
+      | inl all ↦
+          assembled remembered built.remembered clear seen worth (inl all)
+          (λ given. subst (Standing end.contents.files) (sym (ap (λ (w : World). w.memory) all.2))
+          (subst (λ (c : Contents). Standing c.files remembered) (sym (dry is_dry)) (stood given.0)))
+      | inr run ↦ not_true (sym run.0 ∙ is_dry)
+    ]
+
+    wet_leads : IsBuiltFrom → invocation.options.dry_run ≡ false
+        → LeadsTo setting clear seen (state_of old remembered) (events.Invoke invocation) (answer_of (Ok report)) end
+    wet_leads built wet =
+        let own : Files = own_files old.contents in
+        let first : World = world_in (state_of old remembered) in
+        let last : World = world_in (state_of end built.remembered) in
+        let ready : IsTrue clear → IsTrue reads = λ is_clear. both clear (not invocation.options.dry_run) is_clear (ap not wet) in
+        assembled remembered built.remembered clear seen worth
+        (builds_fewer (rules_in setting own invocation.options plan) (granted clear remembered) (spreads clear remembered) seen
+        (record { world = first; failures = old.failures }) report.tasks (record { world = last; failures = end.failures })
+        (builds_since setting own invocation.options plan old.failures (granted clear remembered) all_seen first mid.failures report.tasks
+        (record { world = last; failures = end.failures }) earlier
+        (builds_weaker kinds invocation.options plan (may_come (setting_with kinds registry_of second) own invocation.options) (may_come setting own invocation.options)
+        (may_alike kinds registry_of may_leave second alike own invocation.options)
+        (StillClear (setting_with kinds registry_of second) (IsTrue reads) (record { contents = old.contents; remembered = remembered; failures = mid.failures }))
+        (granted clear remembered) (λ contents given. (ready given.0, given.1))
+        all_seen mid.failures end.failures first last report.tasks built.builds)))
+        (λ given. built.records (
+          ready given.0,
+          (spreads clear remembered (seen_with seen (state_of old remembered) (state_of end built.remembered))
+              (seen_with all_seen (state_of old remembered) (state_of end built.remembered))
+              (once_more seen (contents_outside old.contents) (contents_outside end.contents)) given).1,
+        ))
+
+    -- a build of the plan by what was read is a step
+    pub built_leads : LeadsTo setting clear seen (state_of old remembered) (events.Invoke invocation) (answer_of (Ok report)) end
+    built_leads = by invocation.options.dry_run refl
+      where
+        by : (b : Bool) → invocation.options.dry_run ≡ b
+            → LeadsTo setting clear seen (state_of old remembered) (events.Invoke invocation) (answer_of (Ok report)) end
+        by true is_dry = dry_leads built_from is_dry
+        by false wet = wet_leads built_from wet

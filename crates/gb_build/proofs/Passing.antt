@@ -1,0 +1,153 @@
+-- An invocation passes to what scripts register elsewhere, if here they register the same.
+use Rattle.std.specs.Prelude.{ℕ, ◌≡◌, ◌≤◌, Bool, IsTrue, List, Err, Ok, Result}
+use Rattle.std.proofs.Common.{refl, sym, subst, inl, inr}
+use Rattle.sha2.specs.Sha256.{sha256}
+use Rattle.gb_folder.specs.Files.{Contents, Files, SameTearing, Tearing}
+use Rattle.gb_folder.proofs.Changes.{HasRisen-before}
+use Rattle.gb_history.specs.Places.{record_place}
+use Rattle.gb_meaning.specs.declared.events.Answer.TheVariants as answers
+use Rattle.gb_meaning.specs.declared.events.Event.TheVariants as events
+use Rattle.gb_meaning.specs.declared.events.Invocation.{Invocation}
+use Rattle.gb_meaning.specs.Edits.{Shown}
+use Rattle.gb_meaning.specs.Events.{HasPlan, IsBuild, IsNotBuilt, Setting, State, Step, may_come, own_files, world_in}
+use Rattle.gb_meaning.specs.Headline.{Registering, StillClear, answer_of, state_of}
+use Rattle.gb_meaning.specs.Kinds.{Kinds}
+use Rattle.gb_meaning.specs.Label.{Moment}
+use Rattle.gb_meaning.specs.Memory.{Memory}
+use Rattle.gb_meaning.specs.TrueRecord.{outside}
+use Rattle.gb_meaning.specs.Turn.{Guard, Standing as At}
+use Rattle.gb_meaning.proofs.Lemmas.Weaker.{builds_weaker}
+use Rattle.gb_build.specs.Leading.{Leads, LeadsTo}
+use Rattle.gb_build.proofs.Earlier.{builds_since}
+use Rattle.gb_build.proofs.Leading.{nothing_leads}
+use Rattle.gb_plan.specs.Graph.{Plan, Registry}
+use Rattle.gb_plan.specs.declared.task.TaskDeclaration.{TaskDeclaration as Task}
+use Rattle.gb_records.specs.Said.{IsText, text_of}
+use Rattle.gb_report.specs.declared.fault.Fault.{Fault}
+use Rattle.gb_report.specs.declared.fault.Fault.TheVariants as faults
+use Rattle.gb_report.specs.declared.report.Options.{Options}
+use Rattle.gb_report.specs.declared.report.Report.{Report}
+
+-- what an invocation is about, where scripts register so
+abbrev pub setting_by : Kinds → Registering → Tearing → Setting
+setting_by kinds registers may_leave = record {
+  kinds = kinds;
+  registers = registers;
+  digest = sha256;
+  says = IsText;
+  record_place = record_place;
+  record_text = text_of;
+  may_leave = may_leave;
+}
+
+-- scripts that register these tasks in every folder
+abbrev pub always : Registry → Registering
+always registry files given said = Ok registry ≡ said
+
+-- the contents and the count of failures that a folder shows
+abbrev pub shows : Contents → ℕ → Shown
+shows contents failures = record { contents = contents; failures = failures }
+
+module _ (kinds : Kinds) (registry : Registry) (registers : Registering) (may_leave second : Tearing) (alike : SameTearing may_leave second)
+    (invocation : Invocation) (contents : Contents) (before later : ℕ) (earlier : before ≤ later)
+    (says : registers (outside contents).files invocation.properties (Ok registry)) where
+  abbrev one : Setting
+  one = setting_by kinds (always registry) second
+
+  abbrev two : Setting
+  two = setting_by kinds registers may_leave
+
+  abbrev from_later : Memory → State
+  from_later remembered = state_of (shows contents later) remembered
+
+  abbrev from_before : Memory → State
+  from_before remembered = state_of (shows contents before) remembered
+
+  -- what may come where a folder tears as another does may come there
+  may_alike : (own : Files) (options : Options) (task : Task) (moment : Moment) (new : At) (fault : Fault)
+      → may_come one own options task moment new fault → may_come two own options task moment new fault
+  may_alike own options task moment new faults.OutOfMemory may = may
+  may_alike own options task moment new (faults.Device place) may = (
+    may.0,
+    may.1,
+    elim may.2 [
+      | inl stands ↦ inl stands
+      | inr torn ↦ inr (torn.0, torn.1, torn.2, torn.3, (alike place torn.0 torn.1 _).0 torn.4)
+    ],
+  )
+  may_alike own options task moment new faults.HistoryNotWritten may = may
+  may_alike own options task moment new other may = absurd may
+
+  planned_too : (plan : Plan) → HasPlan one (outside contents) invocation plan → HasPlan two (outside contents) invocation plan
+  planned_too plan is = record {
+    registry = is.registry;
+    scripts = subst (registers (outside contents).files invocation.properties) is.scripts says;
+    request = is.request;
+    asked = is.asked;
+    planned = is.planned;
+  }
+
+  module _ (remembered : Memory) (clear : Bool) (seen : List (List ℕ)) where
+    abbrev granted : Guard
+    granted = StillClear two (IsTrue clear) (from_before remembered)
+
+    build_too : (report : Report) (new : State) → IsBuild one granted seen (from_later remembered) invocation report new → IsBuild two granted seen (from_before remembered) invocation report new
+    build_too report new is = record {
+      plan = is.plan;
+      planned = planned_too is.plan is.planned;
+      dry_run = is.dry_run;
+      elsewhere = is.elsewhere;
+      dry_keeps = is.dry_keeps;
+      builds =
+          builds_since two (own_files contents) invocation.options is.plan before granted seen (world_in (from_before remembered)) later report.tasks
+          (record { world = world_in new; failures = new.failures }) earlier
+          (builds_weaker kinds invocation.options is.plan (may_come one (own_files contents) invocation.options) (may_come two (own_files contents) invocation.options)
+          (may_alike (own_files contents) invocation.options) granted granted (λ contents given. given)
+          seen later new.failures (world_in (from_before remembered)) (world_in new) report.tasks is.builds);
+      success = is.success;
+    }
+
+    refusal_too : (fault : Fault) (after : ℕ) → later ≤ after → IsNotBuilt (always registry) (shows contents later) invocation fault after → IsNotBuilt registers (shows contents before) invocation fault after
+    refusal_too fault after count (inl said) = absurd (cc)
+    refusal_too fault after count (inr (inl (other, scripts, refused))) =
+        inr (inl (other, subst (registers (outside contents).files invocation.properties) scripts says, refused))
+    refusal_too fault after count (inr (inr (inl out))) = inr (inr (inl out))
+    refusal_too fault after count (inr (inr (inr (place, first, (risen, is))))) = inr (inr (inr (place, first, (HasRisen-before before later after earlier count risen, is))))
+
+    step_too : (result : Result Report Fault) (next : State) → later ≤ next.failures
+        → Step one granted seen (from_later remembered) (events.Invoke invocation) (answer_of result) next
+        → Step two granted seen (from_before remembered) (events.Invoke invocation) (answer_of result) next
+    step_too (Ok report) next count is = build_too report next is
+    step_too (Err fault) next count (why, same, kept) = (refusal_too fault next.failures count why, same, kept)
+
+    led_too : (result : Result Report Fault) (end : Shown) → later ≤ end.failures
+        → LeadsTo one clear seen (from_later remembered) (events.Invoke invocation) (answer_of result) end
+        → LeadsTo two clear seen (from_before remembered) (events.Invoke invocation) (answer_of result) end
+    led_too result end count led = record {
+      remembered = led.remembered;
+      step = step_too result (state_of end led.remembered) count led.step;
+      stands = led.stands;
+    }
+
+  -- an invocation after the scripts were read leads on as one from before
+  pub since_read : (result : Result Report Fault) (end : Shown) → later ≤ end.failures
+      → Leads one (shows contents later) (events.Invoke invocation) (answer_of result) end
+      → Leads two (shows contents before) (events.Invoke invocation) (answer_of result) end
+  since_read result end count leads remembered clear seen worth =
+      led_too remembered clear seen result end count (leads remembered clear seen worth)
+
+-- ---- Refusals
+
+-- an invocation that is not built, and changed nothing
+pub refused_leads : (setting : Setting) (old end : Shown) (invocation : Invocation) (fault : Fault)
+    → IsNotBuilt setting.registers old invocation fault end.failures
+    → end.contents ≡ old.contents → (result : Result Report Fault) → result ≡ Err fault → Leads setting old (events.Invoke invocation) (answer_of result) end
+refused_leads setting old end invocation fault why same result is =
+    subst (λ (r : Result Report Fault). Leads setting old (events.Invoke invocation) (answer_of r) end) (sym is)
+    (λ remembered clear seen worth. nothing_leads setting old end (events.Invoke invocation) (answers.NotBuilt fault) same remembered clear seen worth
+    (why, same, refl))
+
+-- memory ran out
+pub out_of_memory : (setting : Setting) (old end : Shown) (invocation : Invocation) (fault : Fault) → fault ≡ faults.OutOfMemory
+    → end.contents ≡ old.contents → (result : Result Report Fault) → result ≡ Err fault → Leads setting old (events.Invoke invocation) (answer_of result) end
+out_of_memory setting old end invocation fault out = refused_leads setting old end invocation fault (inr (inr (inl out)))

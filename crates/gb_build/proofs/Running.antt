@@ -1,0 +1,153 @@
+-- Runs of events, one event more at a time.
+use Rattle.std.specs.Prelude.{ℕ, ◌≡◌, ◌≤◌, ◌<◌, ◌++◌, ◌⊎◌, Bool, true, false, IfOk, IsTrue, List, [], ◌∷◌, Err, Ok, Result, length, suc, take, zero, ⊤}
+use Rattle.std.specs.List.{AllZip}
+use Rattle.std.proofs.Common.{arith, refl, sym, ap, subst, ◌∙◌, inl, inr, append_assoc}
+use Rattle.std.proofs.lemmas.List.{append-nil, length-take-le}
+use Rattle.std.proofs.Math.Seq.{take-nil}
+use Rattle.gb_folder.specs.Files.{Bytes, Contents}
+use Rattle.gb_meaning.specs.declared.events.Answer.{Answer}
+use Rattle.gb_meaning.specs.declared.events.Answer.TheVariants as answers
+use Rattle.gb_meaning.specs.declared.events.Event.{Event}
+use Rattle.gb_meaning.specs.declared.events.Event.TheVariants as events
+use Rattle.gb_meaning.specs.declared.events.Invocation.{Invocation}
+use Rattle.gb_meaning.specs.Edits.{Shown}
+use Rattle.gb_meaning.specs.Events.{Setting, State, world_in}
+use Rattle.gb_meaning.specs.Headline.{AllKeepElsewhere, Ear, EventKeeps, EventsHold, HaveHeardAll, Registering, RunHolds, StillClear, answer_of, contents_outside, seen_with, state_of}
+use Rattle.gb_meaning.specs.Memory.{Memory}
+use Rattle.gb_meaning.specs.Outline.{IsOutlined}
+use Rattle.gb_report.specs.declared.fault.Fault.{Fault}
+use Rattle.gb_report.specs.declared.report.Report.{Report}
+use Rattle.gb_meaning.specs.TrueRecord.{memory_contents}
+use Rattle.gb_exec.proofs.Clearly.{clear_or_not}
+use Rattle.gb_plan.proofs.Tests.{not_true}
+use Rattle.gb_build.specs.Leading.{Leads, StandsSeen}
+use Rattle.gb_build.proofs.Leading.{seen_more, step_weaker}
+use Rattle.gb_build.specs.Answers.{AnswerIsOutlined, Edit, edit_answer}
+
+-- ---- Runs
+
+-- a run is one too where less is clear
+run_weaker : (setting : Setting) (one other : Type 0) → (other → one) → (seen : List Bytes) (old : State) (all : List Event) (told : List Answer) (end : Shown)
+    → RunHolds setting one seen old all told end → RunHolds setting other seen old all told end
+run_weaker setting one other weaker seen old [] [] end run = run
+run_weaker setting one other weaker seen old [] (answer ∷ others) end run = run
+run_weaker setting one other weaker seen old (event ∷ rest) [] end run = run
+run_weaker setting one other weaker seen old (event ∷ rest) (answer ∷ others) end run = (
+  run.0,
+  run.1,
+  step_weaker setting (StillClear setting one old) (StillClear setting other old) (λ contents given. (weaker given.0, given.1)) seen old event answer run.0 run.2,
+  λ given. run.3 (weaker given.0, given.1),
+  run_weaker setting (StillClear setting one old (seen_with seen old run.0)) (StillClear setting other old (seen_with seen old run.0))
+      (λ given. (weaker given.0, given.1)) (seen ++ contents_outside old.contents) run.0 rest others end run.4,
+)
+
+-- a run of these events from what a folder shows, whatever is remembered
+abbrev pub RunsFrom : Setting → Shown → List Event → List Answer → Shown → Type 0
+RunsFrom setting old all told end =
+    (remembered : Memory) (clear : Bool) (seen : List Bytes) → (IsTrue clear → StandsSeen setting seen (state_of old remembered))
+    → RunHolds setting (IsTrue clear) seen (state_of old remembered) all told end
+
+yes_of : {X : Type 0} → X ⊎ (¬ X) → Bool
+yes_of (inl is) = true
+yes_of (inr is_not) = false
+
+is_so : {X : Type 0} (decided : X ⊎ (¬ X)) → yes_of decided ≡ true → X
+unfolding yes_of
+is_so (inl is) e = is
+is_so (inr is_not) e = not_true e
+
+is_yes : {X : Type 0} (decided : X ⊎ (¬ X)) → X → yes_of decided ≡ true
+unfolding yes_of
+is_yes (inl is) x = refl
+is_yes (inr is_not) x = absurd (is_not x)
+
+-- an event, and then a run
+pub runs_on : (setting : Setting) (old mid end : Shown) (event : Event) (answer : Answer) (rest : List Event) (others : List Answer) → old.failures ≤ mid.failures
+    → Leads setting old event answer mid → RunsFrom setting mid rest others end → RunsFrom setting old (event ∷ rest) (answer ∷ others) end
+runs_on setting old mid end event answer rest others count leads runs remembered clear seen worth =
+    let start : State = state_of old remembered in
+    let led = leads remembered clear seen worth in
+    let next : State = state_of mid led.remembered in
+    let decided = clear_or_not setting start clear (seen_with seen start next) in (
+      next,
+      count,
+      led.step,
+      λ given. (led.stands given).0,
+      run_weaker setting (IsTrue (yes_of decided)) (StillClear setting (IsTrue clear) start (seen_with seen start next)) (is_yes decided)
+          (seen ++ contents_outside old.contents) next rest others end
+          (runs led.remembered (yes_of decided) (seen ++ contents_outside old.contents) (λ yes. led.stands (is_so decided yes))),
+    )
+
+pub runs_nowhere : (setting : Setting) (old : Shown) → RunsFrom setting old [] [] old
+runs_nowhere setting old remembered clear seen worth = (omega arith, refl)
+
+-- a run from whatever true records stand
+pub runs_hold : (setting : Setting) (old end : Shown) (all : List Event) (told : List Answer) → RunsFrom setting old all told end → EventsHold setting old all told end
+runs_hold setting old end all told runs remembered stands =
+    let seen : List Bytes = memory_contents (world_in (state_of old remembered)) in
+    run_weaker setting (IsTrue true) ⊤ (λ _. refl) seen (state_of old remembered) all told end
+    (runs remembered true seen (λ _. (stands, seen_more seen seen (contents_outside old.contents) (λ bytes within. within))))
+
+-- ---- What changes
+
+pub keeps_more : (registers : Registering) (all : List Event) (told : List Answer) (event : Event) (answer : Answer) (old mid new : Contents) → length all ≡ length told
+    → AllKeepElsewhere registers all told old mid → EventKeeps registers event answer mid new → AllKeepElsewhere registers (all ++ event ∷ []) (told ++ answer ∷ []) old new
+keeps_more registers [] [] event answer old mid new same keeps more = (new, subst (λ (c : Contents). EventKeeps registers event answer c new) keeps more, refl)
+keeps_more registers [] (a ∷ told) event answer old mid new same keeps more = absurd (cc)
+keeps_more registers (e ∷ all) [] event answer old mid new same keeps more = absurd (cc)
+keeps_more registers (e ∷ all) (a ∷ told) event answer old mid new same keeps more =
+    (keeps.0, keeps.1, keeps_more registers all told event answer keeps.0 mid new (omega (arith, same)) keeps.2 more)
+
+-- ---- What is heard
+
+pub heard_more : (told : List Answer) (answer : Answer) (old mid new : List Ear) → HaveHeardAll told old mid → HaveHeardAll (answer ∷ []) mid new → HaveHeardAll (told ++ answer ∷ []) old new
+heard_more [] answer old mid new heard more = subst (λ (ears : List Ear). HaveHeardAll (answer ∷ []) ears new) heard more
+heard_more (answers.Edited ∷ told) answer old mid new heard more = heard_more told answer old mid new heard more
+heard_more (answers.Refused fault ∷ told) answer old mid new heard more = heard_more told answer old mid new heard more
+heard_more (answers.Built report ∷ told) answer old mid new heard more = (heard.0, heard.1, heard_more told answer heard.0 mid new heard.2 more)
+heard_more (answers.NotBuilt fault ∷ told) answer old mid new heard more = heard_more told answer old mid new heard more
+
+-- ---- What is told over any folder
+
+pub outlined_more : (all : List Event) (told : List Answer) (event : Event) (answer : Answer) → AllZip AnswerIsOutlined all told → AnswerIsOutlined event answer
+    → AllZip AnswerIsOutlined (all ++ event ∷ []) (told ++ answer ∷ [])
+outlined_more [] [] event answer outlined more = (more, tt)
+outlined_more [] (a ∷ told) event answer outlined more = absurd outlined
+outlined_more (e ∷ all) [] event answer outlined more = absurd outlined
+outlined_more (e ∷ all) (a ∷ told) event answer outlined more = (outlined.0, outlined_more all told event answer outlined.1 more)
+
+pub report_outlined : (invocation : Invocation) (result : Result Report Fault) → IfOk result (IsOutlined invocation) → AnswerIsOutlined (events.Invoke invocation) (answer_of result)
+report_outlined invocation (Ok report) outlined = outlined
+report_outlined invocation (Err fault) outlined = tt
+
+pub edit_outlined : (event : Event) (edit : Edit) → AnswerIsOutlined event (edit_answer edit)
+edit_outlined (events.Put place bytes) (Ok done) = tt
+edit_outlined (events.Put place bytes) (Err fault) = tt
+edit_outlined (events.Remove place) (Ok done) = tt
+edit_outlined (events.Remove place) (Err fault) = tt
+edit_outlined events.Lost (Ok done) = tt
+edit_outlined events.Lost (Err fault) = tt
+edit_outlined (events.Invoke invocation) (Ok done) = tt
+edit_outlined (events.Invoke invocation) (Err fault) = tt
+
+-- ---- Lists, one element more
+
+pub more_ahead : (setting : Setting) (old end : Shown) (all : List Event) (event : Event) (rest : List Event) (told : List Answer) (answer : Answer) (others : List Answer)
+    → RunsFrom setting old (all ++ event ∷ rest) (told ++ answer ∷ others) end → RunsFrom setting old (all ++ event ∷ [] ++ rest) (told ++ answer ∷ [] ++ others) end
+more_ahead setting old end all event rest told answer others runs =
+    subst (λ (events : List Event). RunsFrom setting old events (told ++ answer ∷ [] ++ others) end) (sym (append_assoc all (event ∷ []) rest))
+    (subst (λ (answers : List Answer). RunsFrom setting old (all ++ event ∷ rest) answers end) (sym (append_assoc told (answer ∷ []) others)) runs)
+
+pub taken_all : {X Y : Type 0} (index : ℕ) (xs : List X) (ys : List Y) → length ys ≡ index → index < length xs → length (take index xs) ≡ length ys
+taken_all index xs ys same less = length-take-le index xs (omega (arith, less)) ∙ sym same
+
+pub take_all : {X : Type 0} (index : ℕ) (xs : List X) → length xs ≤ index → take index xs ≡ xs
+take_all index [] less = take-nil index
+take_all zero (x ∷ xs) less = absurd (omega arith)
+take_all (suc index) (x ∷ xs) less = ap (λ rest. x ∷ rest) (take_all index xs (omega (arith, less)))
+
+pub to_the_end : (setting : Setting) (old end : Shown) (index : ℕ) (all : List Event) (told : List Answer) → length all ≤ index
+    → RunsFrom setting old (take index all ++ []) (told ++ []) end → RunsFrom setting old all told end
+to_the_end setting old end index all told less runs =
+    subst (λ (events : List Event). RunsFrom setting old events told end) (append-nil (take index all) ∙ take_all index all less)
+    (subst (λ (answers : List Answer). RunsFrom setting old (take index all ++ []) answers end) (append-nil told) runs)

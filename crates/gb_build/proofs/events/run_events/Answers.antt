@@ -1,0 +1,100 @@
+use Rattle.std.proofs.Common.{arith, ◌≡◌, List, [], ◌∷◌, ◌++◌, ◌+◌, map, take, sym, ap, subst, ◌∙◌}
+use Rattle.std.proofs.lemmas.List.{take_more}
+use Rattle.std.specs.List.{AllZip}
+use Rattle.gb_folder.proofs.Changes.{SameTearing-chain}
+use Rattle.gb_build.specs.Registering.{registers_in}
+use Rattle.gb_build.proofs.Planning.{tears_alike}
+use Rattle.gb_meaning.proofs.Lemmas.Plain.{headline}
+use Rattle.gb_meaning.specs.declared.events.Answer.{Answer}
+use Rattle.gb_meaning.specs.declared.events.Event.{Event}
+use Rattle.gb_meaning.specs.Edits.{Shown}
+use Rattle.gb_meaning.specs.Headline.{AllKeepElsewhere, HasFailed, HaveHeardAll, times_blamed_in_all}
+use Rattle.gb_registry.specs.Tables.{tables_of}
+use Rattle.gb_build.specs.Answers.{AnswerIsOutlined}
+use Rattle.gb_build.proofs.Alike.{leads_alike}
+use Rattle.gb_build.proofs.Blaming.{blamed_more}
+use Rattle.gb_build.proofs.Editing.{shows}
+use Rattle.gb_build.proofs.Passing.{setting_by}
+use Rattle.gb_build.proofs.Running.{RunsFrom, heard_more, keeps_more, more_ahead, outlined_more, runs_hold, runs_nowhere, runs_on, take_all, taken_all, to_the_end}
+use Rattle.gb_build.specs.EventAsked.{EventsAsk}
+use Rattle.gb_build.proofs.EventAsked.{asks_more_events}
+use Rattle.gb_build.proofs.events.run_events.Goals as goal
+
+pub loop-event-preserved : goal.loop-event-preserved
+loop-event-preserved g c =
+    let F = g.F.Folder in
+    let ear = g.L.TaskListener.ear in
+    let registers = registers_in (tables_of g.T.Transforms.meanings g.A.Actions.meanings c.args.tables.now) in
+    let first = F.may_leave c.args.folder.now in
+    let second = F.may_leave c.loop-event.folder in
+    let so_far = c.loop-event.invariant in
+    let index = c.loop-event.event-index in
+    let start : Shown = shows (F.contents c.args.folder.now) (F.failures c.args.folder.now) in
+    let here : Shown = shows (F.contents c.loop-event.folder) (F.failures c.loop-event.folder) in
+    let next : Shown = shows (F.contents c.take.new.folder) (F.failures c.take.new.folder) in
+    let items : c.push.new.self.items ≡ c.loop-event.answers.items ++ c.take.result ∷ [] = c.in_ok-push.ensures.items in
+    let taken_here = ap (λ event. take index c.args.events.now ++ event ∷ []) c.event-item.is ∙ sym (take_more c.args.events.now index c.event-item.result c.loop-event-test.true) in
+    record {
+      room = omega (arith, c.push.ensures.capacity, so_far.room);
+      long = omega (arith, c.in_ok-push.ensures.len, so_far.long);
+      each = grind arith;
+      count = omega (arith, so_far.count, c.take.ensures.count);
+      tearing = SameTearing-chain first second (F.may_leave c.take.new.folder) so_far.tearing c.take.ensures.tearing;
+      device = subst (λ (told : List Answer). HasFailed (times_blamed_in_all told) start.failures next.failures) (sym items)
+          (blamed_more c.loop-event.answers.items c.take.result start.failures here.failures next.failures so_far.device c.take.ensures.device c.take.ensures.count);
+      heard = subst (λ (told : List Answer). HaveHeardAll told (map ear c.args.listeners.now.items) (map ear c.take.new.listeners.items)) (sym items)
+          (heard_more c.loop-event.answers.items c.take.result _ _ _ so_far.heard c.take.ensures.heard);
+      outlined = subst (λ (told : List Answer). AllZip AnswerIsOutlined (take (index + 1) c.args.events.now) told) (sym items)
+          (subst (λ (events : List Event). AllZip AnswerIsOutlined events (c.loop-event.answers.items ++ c.take.result ∷ [])) taken_here
+          (outlined_more (take index c.args.events.now) c.loop-event.answers.items c.event-item.result c.take.result so_far.outlined c.take.ensures.outlined));
+      asks =
+          subst (λ (told : List Answer). EventsAsk F.failures F.may_leave F.asked g.A.Actions.meanings c.args.tables.now.actions (take (index + 1) c.args.events.now) told c.args.folder.now c.take.new.folder) (sym items)
+          (subst (λ (events : List Event). EventsAsk F.failures F.may_leave F.asked g.A.Actions.meanings c.args.tables.now.actions events (c.loop-event.answers.items ++ c.take.result ∷ []) c.args.folder.now c.take.new.folder) taken_here
+          (asks_more_events g.F.Folder.failures g.F.Folder.may_leave g.F.Folder.asked g.A.Actions.meanings c.args.tables.now.actions (take index c.args.events.now) c.loop-event.answers.items c.event-item.result c.take.result c.args.folder.now c.loop-event.folder c.take.new.folder
+          (taken_all index c.args.events.now c.loop-event.answers.items so_far.each c.loop-event-test.true) so_far.asks c.take.ensures.asks));
+      elsewhere = λ tells.
+          subst (λ (told : List Answer). AllKeepElsewhere registers (take (index + 1) c.args.events.now) told start.contents next.contents) (sym items)
+          (subst (λ (events : List Event). AllKeepElsewhere registers events (c.loop-event.answers.items ++ c.take.result ∷ []) start.contents next.contents) taken_here
+          (keeps_more registers (take index c.args.events.now) c.loop-event.answers.items c.event-item.result c.take.result start.contents here.contents next.contents
+          (taken_all index c.args.events.now c.loop-event.answers.items so_far.each c.loop-event-test.true) (so_far.elsewhere tells) (c.take.ensures.keeps tells)));
+      holds = λ tells kinds agrees tears rest others end runs.
+          let setting = setting_by kinds registers first in
+          subst (λ (told : List Answer). RunsFrom setting start (take (index + 1) c.args.events.now ++ rest) (told ++ others) end) (sym items)
+          (subst (λ (events : List Event). RunsFrom setting start (events ++ rest) (c.loop-event.answers.items ++ c.take.result ∷ [] ++ others) end) taken_here
+          (more_ahead setting start end (take index c.args.events.now) c.event-item.result rest c.loop-event.answers.items c.take.result others
+          (so_far.holds tells kinds agrees tears (c.event-item.result ∷ rest) (c.take.result ∷ others) end
+          (runs_on setting here next end c.event-item.result c.take.result rest others c.take.ensures.count
+          (leads_alike first second so_far.tearing kinds registers here c.event-item.result c.take.result next
+          (c.take.ensures.leads tells kinds agrees (tears_alike first second so_far.tearing tears))) runs))));
+    }
+
+pub returns-clause-holds : goal.returns-clause-holds
+returns-clause-holds g c = λ tells kinds agrees tears.
+    let F = g.F.Folder in
+    let registers = registers_in (tables_of g.T.Transforms.meanings g.A.Actions.meanings c.args.tables.now) in
+    let setting = setting_by kinds registers (F.may_leave c.args.folder.now) in
+    let so_far = c.loop-event.invariant in
+    let start : Shown = shows (F.contents c.args.folder.now) (F.failures c.args.folder.now) in
+    let end : Shown = shows (F.contents c.loop-event.folder) (F.failures c.loop-event.folder) in
+    runs_hold setting start end c.args.events.now c.loop-event.answers.items
+    (to_the_end setting start end c.loop-event.event-index c.args.events.now c.loop-event.answers.items c.loop-event-test.false
+    (so_far.holds tells kinds agrees tears [] [] end (runs_nowhere setting end)))
+
+pub returns-clause-outlined : goal.returns-clause-outlined
+returns-clause-outlined g c =
+    subst (λ (events : List Event). AllZip AnswerIsOutlined events c.loop-event.answers.items) (take_all c.loop-event.event-index c.args.events.now c.loop-event-test.false)
+    c.loop-event.invariant.outlined
+
+pub returns-clause-promise : goal.returns-clause-promise
+returns-clause-promise g c = λ tells kinds agrees tears.
+    let F = g.F.Folder in
+    let registers = registers_in (tables_of g.T.Transforms.meanings g.A.Actions.meanings c.args.tables.now) in
+    headline (setting_by kinds registers (F.may_leave c.args.folder.now)) (shows (F.contents c.args.folder.now) (F.failures c.args.folder.now))
+    (shows (F.contents c.loop-event.folder) (F.failures c.loop-event.folder)) c.args.events.now c.loop-event.answers.items
+    (returns-clause-holds g c tells kinds agrees tears)
+
+pub returns-clause-asks : goal.returns-clause-asks
+returns-clause-asks g c =
+    let F = g.F.Folder in
+    subst (λ (events : List Event). EventsAsk F.failures F.may_leave F.asked g.A.Actions.meanings c.args.tables.now.actions events c.loop-event.answers.items c.args.folder.now c.loop-event.folder)
+    (take_all c.loop-event.event-index c.args.events.now c.loop-event-test.false) c.loop-event.invariant.asks

@@ -1,0 +1,42 @@
+use Rattle.std.proofs.Common.{◌≡◌, ◌≤◌, ◌++◌, List, IsTrue, length, map, take, vec_len}
+use Rattle.std.specs.List.{AllZip}
+use Rattle.std.specs.Vec.{vec_capacity}
+use Rattle.gb_folder.specs.Files.{SameTearing}
+use Rattle.gb_history.specs.Places.{record_place}
+use Rattle.gb_build.specs.Registering.{registers_in}
+use Rattle.gb_meaning.specs.declared.events.Answer.{Answer}
+use Rattle.gb_meaning.specs.declared.events.Event.{Event}
+use Rattle.gb_meaning.specs.Edits.{Shown}
+use Rattle.gb_meaning.specs.Headline.{Agrees, AllKeepElsewhere, HasFailed, HaveHeardAll, TearsAreSeen, times_blamed_in_all}
+use Rattle.gb_meaning.specs.Kinds.{Kinds}
+use Rattle.gb_records.specs.Said.{IsText}
+use Rattle.gb_registry.specs.Tables.{tables_of}
+use Rattle.gb_build.specs.EventAsked.{EventsAsk}
+use Rattle.gb_build.specs.Answers.{AnswerIsOutlined}
+use Rattle.gb_build.proofs.Editing.{shows}
+use Rattle.gb_build.proofs.Passing.{setting_by}
+use Rattle.gb_build.proofs.Running.{RunsFrom}
+use Rattle.gb_build.proofs.events.run_events.Given as goal
+
+abbrev pub invariant-loop-event : goal.invariant-loop-event
+invariant-loop-event g l =
+    let F = g.F.Folder in
+    let tables = tables_of g.T.Transforms.meanings g.A.Actions.meanings l.tables in
+    record {
+      room : length l.events ≤ vec_capacity l.answers;
+      long : vec_len l.answers ≡ l.event-index;
+      each : length l.answers.items ≡ l.event-index;
+      count : F.failures l.fn.folder ≤ F.failures l.folder;
+      tearing : SameTearing (F.may_leave l.fn.folder) (F.may_leave l.folder);
+      asks : EventsAsk F.failures F.may_leave F.asked g.A.Actions.meanings l.tables.actions (take l.event-index l.events) l.answers.items l.fn.folder l.folder;
+      device : HasFailed (times_blamed_in_all l.answers.items) (F.failures l.fn.folder) (F.failures l.folder);
+      heard : HaveHeardAll l.answers.items (map g.L.TaskListener.ear l.fn.listeners.items) (map g.L.TaskListener.ear l.listeners.items);
+      outlined : AllZip AnswerIsOutlined (take l.event-index l.events) l.answers.items;
+      elsewhere : IsTrue F.tells → AllKeepElsewhere (registers_in tables) (take l.event-index l.events) l.answers.items (F.contents l.fn.folder) (F.contents l.folder);
+      -- whatever run goes on from here, these events and it are one run
+      holds : IsTrue F.tells → (kinds : Kinds) → Agrees g.A.Actions.meanings l.tables.actions kinds → TearsAreSeen IsText record_place (F.may_leave l.fn.folder)
+          → (rest : List Event) (others : List Answer) (end : Shown)
+          → RunsFrom (setting_by kinds (registers_in tables) (F.may_leave l.fn.folder)) (shows (F.contents l.folder) (F.failures l.folder)) rest others end
+          → RunsFrom (setting_by kinds (registers_in tables) (F.may_leave l.fn.folder)) (shows (F.contents l.fn.folder) (F.failures l.fn.folder))
+          (take l.event-index l.events ++ rest) (l.answers.items ++ others) end;
+    }

@@ -1,0 +1,33 @@
+use Rattle.std.proofs.Common.{[], refl, subst}
+use Rattle.gb_folder.specs.Files.{Contents, Files}
+use Rattle.gb_history.specs.Places.{record_place}
+use Rattle.gb_build.specs.Registering.{setting_of}
+use Rattle.gb_meaning.specs.Every.{PromiseHolds}
+use Rattle.gb_meaning.specs.Events.{Setting}
+use Rattle.gb_meaning.specs.Granted.{leaves_nothing}
+use Rattle.gb_meaning.specs.Headline.{Stands, TearsAreSeen}
+use Rattle.gb_records.specs.Said.{IsText}
+use Rattle.gb_registry.specs.Tables.{tables_of}
+use Rattle.gb_build.proofs.nothing.run_from_nothing.Goals as goal
+
+abbrev held : Files → Contents
+held files = record { files = files; odd = [] }
+
+none_stand : (setting : Setting) → Stands setting (held []) []
+none_stand setting =
+    record { is_folder = record { in_order = refl; none_blocked = refl }; in_order = refl; of_tasks = tt; records = λ path is_path. tt; made = tt }
+
+none_torn : TearsAreSeen IsText record_place leaves_nothing
+none_torn path old new left is_path of_tool torn = absurd torn
+
+pub returns : goal.returns
+returns g c = λ once.
+    let kinds = c.some_kinds_agree.ensures c.args.tables.now.actions once in
+    let setting : Setting = setting_of (tables_of g.T.Transforms.meanings g.A.Actions.meanings c.args.tables.now) kinds.0 leaves_nothing in (
+      kinds.0,
+      kinds.1,
+      none_stand setting,
+      subst (λ (files : Files). PromiseHolds setting (record { contents = held files; failures = 0 }) c.args.events.now c.in_ok-answers.answers.items
+          (record { contents = held c.run_events.new.folder.files; failures = 0 })) c.new-folder.ensures
+          (c.in_ok-answers.ensures.promise refl kinds.0 kinds.1 none_torn),
+    )

@@ -1,0 +1,43 @@
+-- What a build asks of a folder, whichever it is.
+use Rattle.std.specs.Prelude.{ℕ, ◌≡◌, false, List, Option, Result, Ok, Err}
+use Rattle.std.specs.List.{AllZip}
+use Rattle.gb_action.specs.Meanings.{Meanings}
+use Rattle.gb_exec.specs.Asking.{WereCurrent, in_build}
+use Rattle.gb_folder.specs.Calls.{Asks, Call, no_change}
+use Rattle.gb_folder.specs.Files.{Tearing}
+use Rattle.gb_history.specs.Remembered.{Remembered}
+use Rattle.gb_meaning.specs.Outline.{IsOutlinedBy}
+use Rattle.gb_meaning.specs.declared.events.Invocation.{Invocation}
+use Rattle.gb_plan.specs.Graph.{Plan, Registry, order}
+use Rattle.gb_plan.specs.Ready.{Rows}
+use Rattle.gb_records.specs.Answered.{WasAnswered}
+use Rattle.gb_report.specs.declared.fault.Fault.{Fault}
+use Rattle.gb_report.specs.declared.report.Options.{Options}
+use Rattle.gb_report.specs.declared.report.Report.{Report}
+use Rattle.gb_report.specs.declared.report.TaskReport.{TaskReport}
+
+-- First no change is asked for, and these records of the plan's tasks are answered, but in a dry run; from
+-- there on it is asked what the turns of the tasks may ask for, from these records, and what is told up to
+-- date is found so by them.
+pub record PlanAsks {F S : Type 0} (failures : F → ℕ) (may_leave : F → Tearing)
+    (asked : F → Call → F → Type 0) (meanings : Meanings S) (rows : Rows S) (options : Options)
+    (plan : Plan) (reports : List TaskReport)
+    (old new : F) : Type 0 where
+  pub records : List (Option Remembered)
+  pub begun : F
+  pub first : Asks failures may_leave asked no_change old begun
+  pub answered : options.dry_run ≡ false
+      → AllZip (WasAnswered failures may_leave asked old begun) (order plan) records
+  pub turns : Asks failures may_leave asked
+      (in_build failures may_leave asked begun meanings rows options plan records) begun new
+  pub current : WereCurrent failures may_leave asked begun options plan records reports
+
+-- a refused build asks for no change, and another what its plan does
+abbrev pub BuildAsks : {F S : Type 0} → (F → ℕ) → (F → Tearing) → (F → Call → F → Type 0) → Meanings S
+    → Rows S
+    → Registry → Invocation → Result Report Fault → F → F → Type 0
+BuildAsks failures may_leave asked meanings rows registry invocation (Err fault) old new =
+    Asks failures may_leave asked no_change old new
+BuildAsks failures may_leave asked meanings rows registry invocation (Ok report) old new =
+    (by : IsOutlinedBy registry invocation report)
+    × PlanAsks failures may_leave asked meanings rows invocation.options by.plan report.tasks old new

@@ -1,0 +1,75 @@
+-- What the scripts of a folder say.
+use Rattle.std.specs.Prelude.{ℕ, ◌≡◌, Bool, ◌==◌, ◌||◌, List, ◌∷◌, ◌++◌, map, Option, Result, Ok}
+use Rattle.std.specs.Prelude.{Err, bytes_eq, codes}
+use Rattle.std.specs.List.{AllZip, after_last}
+use Rattle.gb_core.specs.Place.{joined}
+use Rattle.gb_folder.specs.Files.{Place, Files}
+use Rattle.gb_report.specs.declared.fault.Fault.{Fault}
+use Rattle.gb_script.specs.Script.{Says, SaysAsSettings}
+use Rattle.gb_script.specs.declared.script.Statement.{Statement}
+use Rattle.gb_registry.specs.Configure.{configure_faults}
+use Rattle.gb_registry.specs.Projects.{Path, projects_of, settings_faults}
+use Rattle.gb_registry.specs.Source.{Source, source_of}
+use Rattle.gb_registry.specs.Tables.{Tables}
+use Rattle.gb_build.specs.Texts.{TextSays}
+use Rattle.gb_build.specs.Turns.{InTurn, Passes}
+
+-- ---- Where scripts stand
+
+abbrev pub settings_place : Place
+settings_place = codes "settings.gb"
+
+-- the script of a project stands in its folder; the root has none
+abbrev pub script_place : Option Place → Place
+script_place folder = joined folder (codes "build.gb")
+
+abbrev pub script_places : List (Path × Option Place) → List Place
+script_places projects = map (λ project. script_place project.1) projects
+
+-- the place is that of settings, or could be that of a script
+abbrev pub is_script_place : Place → Bool
+is_script_place place =
+    bytes_eq place (codes "settings.gb") || bytes_eq (after_last (λ b. b == 47) place) (codes "build.gb")
+
+-- ---- What they say
+
+-- what the settings of a folder say, where nothing is wrong with what they include; or their first fault
+abbrev pub SettingsSay : Files → Result (List (List (List ℕ))) Fault → Type 0
+SettingsSay files said =
+    InTurn (TextSays SaysAsSettings files settings_place)
+    (λ settings. Passes (settings_faults settings) settings)
+    said
+
+-- each of these texts is what the script at its place says
+abbrev pub AreTexts : Files → List Place → List (List Statement) → Type 0
+AreTexts files places texts = AllZip (λ place text. TextSays Says files place (Ok text)) places texts
+
+-- the fault is that of the script at one of these places, and the scripts at the places before it have none
+pub record IsFirstFault (files : Files) (places : List Place) (fault : Fault) : Type 0 where
+  pub front : List Place
+  pub place : Place
+  pub back : List Place
+  pub texts : List (List Statement)
+  pub all : places ≡ front ++ place ∷ back
+  pub before : AreTexts files front texts
+  pub here : TextSays Says files place (Err fault)
+
+-- what the scripts at these places say, a text for each; or their first fault
+abbrev pub ScriptsSay : Files → List Place → Result (List (List Statement)) Fault → Type 0
+ScriptsSay files places (Ok texts) = AreTexts files places texts
+ScriptsSay files places (Err fault) = IsFirstFault files places fault
+
+-- what is put together of all that, where nothing is wrong with its statements; or their first fault
+abbrev pub SourceSays : {M F Z S A : Type 0} → Tables M F Z S A → Source → Result Source Fault → Type 0
+SourceSays tables source said = Passes (configure_faults tables source) source said
+
+-- What a folder says, with these values given: what its settings and the scripts of their projects say. Of
+-- all faults the first counts: one of the text of settings, of what they include, of the text of a script in
+-- the order of projects, and then of their statements.
+abbrev pub FolderSays : {M F Z S A : Type 0} → Tables M F Z S A → Files → List (List ℕ × List ℕ)
+    → Result Source Fault → Type 0
+FolderSays tables files given said =
+    InTurn (SettingsSay files)
+    (λ settings. InTurn (ScriptsSay files (script_places (projects_of settings)))
+    (λ texts. SourceSays tables (source_of settings texts given)))
+    said

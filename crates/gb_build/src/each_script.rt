@@ -1,0 +1,75 @@
+//! The scripts of projects.
+ghost use Rattle.std.specs.Prelude.{◌≡◌, ◌⊎◌, Ok, Err, IsTrue, IfOk, MatchResult, length};
+ghost use Rattle.std.specs.List.{list_all};
+ghost use Rattle.std.specs.Option.{option_copied};
+ghost use Rattle.gb_core.specs.Place.{is_place};
+ghost use Rattle.gb_folder.specs.Calls.{Asks, no_change};
+ghost use Rattle.gb_script.specs.Script.{Says};
+ghost use Rattle.gb_store.specs.Faults.{Blames, BlamesOnly, IsOfMachine};
+ghost use Rattle.gb_build.specs.Scripts.{ScriptsSay, is_script_place, script_place, script_places};
+ghost use Rattle.gb_build.specs.Texts.{Tells, TextSays};
+
+use crate::one_script::script_at;
+use gb_core::path::ProjectPath;
+use gb_core::place::{Place, PlaceFault};
+use gb_folder::folder::Folder;
+use gb_report::fault::Fault;
+use gb_script::script::Script;
+use std::alloc::Global;
+
+/// The scripts of projects, one for each, in their order.
+pub fn read_scripts<F: Folder>(
+    alloc: Global,
+    folder: &mut F,
+    projects: &[(ProjectPath, Option<Place>)],
+) -> Result<Vec<Script>, Fault>
+    requires places { IsTrue (list_all (λ place. is_place place) (script_places projects.now)) }
+    ensures asks { Asks F.failures F.may_leave F.asked no_change folder.old folder.new }
+    ensures blame { Blames result (F.failures folder.old) (F.failures folder.new) }
+    ensures blamed { BlamesOnly is_script_place result }
+    ensures same { IsTrue F.tells → F.contents folder.new ≡ F.contents folder.old }
+    ensures one_each { IfOk result (λ scripts. length scripts.items ≡ length projects.now) }
+    ensures said { IsTrue F.tells → MatchResult result
+        (λ scripts. ScriptsSay (F.contents folder.old).files (script_places projects.now) (Ok scripts.items))
+        (λ fault. IsOfMachine (F.failures folder.old) (F.failures folder.new) fault
+        ⊎ ScriptsSay (F.contents folder.old).files (script_places projects.now) (Err fault)) }
+{
+    let mut scripts = Vec::new(alloc);
+    for project in projects {
+        scripts.push(read_script_of(alloc, folder, project)?)?;
+    }
+    Ok(scripts)
+}
+
+/// The script of a project.
+fn read_script_of<F: Folder>(
+    alloc: Global,
+    folder: &mut F,
+    project: &(ProjectPath, Option<Place>),
+) -> Result<Script, Fault>
+    requires place { IsTrue (is_place (script_place project.now.1)) }
+    ensures asks { Asks F.failures F.may_leave F.asked no_change folder.old folder.new }
+    ensures blame { Blames result (F.failures folder.old) (F.failures folder.new) }
+    ensures blamed { BlamesOnly is_script_place result }
+    ensures same { IsTrue F.tells → F.contents folder.new ≡ F.contents folder.old }
+    ensures said { IsTrue F.tells
+        → Tells (TextSays Says (F.contents folder.old).files (script_place project.now.1))
+        (F.failures folder.old) (F.failures folder.new) result }
+{
+    let place = script_place(alloc, project.1.as_ref())?;
+    script_at(alloc, folder, place)
+}
+
+/// Where the script of a project with this folder stands.
+fn script_place(alloc: Global, folder: Option<&Place>) -> Result<Place, Fault>
+    requires { IsTrue (is_place (script_place (option_copied folder))) }
+    ensures { MatchResult result
+        (λ place. place ≡ script_place (option_copied folder.entry))
+        (λ fault. fault ≡ Fault.OutOfMemory) }
+{
+    match Place::join(alloc, folder, "build.gb") {
+        Ok(place) => Ok(place),
+        Err(PlaceFault::OutOfMemory) => Err(Fault::OutOfMemory),
+        Err(PlaceFault::BadPlace) => unreachable!(),
+    }
+}

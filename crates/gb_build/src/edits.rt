@@ -1,0 +1,87 @@
+//! Edits from outside.
+ghost use Rattle.std.specs.Prelude.{◌≡◌, ◌≤◌, IsTrue, MatchResult};
+ghost use Rattle.gb_folder.specs.Files.{SameTearing, is_own};
+ghost use Rattle.gb_meaning.specs.Edits.{LossStep, PutStep, RemoveStep, own_place};
+ghost use Rattle.gb_store.specs.Changes.{ChangesOnly};
+ghost use Rattle.gb_store.specs.Faults.{Blames};
+ghost use Rattle.gb_folder.specs.Calls.{Asks, Removes, Writes, takes_at};
+ghost use Rattle.gb_folder.specs.Limits.{max_file};
+ghost use Rattle.gb_build.specs.EventAsked.{AsksOnce};
+ghost use Rattle.gb_build.specs.Answers.{edit_answer};
+
+use gb_core::bytes::Bytes;
+use gb_core::place::Place;
+use gb_folder::folder::Folder;
+use gb_folder::limits::MAX_FILE;
+use gb_folder::own::is_own;
+use gb_report::fault::Fault;
+use gb_store::faults::fault_of;
+use gb_store::listing::listed_at;
+use gb_store::removal::remove_all;
+use std::alloc::Global;
+
+/// Puts a file, over one that stands there (94 at or beneath `.gb`; 12, 13).
+pub fn put<F: Folder>(folder: &mut F, place: &Place, bytes: &Bytes) -> Result<(), Fault>
+    ensures count { F.failures folder.old ≤ F.failures folder.new }
+    ensures blame { Blames result (F.failures folder.old) (F.failures folder.new) }
+    ensures asks { AsksOnce F.asked (Writes place.now bytes.now max_file) folder.old folder.new }
+    ensures tearing { SameTearing (F.may_leave folder.old) (F.may_leave folder.new) }
+    ensures step { IsTrue F.tells → PutStep (F.may_leave folder.old) place.now bytes.now
+        (record { contents = F.contents folder.old; failures = F.failures folder.old })
+        (edit_answer result)
+        (record { contents = F.contents folder.new; failures = F.failures folder.new }) }
+{
+    let at = place.copy()?;
+    // The device is not asked about the tool's own.
+    if is_own(place) {
+        return Err(Fault::OwnState(at));
+    }
+    match folder.write(place, bytes.as_slice(), MAX_FILE) {
+        Ok(()) => Ok(()),
+        Err(fault) => Err(fault_of(fault, at)),
+    }
+}
+
+/// Takes a file away (94 at or beneath `.gb`; 11, 12).
+pub fn remove<F: Folder>(folder: &mut F, place: &Place) -> Result<(), Fault>
+    ensures count { F.failures folder.old ≤ F.failures folder.new }
+    ensures blame { Blames result (F.failures folder.old) (F.failures folder.new) }
+    ensures asks { AsksOnce F.asked (Removes place.now) folder.old folder.new }
+    ensures tearing { SameTearing (F.may_leave folder.old) (F.may_leave folder.new) }
+    ensures step { IsTrue F.tells → RemoveStep (F.may_leave folder.old) place.now
+        (record { contents = F.contents folder.old; failures = F.failures folder.old })
+        (edit_answer result)
+        (record { contents = F.contents folder.new; failures = F.failures folder.new }) }
+{
+    let at = place.copy()?;
+    if is_own(place) {
+        return Err(Fault::OwnState(at));
+    }
+    match folder.remove(place) {
+        Ok(()) => Ok(()),
+        Err(fault) => Err(fault_of(fault, at)),
+    }
+}
+
+/// Takes away all that stands at or beneath `.gb`.
+pub fn lose<F: Folder>(alloc: Global, folder: &mut F) -> Result<(), Fault>
+    ensures asks { Asks F.failures F.may_leave F.asked (takes_at is_own) folder.old folder.new }
+    ensures blame { Blames result (F.failures folder.old) (F.failures folder.new) }
+    ensures elsewhere { IsTrue F.tells
+        → ChangesOnly is_own (F.contents folder.old) (F.contents folder.new) }
+    ensures step { IsTrue F.tells → LossStep (F.may_leave folder.old)
+        (record { contents = F.contents folder.old; failures = F.failures folder.old })
+        (edit_answer result)
+        (record { contents = F.contents folder.new; failures = F.failures folder.new }) }
+{
+    let own = own_place(alloc)?;
+    let places = listed_at(alloc, folder, &own)?;
+    remove_all(folder, places.as_slice())
+}
+
+/// The tool's own folder.
+fn own_place(alloc: Global) -> Result<Place, Fault>
+    ensures { MatchResult result (λ place. place ≡ own_place) (λ fault. fault ≡ Fault.OutOfMemory) }
+{
+    Place::read(alloc, ".gb").map_err(|_fault| Fault::OutOfMemory)
+}

@@ -1,0 +1,149 @@
+//! Any list of edits and builds.
+ghost use Rattle.std.specs.Prelude.{◌≡◌, ◌≤◌, [], ◌∷◌, IfOk, IsTrue, OnErr, length, map};
+ghost use Rattle.std.specs.List.{AllZip};
+ghost use Rattle.gb_folder.specs.Files.{SameTearing};
+ghost use Rattle.gb_history.specs.Places.{record_place};
+ghost use Rattle.gb_build.specs.Registering.{registers_in, setting_of};
+ghost use Rattle.gb_build.specs.Leading.{Leads};
+ghost use Rattle.gb_meaning.specs.Every.{PromiseHolds};
+ghost use Rattle.gb_meaning.specs.Headline.{Agrees, AllKeepElsewhere, EventKeeps, EventsHold, HaveHeardAll};
+ghost use Rattle.gb_meaning.specs.Headline.{HasFailed, TearsAreSeen, answer_of, times_blamed};
+ghost use Rattle.gb_meaning.specs.Headline.{times_blamed_in_all};
+ghost use Rattle.gb_meaning.specs.Kinds.{Kinds};
+ghost use Rattle.gb_records.specs.Said.{IsText};
+ghost use Rattle.gb_registry.specs.Tables.{tables_of};
+ghost use Rattle.gb_build.specs.EventAsked.{EventAsks, EventsAsk};
+ghost use Rattle.gb_build.specs.Answers.{AnswerIsOutlined, edit_answer};
+
+use crate::edits::{lose, put, remove};
+use crate::invoking::invoke;
+use gb_action::actions::Actions;
+use gb_exec::listener::TaskListener;
+use gb_folder::folder::Folder;
+use gb_meaning::events::{Answer, Event};
+use gb_printer::printer::Silent;
+use gb_provider::transforms::Transforms;
+use gb_registry::tables::Handed;
+use gb_report::fault::Fault;
+use gb_report::report::Report;
+use std::alloc::{AllocError, Global};
+
+/// Takes the events in their order, and answers each. Nothing is printed. It fails only where there is no
+/// memory for the answers, and then before the first event, with nothing changed and nothing told.
+pub fn run_events<A: Actions, T: Transforms, F: Folder, L: TaskListener>(
+    alloc: Global,
+    folder: &mut F,
+    tables: &Handed<A, T>,
+    events: &[Event],
+    listeners: &mut Vec<L>,
+) -> Result<Vec<Answer>, AllocError>
+    ensures count { F.failures folder.old ≤ F.failures folder.new }
+    ensures unbegun { OnErr result (folder.new ≡ folder.old) }
+    ensures untold { OnErr result (listeners.new ≡ listeners.old) }
+    ensures tearing { SameTearing (F.may_leave folder.old) (F.may_leave folder.new) }
+    // Over any folder: an edit asks once, for its own place; and a write or a removal by a build is asked for
+    // only at or beneath an output of a task of its plan or at the record of one, whose text is that of a run
+    // of the task; by a refused build and in a dry run, none.
+    ensures asks { IfOk result (λ answers. EventsAsk F.failures F.may_leave F.asked A.meanings
+        tables.now.actions events.now answers.items folder.old folder.new) }
+    // One answer for each event.
+    ensures each { IfOk result (λ answers. length answers.items ≡ length events.now) }
+    // The device is blamed no more often than it failed.
+    ensures device { IfOk result (λ answers.
+        HasFailed (times_blamed_in_all answers.items) (F.failures folder.old) (F.failures folder.new)) }
+    // Each listener heard the builds, one after another.
+    ensures heard { IfOk result (λ answers.
+        HaveHeardAll answers.items (map L.ear listeners.old.items) (map L.ear listeners.new.items)) }
+    // Over any folder: each build is that of a plan of what was asked of some registry, of which each task
+    // starts and answers as it may.
+    ensures outlined { IfOk result (λ answers. AllZip AnswerIsOutlined events.now answers.items) }
+    // Whatever fails, a build changes nothing but `.gb` and the build folders of its projects.
+    ensures elsewhere { IsTrue F.tells → IfOk result (λ answers.
+        AllKeepElsewhere (registers_in (tables_of T.meanings A.meanings tables.now)) events.now answers.items
+        (F.contents folder.old) (F.contents folder.new)) }
+    // It is a run of the events by its definition.
+    ensures holds { IsTrue F.tells → IfOk result (λ answers. (kinds : Kinds)
+        → Agrees A.meanings tables.now.actions kinds
+        → TearsAreSeen IsText record_place (F.may_leave folder.old)
+        → EventsHold
+        (setting_of (tables_of T.meanings A.meanings tables.now) kinds (F.may_leave folder.old))
+        (record { contents = F.contents folder.old; failures = F.failures folder.old })
+        events.now answers.items
+        (record { contents = F.contents folder.new; failures = F.failures folder.new })) }
+    // So each event is a plain step, and each build in which no task failed is from scratch, from whatever
+    // true records.
+    ensures promise { IsTrue F.tells → IfOk result (λ answers. (kinds : Kinds)
+        → Agrees A.meanings tables.now.actions kinds
+        → TearsAreSeen IsText record_place (F.may_leave folder.old)
+        → PromiseHolds
+        (setting_of (tables_of T.meanings A.meanings tables.now) kinds (F.may_leave folder.old))
+        (record { contents = F.contents folder.old; failures = F.failures folder.old })
+        events.now answers.items
+        (record { contents = F.contents folder.new; failures = F.failures folder.new })) }
+{
+    let mut answers = Vec::with_capacity(alloc, events.len())?;
+    for event in events.iter() {
+        answers.push(take::<A, T, F, L>(alloc, folder, tables, event, listeners))?;
+    }
+    Ok(answers)
+}
+
+/// Takes one event.
+fn take<A: Actions, T: Transforms, F: Folder, L: TaskListener>(
+    alloc: Global,
+    folder: &mut F,
+    tables: &Handed<A, T>,
+    event: &Event,
+    listeners: &mut Vec<L>,
+) -> Answer
+    ensures count { F.failures folder.old ≤ F.failures folder.new }
+    ensures tearing { SameTearing (F.may_leave folder.old) (F.may_leave folder.new) }
+    ensures asks { EventAsks F.failures F.may_leave F.asked A.meanings tables.now.actions event.now result
+        folder.old folder.new }
+    ensures device { HasFailed (times_blamed result) (F.failures folder.old) (F.failures folder.new) }
+    ensures heard { HaveHeardAll (result ∷ []) (map L.ear listeners.old.items)
+        (map L.ear listeners.new.items) }
+    ensures outlined { AnswerIsOutlined event.now result }
+    ensures keeps { IsTrue F.tells
+        → EventKeeps (registers_in (tables_of T.meanings A.meanings tables.now)) event.now result
+        (F.contents folder.old) (F.contents folder.new) }
+    ensures leads { IsTrue F.tells → (kinds : Kinds)
+        → Agrees A.meanings tables.now.actions kinds
+        → TearsAreSeen IsText record_place (F.may_leave folder.old)
+        → Leads (setting_of (tables_of T.meanings A.meanings tables.now) kinds (F.may_leave folder.old))
+        (record { contents = F.contents folder.old; failures = F.failures folder.old })
+        event.now result
+        (record { contents = F.contents folder.new; failures = F.failures folder.new }) }
+{
+    match event {
+        Event::Put(place, bytes) => edited(put(folder, place, bytes)),
+        Event::Remove(place) => edited(remove(folder, place)),
+        Event::Lost => edited(lose(alloc, folder)),
+        Event::Invoke(invocation) => built(invoke::<A, T, F, L, Silent>(
+            alloc,
+            folder,
+            tables,
+            invocation,
+            listeners,
+            &mut Silent,
+        )),
+    }
+}
+
+fn edited(outcome: Result<(), Fault>) -> Answer
+    ensures { result ≡ edit_answer outcome }
+{
+    match outcome {
+        Ok(()) => Answer::Edited,
+        Err(fault) => Answer::Refused(fault),
+    }
+}
+
+fn built(outcome: Result<Report, Fault>) -> Answer
+    ensures { result ≡ answer_of outcome }
+{
+    match outcome {
+        Ok(report) => Answer::Built(report),
+        Err(fault) => Answer::NotBuilt(fault),
+    }
+}

@@ -1,0 +1,178 @@
+//! One invocation over the scripts of a folder.
+ghost use Rattle.std.specs.Prelude.{◌≡◌, ◌≤◌, ◌&&◌, ◌∷◌, [], ℕ, List, Ok, map, not, true, IfErr};
+ghost use Rattle.std.specs.Prelude.{IfOk, IsTrue, OnErr};
+ghost use Rattle.gb_folder.specs.Files.{SameTearing, is_own};
+ghost use Rattle.gb_history.specs.Places.{record_place};
+ghost use Rattle.gb_build.specs.Leading.{Leads};
+ghost use Rattle.gb_build.specs.Refusing.{IsNotBegun};
+ghost use Rattle.gb_meaning.specs.declared.events.Event.TheVariants as events;
+ghost use Rattle.gb_meaning.specs.Events.{IsNotBuilt, is_read_first};
+ghost use Rattle.gb_meaning.specs.Every.{PromiseHolds};
+ghost use Rattle.gb_meaning.specs.Headline.{Agrees, EventKeeps, HaveHeard, InvocationHolds, KeepsElsewhere};
+ghost use Rattle.gb_meaning.specs.Headline.{HasFailed, TearsAreSeen, answer_of, times_blamed};
+ghost use Rattle.gb_meaning.specs.Kinds.{Kinds};
+ghost use Rattle.gb_meaning.specs.Outline.{IsOutlined};
+ghost use Rattle.gb_printer.specs.Printing.{Prints, parts_text};
+ghost use Rattle.gb_records.specs.Said.{IsText};
+ghost use Rattle.gb_registry.specs.Tables.{tables_of};
+ghost use Rattle.gb_turn.specs.Turned.{setting_with};
+ghost use Rattle.gb_declare.specs.Registered.{registry_said};
+ghost use Rattle.gb_build.specs.InvocationAsked.{InvocationAsks};
+ghost use Rattle.gb_build.specs.Registering.{registers_in, setting_of};
+
+use crate::reading::read_registry;
+use crate::requested::build_requested;
+use gb_action::actions::Actions;
+use gb_core::name::Name;
+use gb_core::text::Text;
+use gb_exec::listener::TaskListener;
+use gb_folder::folder::Folder;
+use gb_meaning::events::{Invocation, Properties};
+use gb_printer::printer::Printer;
+use gb_project::script_tasks::ScriptTasks;
+use gb_provider::transforms::Transforms;
+use gb_registry::configured::Configured;
+use gb_registry::tables::Handed;
+use gb_report::fault::Fault;
+use gb_report::report::Report;
+use std::alloc::{AllocError, Global};
+
+/// Reads the scripts of a folder with the values that the invocation gives, and builds what is asked of the
+/// tasks that they register. Each task that starts is told to all listeners, and its part is printed as soon
+/// as its turn has ended. Refused before the first task, with nothing changed, told or printed, for the first
+/// fault of the scripts, of the words or of the plan, where memory runs out, or where scripts or records
+/// cannot be read.
+pub fn invoke<A: Actions, T: Transforms, F: Folder, L: TaskListener, P: Printer>(
+    alloc: Global,
+    folder: &mut F,
+    tables: &Handed<A, T>,
+    invocation: &Invocation,
+    listeners: &mut Vec<L>,
+    printer: &mut P,
+) -> Result<Report, Fault>
+    ensures dry_run { IfOk result (λ report. report.dry_run ≡ invocation.now.options.dry_run) }
+    ensures heard { IfOk result (λ report.
+        HaveHeard report (map L.ear listeners.old.items) (map L.ear listeners.new.items)) }
+    ensures untold { OnErr result (listeners.new ≡ listeners.old) }
+    // The parts of its tasks were printed; or a beginning of them, where they could not be.
+    ensures printed { IfOk result (λ report.
+        Prints P.contents P.whole (parts_text report) printer.old printer.new) }
+    ensures unprinted { OnErr result (printer.new ≡ printer.old) }
+    ensures count { F.failures folder.old ≤ F.failures folder.new }
+    // The device is blamed no more often than it failed.
+    ensures device { HasFailed (times_blamed (answer_of result))
+        (F.failures folder.old) (F.failures folder.new) }
+    ensures tearing { SameTearing (F.may_leave folder.old) (F.may_leave folder.new) }
+    // Over any folder: a write or a removal is asked for only at or beneath an output of a task of its plan
+    // or at the record of one, whose text is that of a run of the task; by a refused build and in a dry run,
+    // none.
+    ensures asks { InvocationAsks F.failures F.may_leave F.asked A.meanings tables.now.actions invocation.now
+        result folder.old folder.new }
+    // Over any folder: it is a build of the plan of what was asked of some registry, of which each task
+    // starts and answers as it may; and a refusal blames the device where it reads before the first task.
+    ensures outlined { IfOk result (IsOutlined invocation.now) }
+    ensures places { IfErr result (λ fault. (place : List ℕ) → fault ≡ Fault.Device place
+        → IsTrue (is_read_first invocation.now.options place)) }
+    ensures refused { IsTrue F.tells → OnErr result (F.contents folder.new ≡ F.contents folder.old) }
+    // Why it is refused, and that a dry run changes nothing, hang on no kinds and no device.
+    ensures not_built { IsTrue F.tells → IfErr result (λ fault.
+        IsNotBuilt (registers_in (tables_of T.meanings A.meanings tables.now))
+        (record { contents = F.contents folder.old; failures = F.failures folder.old })
+        invocation.now fault (F.failures folder.new)) }
+    ensures dry { IsTrue F.tells → invocation.now.options.dry_run ≡ true
+        → F.contents folder.new ≡ F.contents folder.old }
+    // A build changes nothing but `.gb` and the build folders of the projects, and a refusal nothing.
+    ensures keeps { IsTrue F.tells
+        → EventKeeps (registers_in (tables_of T.meanings A.meanings tables.now))
+        (events.Invoke invocation.now)
+        (answer_of result) (F.contents folder.old) (F.contents folder.new) }
+    // It leads any run on, with what the scripts of the folder register.
+    ensures leads { IsTrue F.tells → (kinds : Kinds)
+        → Agrees A.meanings tables.now.actions kinds
+        → TearsAreSeen IsText record_place (F.may_leave folder.old)
+        → Leads (setting_of (tables_of T.meanings A.meanings tables.now) kinds (F.may_leave folder.old))
+        (record { contents = F.contents folder.old; failures = F.failures folder.old })
+        (events.Invoke invocation.now) (answer_of result)
+        (record { contents = F.contents folder.new; failures = F.failures folder.new }) }
+    // It is one invocation by its definition.
+    ensures holds { IsTrue F.tells → (kinds : Kinds)
+        → Agrees A.meanings tables.now.actions kinds
+        → TearsAreSeen IsText record_place (F.may_leave folder.old)
+        → InvocationHolds
+        (setting_of (tables_of T.meanings A.meanings tables.now) kinds (F.may_leave folder.old))
+        (record { contents = F.contents folder.old; failures = F.failures folder.old })
+        invocation.now result
+        (record { contents = F.contents folder.new; failures = F.failures folder.new }) }
+    // So it is a plain step, and a build in which no task failed is from scratch, from whatever true
+    // records.
+    ensures promise { IsTrue F.tells → (kinds : Kinds)
+        → Agrees A.meanings tables.now.actions kinds
+        → TearsAreSeen IsText record_place (F.may_leave folder.old)
+        → PromiseHolds
+        (setting_of (tables_of T.meanings A.meanings tables.now) kinds (F.may_leave folder.old))
+        (record { contents = F.contents folder.old; failures = F.failures folder.old })
+        (events.Invoke invocation.now ∷ []) (answer_of result ∷ [])
+        (record { contents = F.contents folder.new; failures = F.failures folder.new }) }
+{
+    let copied = invocation.properties.copy(alloc)?;
+    let given = copied.into_vec();
+    let configured = read_registry::<A, T, F>(alloc, folder, tables, given)?;
+    build_registered::<A, T, F, L, P>(alloc, folder, &configured, invocation, listeners, printer)
+}
+
+/// Builds what is asked of the tasks of these scripts.
+fn build_registered<A: Actions, T: Transforms, F: Folder, L: TaskListener, P: Printer>(
+    alloc: Global,
+    folder: &mut F,
+    configured: &Configured<'_, A, T>,
+    invocation: &Invocation,
+    listeners: &mut Vec<L>,
+    printer: &mut P,
+) -> Result<Report, Fault>
+    ensures dry_run { IfOk result (λ report. report.dry_run ≡ invocation.now.options.dry_run) }
+    ensures heard { IfOk result (λ report.
+        HaveHeard report (map L.ear listeners.old.items) (map L.ear listeners.new.items)) }
+    ensures untold { OnErr result (listeners.new ≡ listeners.old) }
+    ensures printed { IfOk result (λ report.
+        Prints P.contents P.whole (parts_text report) printer.old printer.new) }
+    ensures unprinted { OnErr result (printer.new ≡ printer.old) }
+    ensures count { F.failures folder.old ≤ F.failures folder.new }
+    // The device is blamed no more often than it failed.
+    ensures device { HasFailed (times_blamed (answer_of result))
+        (F.failures folder.old) (F.failures folder.new) }
+    ensures tearing { SameTearing (F.may_leave folder.old) (F.may_leave folder.new) }
+    ensures asks { InvocationAsks F.failures F.may_leave F.asked A.meanings
+        configured.now.tables.now.actions invocation.now result folder.old folder.new }
+    ensures outlined { IfOk result (IsOutlined invocation.now) }
+    ensures places { IfErr result (λ fault. (place : List ℕ) → fault ≡ Fault.Device place
+        → IsTrue (is_own place && not invocation.now.options.dry_run)) }
+    ensures not_begun { let tables = tables_of T.meanings A.meanings configured.now.tables.now in
+        IfErr result (IsNotBegun (registry_said tables configured.now.registry) invocation.now
+        (F.failures folder.old) (F.failures folder.new)) }
+    ensures dry { invocation.now.options.dry_run ≡ true → folder.new ≡ folder.old }
+    ensures refused { IsTrue F.tells → OnErr result (F.contents folder.new ≡ F.contents folder.old) }
+    ensures keeps { let tables = tables_of T.meanings A.meanings configured.now.tables.now in
+        IsTrue F.tells → KeepsElsewhere (registry_said tables configured.now.registry)
+        (F.contents folder.old) (F.contents folder.new) }
+    ensures leads { let tables = tables_of T.meanings A.meanings configured.now.tables.now in
+        IsTrue F.tells → (kinds : Kinds)
+        → Agrees A.meanings configured.now.tables.now.actions kinds
+        → TearsAreSeen IsText record_place (F.may_leave folder.old)
+        → Leads (setting_with kinds (λ files given. Ok (registry_said tables configured.now.registry))
+        (F.may_leave folder.old))
+        (record { contents = F.contents folder.old; failures = F.failures folder.old })
+        (events.Invoke invocation.now) (answer_of result)
+        (record { contents = F.contents folder.new; failures = F.failures folder.new }) }
+{
+    let _scripts = configured.registry.scripts();
+    let mut tasks = ScriptTasks::declare(alloc, configured)?;
+    build_requested::<A, F, L, P, _>(
+        alloc,
+        folder,
+        &mut tasks,
+        &configured.tables.actions,
+        invocation,
+        listeners,
+        printer,
+    )
+}

@@ -1,0 +1,106 @@
+//! The texts of settings and scripts, read where they stand.
+ghost use Rattle.std.specs.Prelude.{◌≡◌, ◌⊎◌, Some, Ok, Err, IsTrue, MatchResult, length};
+ghost use Rattle.gb_folder.specs.Calls.{Asks, no_change};
+ghost use Rattle.gb_script.specs.Script.{Says, SaysAsSettings};
+ghost use Rattle.gb_store.specs.Changes.{is_at};
+ghost use Rattle.gb_store.specs.Faults.{Blames, BlamesOnly};
+ghost use Rattle.gb_build.specs.Texts.{FileSays, Tells, TextSays, in_file, unread_at};
+
+use gb_core::place::Place;
+use gb_folder::folder::{Folder, FolderFault};
+use gb_report::fault::Fault;
+use gb_script::fault::ScriptFault;
+use gb_script::script::{Script, Settings};
+use gb_script::{MAX_SCRIPT, read_script, read_settings};
+use gb_store::faults::fault_of;
+use std::alloc::Global;
+
+/// The settings at a place. Where no file stands, they include nothing.
+pub fn settings_at<F: Folder>(
+    alloc: Global,
+    folder: &mut F,
+    place: Place,
+) -> Result<Settings, Fault>
+    ensures asks { Asks F.failures F.may_leave F.asked no_change folder.old folder.new }
+    ensures blame { Blames result (F.failures folder.old) (F.failures folder.new) }
+    ensures blamed { BlamesOnly (is_at place) result }
+    ensures same { IsTrue F.tells → F.contents folder.new ≡ F.contents folder.old }
+    ensures said { IsTrue F.tells
+        → Tells (TextSays SaysAsSettings (F.contents folder.old).files place)
+        (F.failures folder.old) (F.failures folder.new) result }
+{
+    match folder.read(alloc, &place, MAX_SCRIPT as u64) {
+        Ok(bytes) => settings_in(alloc, bytes.as_slice(), place),
+        Err(fault) => match fault {
+            FolderFault::Missing => Ok(Settings::new(Vec::new(alloc))),
+            other => Err(unread(other, place)),
+        },
+    }
+}
+
+/// The script at a place. Where no file stands, it is empty.
+pub fn script_at<F: Folder>(alloc: Global, folder: &mut F, place: Place) -> Result<Script, Fault>
+    ensures asks { Asks F.failures F.may_leave F.asked no_change folder.old folder.new }
+    ensures blame { Blames result (F.failures folder.old) (F.failures folder.new) }
+    ensures blamed { BlamesOnly (is_at place) result }
+    ensures same { IsTrue F.tells → F.contents folder.new ≡ F.contents folder.old }
+    ensures said { IsTrue F.tells
+        → Tells (TextSays Says (F.contents folder.old).files place)
+        (F.failures folder.old) (F.failures folder.new) result }
+{
+    match folder.read(alloc, &place, MAX_SCRIPT as u64) {
+        Ok(bytes) => script_in(alloc, bytes.as_slice(), place),
+        Err(fault) => match fault {
+            FolderFault::Missing => Ok(Script::new(Vec::new(alloc))),
+            other => Err(unread(other, place)),
+        },
+    }
+}
+
+/// The settings that the bytes of the file at this place are.
+fn settings_in(alloc: Global, bytes: &[u8], place: Place) -> Result<Settings, Fault>
+    ensures { MatchResult result
+        (λ settings. SaysAsSettings bytes.now (Ok settings))
+        (λ fault. (fault ≡ Fault.OutOfMemory)
+        ⊎ FileSays SaysAsSettings place (Some bytes.now) (Err fault)) }
+{
+    match read_settings(alloc, bytes) {
+        Ok(settings) => Ok(settings),
+        Err(fault) => Err(in_file(fault, place)),
+    }
+}
+
+/// The script that the bytes of the file at this place are.
+fn script_in(alloc: Global, bytes: &[u8], place: Place) -> Result<Script, Fault>
+    ensures { MatchResult result
+        (λ script. Says bytes.now (Ok script))
+        (λ fault. (fault ≡ Fault.OutOfMemory) ⊎ FileSays Says place (Some bytes.now) (Err fault)) }
+{
+    match read_script(alloc, bytes) {
+        Ok(script) => Ok(script),
+        Err(fault) => Err(in_file(fault, place)),
+    }
+}
+
+/// The fault of a text, with the place of its file.
+fn in_file(fault: ScriptFault, place: Place) -> Fault
+    ensures { result ≡ in_file place fault }
+{
+    match fault {
+        ScriptFault::OutOfMemory => Fault::OutOfMemory,
+        ScriptFault::Syntax(line) => Fault::Syntax(place, line),
+        ScriptFault::TooLong => Fault::TooLong(place),
+        ScriptFault::TooDeep(line) => Fault::TooDeep(place, line),
+        ScriptFault::NotUtf8 => Fault::NotUtf8(place),
+    }
+}
+
+/// The folder's fault where a text was to be read.
+fn unread(fault: FolderFault, place: Place) -> Fault
+    ensures { result ≡ unread_at place fault }
+{
+    match fault {
+        FolderFault::TooLarge => Fault::TooLong(place),
+        other => fault_of(other, place),
+    }
+}

@@ -1,0 +1,76 @@
+//! A folder read: its settings, and the scripts of their projects.
+ghost use Rattle.std.specs.Prelude.{◌≡◌, ◌⊎◌, Ok, Err, IsTrue, IfOk, MatchResult};
+ghost use Rattle.gb_folder.specs.Calls.{Asks, no_change};
+ghost use Rattle.gb_registry.specs.Tables.{tables_of};
+ghost use Rattle.gb_script.specs.Script.{SaysAsSettings};
+ghost use Rattle.gb_store.specs.Changes.{is_at};
+ghost use Rattle.gb_store.specs.Faults.{Blames, BlamesOnly, IsOfMachine};
+ghost use Rattle.gb_build.specs.Scripts.{FolderSays, is_script_place, settings_place};
+ghost use Rattle.gb_build.specs.Texts.{Tells, TextSays};
+
+use crate::each_script::read_scripts;
+use crate::one_script::settings_at;
+use gb_action::actions::Actions;
+use gb_core::name::Name;
+use gb_core::place::Place;
+use gb_core::text::Text;
+use gb_folder::folder::Folder;
+use gb_provider::transforms::Transforms;
+use gb_registry::configured::Configured;
+use gb_registry::projects::projects;
+use gb_registry::registry::Registry;
+use gb_registry::tables::Handed;
+use gb_report::fault::Fault;
+use gb_script::script::Settings;
+use std::alloc::Global;
+
+/// The registry of what the settings and the scripts of a folder say, with these values given. Where there is
+/// no `settings.gb`, the root is the only project; where a project has no `build.gb`, its script is empty.
+///
+/// Refused with the first fault: of the text of `settings.gb` (12 where another file is in its way, 20 to
+/// 23), of what it includes (1, 57, 58), of the text of a `build.gb` in the order of projects (12, 20 to 23),
+/// and then of a statement, as `Registry::configure` tells it. Memory may run out (3), and the device may
+/// fail (10), on the way.
+pub fn read_registry<'a, A: Actions, T: Transforms, F: Folder>(
+    alloc: Global,
+    folder: &mut F,
+    tables: &'a Handed<A, T>,
+    given: Vec<(Name, Text)>,
+) -> Result<Configured<'a, A, T>, Fault>
+    ensures asks { Asks F.failures F.may_leave F.asked no_change folder.old folder.new }
+    ensures blame { Blames result (F.failures folder.old) (F.failures folder.new) }
+    ensures blamed { BlamesOnly is_script_place result }
+    ensures same { IsTrue F.tells → F.contents folder.new ≡ F.contents folder.old }
+    ensures tables { IfOk result (λ configured. configured.tables.now ≡ tables.now) }
+    ensures said { IsTrue F.tells → MatchResult result
+        (λ configured. FolderSays (tables_of T.meanings A.meanings tables.now)
+        (F.contents folder.old).files given.items (Ok configured.registry))
+        (λ fault. IsOfMachine (F.failures folder.old) (F.failures folder.new) fault
+        ⊎ FolderSays (tables_of T.meanings A.meanings tables.now)
+        (F.contents folder.old).files given.items (Err fault)) }
+{
+    let settings = read_settings_of(alloc, folder)?;
+    let projects = projects(alloc, &settings)?;
+    let scripts = read_scripts(alloc, folder, projects.as_slice())?;
+    Registry::configure::<A, T>(alloc, &settings, scripts, given, tables)
+}
+
+/// The settings of a folder.
+fn read_settings_of<F: Folder>(alloc: Global, folder: &mut F) -> Result<Settings, Fault>
+    ensures asks { Asks F.failures F.may_leave F.asked no_change folder.old folder.new }
+    ensures blame { Blames result (F.failures folder.old) (F.failures folder.new) }
+    ensures blamed { BlamesOnly (is_at settings_place) result }
+    ensures same { IsTrue F.tells → F.contents folder.new ≡ F.contents folder.old }
+    ensures said { IsTrue F.tells
+        → Tells (TextSays SaysAsSettings (F.contents folder.old).files settings_place)
+        (F.failures folder.old) (F.failures folder.new) result }
+{
+    let place = settings_place(alloc)?;
+    settings_at(alloc, folder, place)
+}
+
+fn settings_place(alloc: Global) -> Result<Place, Fault>
+    ensures { MatchResult result (λ place. place ≡ settings_place) (λ fault. fault ≡ Fault.OutOfMemory) }
+{
+    Place::read(alloc, "settings.gb").map_err(|_fault| Fault::OutOfMemory)
+}

@@ -1,0 +1,113 @@
+//! One build of what is asked for.
+ghost use Rattle.std.specs.Prelude.{◌≡◌, ◌≤◌, Ok, map, true, IfErr, IfOk, IsTrue, OnErr};
+ghost use Rattle.gb_folder.specs.Files.{SameTearing};
+ghost use Rattle.gb_history.specs.Places.{record_place};
+ghost use Rattle.gb_meaning.specs.declared.events.Event.TheVariants as events;
+ghost use Rattle.gb_meaning.specs.Headline.{Agrees, HasFailed, HaveHeard, InvocationHolds, TearsAreSeen};
+ghost use Rattle.gb_meaning.specs.Headline.{answer_of, is_of_build, times_blamed};
+ghost use Rattle.gb_meaning.specs.Kinds.{Kinds};
+ghost use Rattle.gb_meaning.specs.Outline.{IsOutlinedBy};
+ghost use Rattle.gb_meaning.specs.TrueRecord.{outside};
+ghost use Rattle.gb_printer.specs.Printing.{Prints, parts_text};
+ghost use Rattle.gb_records.specs.Said.{IsText};
+ghost use Rattle.gb_store.specs.Changes.{ChangesOnly};
+ghost use Rattle.gb_turn.specs.Turned.{Registering, setting_with};
+ghost use Rattle.gb_build.specs.RequestAsked.{BuildAsks};
+ghost use Rattle.gb_build.specs.Asking.{AreBuildable, IsReportOf, NoneBlameDevice};
+ghost use Rattle.gb_build.specs.Leading.{Leads};
+ghost use Rattle.gb_build.specs.Refusing.{IsNotBegun};
+
+use crate::before::records_for;
+use gb_action::actions::Actions;
+use gb_action::table::ActionTable;
+use gb_exec::building::execute;
+use gb_exec::listener::TaskListener;
+use gb_folder::folder::Folder;
+use gb_graph::plan::plan;
+use gb_graph::tasks::Tasks;
+use gb_meaning::events::Invocation;
+use gb_printer::printer::Printer;
+use gb_report::fault::Fault;
+use gb_report::report::Report;
+use std::alloc::Global;
+
+/// Builds what is asked for: plans it, reads what is remembered of the plan's tasks, and executes the plan.
+/// Each task that starts is told to all listeners, and its part is printed as soon as its turn has ended.
+/// Refused before the first task, with nothing changed, told or printed, where there is no plan, or records
+/// cannot be read; what goes wrong later is told as a task's failure. In a dry run no record is read, and
+/// nothing changes or is printed.
+pub fn build_requested<A: Actions, F: Folder, L: TaskListener, P: Printer, Ts: Tasks>(
+    alloc: Global,
+    folder: &mut F,
+    tasks: &mut Ts,
+    table: &ActionTable<A::Stored>,
+    invocation: &Invocation,
+    listeners: &mut Vec<L>,
+    printer: &mut P,
+) -> Result<Report, Fault>
+    requires { AreBuildable A.meanings table.now (Ts.registry tasks.old) }
+    ensures kept { Ts.registry tasks.new ≡ Ts.registry tasks.old }
+    ensures dry_run { IfOk result (λ report. report.dry_run ≡ invocation.now.options.dry_run) }
+    ensures of_plan { IfOk result (IsReportOf (Ts.registry tasks.old) invocation.now) }
+    // Over any folder: which tasks start, and what each may answer.
+    ensures outlined { IfOk result (IsOutlinedBy (Ts.registry tasks.old) invocation.now) }
+    ensures not_begun { IfErr result (IsNotBegun (Ts.registry tasks.old) invocation.now
+        (F.failures folder.old) (F.failures folder.new)) }
+    ensures heard { IfOk result (λ report.
+        HaveHeard report (map L.ear listeners.old.items) (map L.ear listeners.new.items)) }
+    ensures untold { OnErr result (listeners.new ≡ listeners.old) }
+    // The parts of its tasks were printed; or a beginning of them, where they could not be.
+    ensures printed { IfOk result (λ report.
+        Prints P.contents P.whole (parts_text report) printer.old printer.new) }
+    ensures unprinted { OnErr result (printer.new ≡ printer.old) }
+    ensures count { F.failures folder.old ≤ F.failures folder.new }
+    // The device is blamed no more often than it failed, if no script's fault blames it.
+    ensures device { NoneBlameDevice (Ts.registry tasks.old)
+        → HasFailed (times_blamed (answer_of result)) (F.failures folder.old) (F.failures folder.new) }
+    ensures tearing { SameTearing (F.may_leave folder.old) (F.may_leave folder.new) }
+    // Over any folder: which changes it asks for, and which records it puts in.
+    ensures asks { BuildAsks F.failures F.may_leave F.asked A.meanings table.now (Ts.registry tasks.old)
+        invocation.now result folder.old folder.new }
+    ensures dry { invocation.now.options.dry_run ≡ true → folder.new ≡ folder.old }
+    ensures refused { IsTrue F.tells → OnErr result (F.contents folder.new ≡ F.contents folder.old) }
+    // Nothing changes but `.gb` and the build folders of the registered projects.
+    ensures elsewhere { IsTrue F.tells → ChangesOnly (is_of_build (Ts.registry tasks.old).projects)
+        (F.contents folder.old) (F.contents folder.new) }
+    // It leads any run on, wherever scripts say what is registered here.
+    ensures leads { IsTrue F.tells → (kinds : Kinds) (registry_of : Registering)
+        → Agrees A.meanings table.now kinds
+        → TearsAreSeen IsText record_place (F.may_leave folder.old)
+        → registry_of (outside (F.contents folder.old)).files invocation.now.properties
+        ≡ Ok (Ts.registry tasks.old)
+        → Leads (setting_with kinds registry_of (F.may_leave folder.old))
+        (record { contents = F.contents folder.old; failures = F.failures folder.old })
+        (events.Invoke invocation.now) (answer_of result)
+        (record { contents = F.contents folder.new; failures = F.failures folder.new }) }
+    // It is one invocation by its definition.
+    ensures holds { IsTrue F.tells → (kinds : Kinds) (registry_of : Registering)
+        → Agrees A.meanings table.now kinds
+        → TearsAreSeen IsText record_place (F.may_leave folder.old)
+        → registry_of (outside (F.contents folder.old)).files invocation.now.properties
+        ≡ Ok (Ts.registry tasks.old)
+        → InvocationHolds (setting_with kinds registry_of (F.may_leave folder.old))
+        (record { contents = F.contents folder.old; failures = F.failures folder.old })
+        invocation.now result
+        (record { contents = F.contents folder.new; failures = F.failures folder.new }) }
+{
+    let requested = invocation.requested.as_slice();
+    let excluded = invocation.excluded.as_slice();
+    let options = invocation.options;
+    let plan = plan(alloc, tasks, requested, excluded)?;
+    let records = records_for(alloc, folder, plan.as_slice(), options.dry_run)?;
+    let report = execute::<A, F, L, P>(
+        alloc,
+        folder,
+        &plan,
+        table,
+        records.as_slice(),
+        listeners,
+        printer,
+        options,
+    )?;
+    Ok(report)
+}

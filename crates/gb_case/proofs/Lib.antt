@@ -1,7 +1,0 @@
-mod Part
-mod Present
-mod Grown
-mod Decided
-mod Outside
-mod Knowing
-mod Turning

@@ -1,3 +1,0 @@
-pub mod Case
-pub mod Known
-pub mod Turns

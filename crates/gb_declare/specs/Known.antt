@@ -1,0 +1,53 @@
+-- The tasks that a realised task names are registered, and stand in the order of their paths, each once. So
+-- do its values, its file properties and its outputs in the order of their names.
+use Rattle.std.specs.Prelude.{◌≡◌, true, [], map, Ok}
+use Rattle.std.specs.List.{AllByRecursion}
+use Rattle.std.specs.List.Sorted.{IsStrictlySortedBy}
+use Rattle.gb_core.specs.Lists.{byte_order}
+use Rattle.gb_plan.specs.declared.task.TaskDeclaration.{TaskDeclaration}
+use Rattle.gb_registry.specs.Configure.{configure_faults}
+use Rattle.gb_registry.specs.Projects.{Path, is_among}
+use Rattle.gb_registry.specs.Said.{paths_of}
+use Rattle.gb_registry.specs.Source.{Source}
+use Rattle.gb_registry.specs.Tables.{Tables}
+use Rattle.gb_declare.specs.Realised.{realised}
+
+abbrev pub IsRegistered : Source → Path → Type 0
+IsRegistered source path = is_among source.names.tasks path ≡ true
+
+-- those that it runs after, and those that finalize it
+pub record NamesTasks (source : Source) (task : TaskDeclaration) : Type 0 where
+  pub after : AllByRecursion (IsRegistered source) task.must_run_after
+  pub finalizers : AllByRecursion (IsRegistered source) task.finalizers
+
+abbrev pub RealisedNamesTasks : {M F Z S A : Type 0} → Tables M F Z S A → Source → Type 0
+RealisedNamesTasks tables source =
+    (path : Path) (task : TaskDeclaration) → realised tables source path ≡ Ok task → NamesTasks source task
+
+-- Its needs too, where the names of tasks are those that the scripts register, and no script is at fault: the
+-- tasks that it depends on, and those that make what its inputs and actions are given.
+abbrev pub RealisedNeedsAreRegistered : {M F Z S A : Type 0} → Tables M F Z S A → Source → Type 0
+RealisedNeedsAreRegistered tables source =
+    source.names.tasks ≡ paths_of source.said → configure_faults tables source ≡ [] →
+    (path : Path) (task : TaskDeclaration) → realised tables source path ≡ Ok task →
+    AllByRecursion (IsRegistered source) task.needs
+
+-- its needs, those that it runs after, and those that finalize it: each once, by the bytes of their paths
+pub record IsInOrder (task : TaskDeclaration) : Type 0 where
+  pub needs : IsStrictlySortedBy byte_order task.needs
+  pub after : IsStrictlySortedBy byte_order task.must_run_after
+  pub finalizers : IsStrictlySortedBy byte_order task.finalizers
+
+abbrev pub RealisedInOrder : {M F Z S A : Type 0} → Tables M F Z S A → Source → Type 0
+RealisedInOrder tables source =
+    (path : Path) (task : TaskDeclaration) → realised tables source path ≡ Ok task → IsInOrder task
+
+-- its values, its file properties and its outputs: each name once, by the bytes of the names
+pub record HasRisingNames (task : TaskDeclaration) : Type 0 where
+  pub values : IsStrictlySortedBy byte_order (map (λ value. value.0) task.values)
+  pub files : IsStrictlySortedBy byte_order (map (λ files. files.name) task.files)
+  pub outputs : IsStrictlySortedBy byte_order (map (λ output. output.name) task.outputs)
+
+abbrev pub RealisedNamesRise : {M F Z S A : Type 0} → Tables M F Z S A → Source → Type 0
+RealisedNamesRise tables source =
+    (path : Path) (task : TaskDeclaration) → realised tables source path ≡ Ok task → HasRisingNames task

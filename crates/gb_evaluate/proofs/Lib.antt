@@ -1,0 +1,10 @@
+pub mod KnownLemmas
+pub mod AskLemmas
+pub mod TellLemmas
+pub mod WalkLemmas
+pub mod RowLemmas
+pub mod NeedLemmas
+pub mod OutputLemmas
+pub mod PartLemmas
+pub mod FileLemmas
+pub mod EvaluatedLemmas

@@ -1,0 +1,132 @@
+//! A build of a plan.
+ghost use Rattle.std.specs.Prelude.{◌≡◌, Bool, List, true, not, map, length, IfOk, IsTrue, OnErr};
+ghost use Rattle.std.specs.List.{AllZip};
+ghost use Rattle.gb_folder.specs.Calls.{Asks};
+ghost use Rattle.gb_folder.specs.Files.{Bytes};
+ghost use Rattle.gb_history.specs.Places.{record_place};
+ghost use Rattle.gb_meaning.specs.Headline.{Agrees, HasFailed, HaveHeard, TearsAreSeen};
+ghost use Rattle.gb_meaning.specs.Kinds.{Kinds};
+ghost use Rattle.gb_meaning.specs.Memory.{Memory};
+ghost use Rattle.gb_meaning.specs.Outline.{Outlines};
+ghost use Rattle.gb_plan.specs.Graph.{order};
+ghost use Rattle.gb_printer.specs.Printing.{Prints, parts_text};
+ghost use Rattle.gb_records.specs.Said.{IsText};
+ghost use Rattle.gb_store.specs.Changes.{ChangesOnly};
+ghost use Rattle.gb_turn.specs.Turned.{Registering, setting_with};
+ghost use Rattle.gb_exec.specs.Asking.{WereCurrent, in_build};
+ghost use Rattle.gb_exec.specs.Building.{CanBuild, is_of_turns};
+ghost use Rattle.gb_exec.specs.Built.{AreWorth, HasBuilt};
+ghost use Rattle.gb_exec.specs.Failing.{times_blamed};
+ghost use Rattle.gb_exec.specs.Reports.{IsOf};
+
+use crate::dry::dry_reports;
+use crate::heard_laws::told_is_heard;
+use crate::listener::TaskListener;
+use crate::one::Build;
+use crate::plans::starts_of;
+use crate::turns::take_turns;
+use gb_action::actions::Actions;
+use gb_action::table::ActionTable;
+use gb_core::path::TaskPath;
+use gb_folder::folder::Folder;
+use gb_history::record::Record;
+use gb_plan::plan::{Plan, Planned, paths_of};
+use gb_printer::printer::Printer;
+use gb_report::report::{Options, Report, TaskReport, TaskReports};
+use std::alloc::{AllocError, Global};
+
+/// Builds a plan. `records` has what was read of its tasks' records, in their order. Each task that starts is
+/// told to all listeners before its turn and after it, and its part is printed as soon as its turn has ended.
+/// It fails only for want of memory before the first turn, with nothing changed, nothing told and nothing
+/// printed; what goes wrong later is told as a task's failure. In a dry run nothing starts, each task is
+/// reported as skipped, and nothing is printed.
+pub fn execute<A: Actions, F: Folder, L: TaskListener, P: Printer>(
+    alloc: Global,
+    folder: &mut F,
+    plan: &Plan,
+    table: &ActionTable<A::Stored>,
+    records: &[Option<Record>],
+    listeners: &mut Vec<L>,
+    printer: &mut P,
+    options: Options,
+) -> Result<Report, AllocError>
+    requires can { CanBuild A.meanings table.now plan.now }
+    requires each { length records.now ≡ length plan.now }
+    ensures unbegun { OnErr result (folder.new ≡ folder.old) }
+    ensures untold { OnErr result (listeners.new ≡ listeners.old) }
+    ensures unprinted { OnErr result (printer.new ≡ printer.old) }
+    ensures dry_run { IfOk result (λ report. report.dry_run ≡ options.dry_run) }
+    ensures of_tasks { IfOk result (λ report. AllZip IsOf plan.now report.tasks) }
+    // Over any folder: which tasks start, and what each may answer.
+    ensures outline { IfOk result (λ report. Outlines options plan.now report.tasks) }
+    ensures heard { IfOk result (λ report.
+        HaveHeard report (map L.ear listeners.old.items) (map L.ear listeners.new.items)) }
+    // The parts of its tasks were printed; or a beginning of them, where they could not be.
+    ensures printed { IfOk result (λ report.
+        Prints P.contents P.whole (parts_text report) printer.old printer.new) }
+    ensures asks { Asks F.failures F.may_leave F.asked
+        (in_build F.failures F.may_leave F.asked folder.old A.meanings table.now options plan.now records.now)
+        folder.old folder.new }
+    // What is told up to date was found so on what was answered in this build.
+    ensures current { IfOk result (λ report. WereCurrent F.failures F.may_leave F.asked folder.old options
+        plan.now records.now report.tasks) }
+    // The device is blamed no more often than it failed.
+    ensures device { IfOk result (λ report.
+        HasFailed (times_blamed report.tasks) (F.failures folder.old) (F.failures folder.new)) }
+    ensures dry { options.dry_run ≡ true → folder.new ≡ folder.old }
+    ensures changes { IsTrue F.tells
+        → ChangesOnly (is_of_turns plan.now) (F.contents folder.old) (F.contents folder.new) }
+    // From records that are worth it, this is a build of the plan, and the records of what is remembered
+    // stand after it.
+    ensures build { IsTrue F.tells → IfOk result (λ report. (kinds : Kinds) (registry_of : Registering)
+        (remembered : Memory) (clear : Bool) (seen : List Bytes) → Agrees A.meanings table.now kinds
+        → TearsAreSeen IsText record_place (F.may_leave folder.old)
+        → (IsTrue clear → AreWorth kinds plan.now records.now seen (F.contents folder.old) remembered)
+        → HasBuilt (setting_with kinds registry_of (F.may_leave folder.old)) clear seen options plan.now
+        (record {
+          contents = F.contents folder.old;
+          remembered = remembered;
+          failures = F.failures folder.old;
+        })
+        report.tasks
+        (record { contents = F.contents folder.new; failures = F.failures folder.new })) }
+{
+    told_is_heard();
+    let tasks = plan.as_slice();
+    if options.dry_run {
+        return Ok(reported(dry_reports(alloc, tasks)?, true, true));
+    }
+    let paths = paths_of(alloc, tasks)?;
+    let mut starts = starts_of(alloc, tasks)?;
+    let mut reports = Vec::with_capacity(alloc, tasks.len())?;
+    let build = Build {
+        tasks,
+        table,
+        records,
+        options,
+    };
+    let all_heard = take_turns::<A, F, L, P>(
+        alloc,
+        folder,
+        &build,
+        &mut starts,
+        paths,
+        listeners,
+        printer,
+        &mut reports,
+    );
+    Ok(reported(reports, false, all_heard))
+}
+
+/// The report of a build.
+fn reported(tasks: Vec<TaskReport>, dry_run: bool, all_heard: bool) -> Report
+    ensures tasks { result.tasks ≡ tasks.items }
+    ensures dry_run { result.dry_run ≡ dry_run }
+    ensures refused { result.listener_refused ≡ not all_heard }
+{
+    Report {
+        tasks: TaskReports::from_vec(tasks),
+        dry_run,
+        listener_refused: !all_heard,
+    }
+}

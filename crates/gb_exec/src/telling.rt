@@ -1,0 +1,44 @@
+//! Telling all listeners.
+ghost use Rattle.std.specs.Prelude.{◌≡◌, ◌∷◌, [], map, true, false};
+ghost use Rattle.gb_meaning.specs.Headline.{HearsAll};
+ghost use Rattle.gb_exec.specs.Telling.{AllTold, Refuses, told_of};
+
+use crate::listener::TaskListener;
+use gb_core::path::TaskPath;
+use gb_report::report::Outcome;
+use std::alloc::Global;
+
+/// Tells one listener that a task's turn has come, or with which outcome it ended: whether it has heard it.
+fn tell_one<L: TaskListener>(
+    alloc: Global,
+    listener: &mut L,
+    task: &TaskPath,
+    ended: Option<&Outcome>,
+) -> bool
+    ensures heard { result ≡ true → HearsAll (told_of task.now ended.entry ∷ []) (L.ear listener.old)
+        (L.ear listener.new) }
+    ensures refused { result ≡ false → Refuses (L.ear listener.old) (L.ear listener.new) }
+{
+    match ended {
+        None => listener.before_execute(alloc, task).is_ok(),
+        Some(outcome) => listener.after_execute(alloc, task, outcome).is_ok(),
+    }
+}
+
+/// Tells all listeners that a task's turn has come, or with which outcome it ended: whether each has heard
+/// it. A listener that refuses keeps none of the others from hearing.
+pub fn tell<L: TaskListener>(
+    alloc: Global,
+    listeners: &mut Vec<L>,
+    task: &TaskPath,
+    ended: Option<&Outcome>,
+) -> bool
+    ensures { AllTold (told_of task.now ended.entry ∷ []) result (map L.ear listeners.old.items)
+        (map L.ear listeners.new.items) }
+{
+    let mut all_heard = true;
+    for at in 0..listeners.len() {
+        all_heard &= tell_one(alloc, &mut listeners[at], task, ended);
+    }
+    all_heard
+}

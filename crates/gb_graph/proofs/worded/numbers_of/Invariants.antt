@@ -1,0 +1,7 @@
+use Rattle.std.proofs.Common.{◌≡◌, ◌<◌, ◌↔◌, ℕ, List, [], Some, get_or}
+use Rattle.gb_graph.specs.Queue.{paths_in}
+use Rattle.gb_graph.specs.Ranked.{number_at}
+use Rattle.gb_graph.proofs.worded.numbers_of.Given as goal
+
+abbrev pub invariant-loop-number : goal.invariant-loop-number
+invariant-loop-number l = (path : List ℕ) (number : ℕ) → (number_at l.numbers path ≡ Some number) ↔ ((number < l.number) × (get_or (paths_in l.tasks) number [] ≡ path))

@@ -1,0 +1,52 @@
+-- The circle of tasks that never get ready, by number.
+use Rattle.std.specs.Prelude.{ℕ, ◌≡◌, Bool, true, false, List, [], ◌∷◌, Contains, slice_index_or}
+use Rattle.std.specs.Ordering.{is_lt}
+use Rattle.gb_core.specs.Lists.{byte_order}
+use Rattle.gb_plan.specs.declared.plan.Planned.{Planned}
+use Rattle.gb_plan.specs.Task.{Path}
+use Rattle.gb_plan.specs.Graph.{order}
+use Rattle.gb_graph.specs.Order.{row}
+use Rattle.gb_graph.specs.Settled.{stands_in}
+use Rattle.gb_graph.specs.Ranked.{AreApart}
+
+-- the path of the task of this number
+abbrev pub path_at : List Planned → ℕ → Path
+path_at tasks number = slice_index_or (order tasks) number []
+
+-- it is one of these that are marked, and of those none comes before it by path
+pub record IsLeastNumber (tasks : List Planned) (numbers : List ℕ) (marks : List Bool)
+    (number : ℕ) : Type 0 where
+  pub is_in : Contains numbers number
+  pub marked : stands_in marks number ≡ true
+  pub least : (other : ℕ) → Contains numbers other → stands_in marks other ≡ true
+      → is_lt (byte_order (path_at tasks other) (path_at tasks number)) ≡ false
+
+-- the second is the least of the marked ones that the first comes after
+abbrev pub IsNextNumber : List Planned → List (List ℕ) → List Bool → ℕ → ℕ → Type 0
+IsNextNumber tasks after marks number next = IsLeastNumber tasks (row after number) marks next
+
+-- by steps from one number to another, through these: the one, and all between the two
+pub data LeadsTo (steps : ℕ → ℕ → Type 0) : ℕ → List ℕ → ℕ → Type 0 where
+  is_there : {number : ℕ} → LeadsTo steps number [] number
+  goes : {from : ℕ} {next : ℕ} {passed : List ℕ} {to : ℕ} → steps from next
+      → LeadsTo steps next passed to → LeadsTo steps from (from ∷ passed) to
+
+-- a way from the start that comes back to a number of its own
+pub record IsTrail (tasks : List Planned) (after : List (List ℕ)) (marks : List Bool) (start : ℕ)
+    (trail : List ℕ) (back : ℕ) : Type 0 where
+  pub leads : LeadsTo (IsNextNumber tasks after marks) start trail back
+  pub apart : AreApart trail
+  pub comes_back : Contains trail back
+  pub marked : (number : ℕ) → Contains trail number → stands_in marks number ≡ true
+
+-- The circle into which the way from the least of these leads, from its own least number on.
+pub record IsRound (tasks : List Planned) (after : List (List ℕ)) (marks : List Bool)
+    (numbers circle : List ℕ) : Type 0 where
+  pub start : ℕ
+  pub first : ℕ
+  pub way : List ℕ
+  pub from_least : IsLeastNumber tasks numbers marks start
+  pub comes_to : LeadsTo (IsNextNumber tasks after marks) start way first
+  pub goes_round : LeadsTo (IsNextNumber tasks after marks) first circle first
+  pub once : AreApart circle
+  pub least_first : IsLeastNumber tasks circle marks first

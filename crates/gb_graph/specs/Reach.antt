@@ -1,0 +1,63 @@
+-- What is reached along rows of numbers, and from which start first.
+use Rattle.std.specs.Prelude.{ℕ, ◌≡◌, ◌<◌, ◌+◌, ◌⊎◌, List, length, Contains, Bool, true, false, slice_index}
+use Rattle.gb_graph.specs.Order.{row}
+use Rattle.gb_graph.specs.Settled.{stands_in, missing}
+
+-- what is reached from these starts
+pub data Reaches (table : List (List ℕ)) (starts : List ℕ) : ℕ → Type 0 where
+  start : {task : ℕ} → Contains starts task → Reaches table starts task
+  step : {from : ℕ} {task : ℕ} → Reaches table starts from → Contains (row table from) task
+      → Reaches table starts task
+
+-- the first of the starts from which the task is reached, has this index
+pub record IsFirstStart (table starts : List (List ℕ)) (task index : ℕ) : Type 0 where
+  pub within : index < length starts
+  pub reaches : Reaches table (row starts index) task
+  pub none_before : (i : ℕ) → i < index → ¬ Reaches table (row starts i) task
+
+-- ---- What the helpers do
+
+-- what is marked leads to what is marked
+abbrev pub IsClosed : List (List ℕ) → List Bool → Type 0
+IsClosed table stands =
+    (from task : ℕ) → stands_in stands from ≡ true → Contains (row table from) task
+    → stands_in stands task ≡ true
+
+-- These tasks are marked too; those that were not yet get the word, and stand among the fresh ones.
+pub record IsMarked (stands stands' : List Bool) (words words' fresh fresh' tasks : List ℕ)
+    (word : ℕ) : Type 0 where
+  pub stays : (k : ℕ) → stands_in stands k ≡ true → stands_in stands' k ≡ true
+  pub marks : (k : ℕ) → Contains tasks k → stands_in stands' k ≡ true
+  pub only : (k : ℕ) → stands_in stands' k ≡ true → (stands_in stands k ≡ true) ⊎ Contains tasks k
+  pub same : (k : ℕ) → stands_in stands k ≡ true → slice_index words' k ≡ slice_index words k
+  pub new : (k : ℕ) → stands_in stands k ≡ false → stands_in stands' k ≡ true
+      → (slice_index words' k ≡ word) × Contains fresh' k
+  pub kept : (k : ℕ) → Contains fresh k → Contains fresh' k
+  pub made : (k : ℕ) → Contains fresh' k → Contains fresh k ⊎ Contains tasks k
+  pub count : missing stands' + length fresh' ≡ missing stands + length fresh
+
+-- all that is reached from the starts is marked too, where it was not with the word
+pub record IsSpread (table : List (List ℕ)) (starts : List ℕ) (word : ℕ) (stands stands' : List Bool)
+    (words words' : List ℕ) : Type 0 where
+  pub stays : (k : ℕ) → stands_in stands k ≡ true → stands_in stands' k ≡ true
+  pub whole : (k : ℕ) → Reaches table starts k → stands_in stands' k ≡ true
+  pub only : (k : ℕ) → stands_in stands' k ≡ true
+      → (stands_in stands k ≡ true) ⊎ Reaches table starts k
+  pub same : (k : ℕ) → stands_in stands k ≡ true → slice_index words' k ≡ slice_index words k
+  pub new : (k : ℕ) → stands_in stands k ≡ false → stands_in stands' k ≡ true
+      → slice_index words' k ≡ word
+  pub closed : IsClosed table stands'
+
+-- how far it has come: what leads to tasks that are not marked stands among the fresh ones
+pub record Spreads (table : List (List ℕ)) (starts : List ℕ) (word : ℕ) (stands stands' : List Bool)
+    (words words' fresh : List ℕ) : Type 0 where
+  pub stays : (k : ℕ) → stands_in stands k ≡ true → stands_in stands' k ≡ true
+  pub begun : (k : ℕ) → Contains starts k → stands_in stands' k ≡ true
+  pub only : (k : ℕ) → stands_in stands' k ≡ true
+      → (stands_in stands k ≡ true) ⊎ Reaches table starts k
+  pub same : (k : ℕ) → stands_in stands k ≡ true → slice_index words' k ≡ slice_index words k
+  pub new : (k : ℕ) → stands_in stands k ≡ false → stands_in stands' k ≡ true
+      → slice_index words' k ≡ word
+  pub goes : (k task : ℕ) → stands_in stands' k ≡ true → Contains (row table k) task
+      → (stands_in stands' task ≡ true) ⊎ Contains fresh k
+  pub reached : (k : ℕ) → Contains fresh k → Reaches table starts k

@@ -1,0 +1,110 @@
+//! The order of tasks that are numbered by rank: each is the least whose predecessors stand.
+ghost use Rattle.std.specs.Prelude.{◌≡◌, ◌<◌, ℕ, length, Contains, MatchOption, slice_index_or, false, true};
+ghost use Rattle.std.specs.Prelude.{OnOk, IfOk, vec_len};
+ghost use Rattle.std.specs.BTreeSet.{contains};
+ghost use Rattle.std.specs.Ordering.{nat_cmp};
+ghost use Rattle.gb_graph.specs.Order.{rows, row, AreTasks, IsOrder};
+ghost use Rattle.gb_graph.specs.Settled.{IsSettled, stands_in};
+
+use std::alloc::{AllocError, Global};
+use std::collections::BTreeSet;
+use std::mem;
+
+/// The first task of a row that does not stand yet.
+fn first_open(row: &[usize], stands: &[bool]) -> Option<usize>
+    requires known { (before : ℕ) → Contains row.now before → before < length stands.now }
+    ensures cases { MatchOption result
+        ((before : ℕ) → Contains row.now before → stands_in stands.now before ≡ true)
+        (λ missing. Contains row.now missing × (stands_in stands.now missing ≡ false)) }
+{
+    for before in row {
+        if !stands[*before] {
+            return Some(*before);
+        }
+    }
+    None
+}
+
+/// A task of a row that does not stand yet, looked for from where the last one was found.
+fn open_from(row: &[usize], stands: &[bool], cursor: &mut usize) -> Option<usize>
+    requires known { (before : ℕ) → Contains row.now before → before < length stands.now }
+    ensures cases { MatchOption result
+        ((before : ℕ) → Contains row.now before → stands_in stands.now before ≡ true)
+        (λ missing. Contains row.now missing × (stands_in stands.now missing ≡ false)) }
+{
+    for at in *cursor..row.len() {
+        if !stands[row[at]] {
+            *cursor = at;
+            return Some(row[at]);
+        }
+    }
+    first_open(row, stands)
+}
+
+/// Puts a task among the ready ones, or behind one that it waits for.
+fn settle(
+    after: &[Vec<usize>],
+    stands: &[bool],
+    waiting: &mut Vec<Vec<usize>>,
+    ready: &mut BTreeSet<usize>,
+    cursor: &mut usize,
+    task: usize,
+) -> Result<(), AllocError>
+    requires tasks { AreTasks (rows after.now) }
+    requires marks { length stands.now ≡ length after.now }
+    requires places { vec_len waiting.old ≡ length after.now }
+    requires known { task < length after.now }
+    ensures settled { OnOk result
+        (IsSettled (rows after.now) stands.now (rows waiting.old.items) (rows waiting.new.items)
+        (contains nat_cmp ready.old) (contains nat_cmp ready.new) task) }
+    ensures places { vec_len waiting.new ≡ length after.now }
+{
+    match open_from(&after[task], stands, cursor) {
+        Some(missing) => waiting[missing].push(task)?,
+        None => {
+            ready.insert(task)?;
+        }
+    }
+    Ok(())
+}
+
+/// The order of tasks that come after the tasks of their rows: each is the least whose row stands already.
+pub fn order_of(alloc: Global, after: &[Vec<usize>]) -> Result<Vec<usize>, AllocError>
+    requires tasks { AreTasks (rows after.now) }
+    ensures order { IfOk result (λ order. IsOrder (rows after.now) order.items) }
+{
+    let mut stands = vec![in alloc; false; after.len()]?;
+    let mut cursors = vec![in alloc; 0; after.len()]?;
+    let mut waiting = Vec::new(alloc);
+    for _ in after {
+        waiting.push(Vec::new(alloc))?;
+    }
+    let mut ready = BTreeSet::new(alloc);
+    let mut order = Vec::new(alloc);
+    for task in 0..after.len() {
+        settle(
+            after,
+            &stands,
+            &mut waiting,
+            &mut ready,
+            &mut cursors[task],
+            task,
+        )?;
+    }
+    while let Some(task) = ready.pop_first() {
+        order.push(task)?;
+        stands[task] = true;
+        let waiters = mem::replace(&mut waiting[task], Vec::new(alloc));
+        for waiter in &waiters {
+            settle(
+                after,
+                &stands,
+                &mut waiting,
+                &mut ready,
+                &mut cursors[*waiter],
+                *waiter,
+            )?;
+        }
+    }
+    Ok(order)
+}

@@ -1,4 +1,0 @@
-pub mod Refusing
-pub mod Asking
-pub mod Leading
-pub mod Asked

@@ -1,0 +1,133 @@
+use Rattle.std.proofs.Common.{◌≡◌, ◌≤◌, ◌<◌, length, get_or, ◌++◌, List, map, IsTrue, IfErr, sym, ap, subst, take, ◌∙◌, inl, inr, arith}
+use Rattle.std.proofs.lemmas.Result.{err_from_is_err_and}
+use Rattle.std.proofs.lemmas.List.{take_all}
+use Rattle.std.specs.List.{AllByRecursion, AllZip, flat_map}
+use Rattle.gb_core.specs.Lists.{first_of}
+use Rattle.gb_core.specs.Place.{is_under}
+use Rattle.gb_folder.proofs.Asked.{asks_nothing, asks_then}
+use Rattle.gb_folder.specs.Files.{Contents}
+use Rattle.gb_history.specs.Remembered.{Prints}
+use Rattle.gb_report.specs.declared.fault.Fault.{Fault}
+use Rattle.gb_plan.specs.Task.{is_output_of}
+use Rattle.gb_plan.specs.declared.task.Output.{Output}
+use Rattle.gb_store.proofs.Machine.{at_err, handed_on, machine_before}
+use Rattle.gb_store.proofs.Loops.{any_here}
+use Rattle.gb_tree.proofs.Answering.{all_zip_more}
+use Rattle.gb_tree.proofs.Holding.{all_wider}
+use Rattle.gb_tree.proofs.Seen.{each_more}
+use Rattle.gb_tree.specs.Prints.{digests_of}
+use Rattle.gb_tree.specs.Tree.{files_from}
+use Rattle.gb_tree.specs.declared.kept.SeenFile.{SeenFile}
+use Rattle.gb_label.specs.ReadingAnswered.{IsOutputAnswered}
+use Rattle.gb_label.specs.Reading.{CannotRead, IsOutputSeen, Read, print_faults, recorded_of}
+use Rattle.gb_label.proofs.ReadingAnswering.{output_longer}
+use Rattle.gb_label.proofs.Loops.{one_more, name_more, first_of_all, twice}
+use Rattle.gb_label.proofs.Readings.{prints_more, seen_more}
+use Rattle.gb_label.proofs.outputs.read_outputs.Goals as goal
+
+pub returns-in_err-read_one-clause-blamed : goal.returns-in_err-read_one-clause-blamed
+returns-in_err-read_one-clause-blamed g c = λ place device.
+    let p = err_from_is_err_and c.from_residual.result c.from_residual.ensures.1 in
+    let outputs = c.args.task.now.outputs in
+    let index = c.loop-output.output-index in
+    let item = c.output-item.result in
+    let less = subst (λ (os : List Output). index < length os) c.as_slice-output-items.ensures c.loop-output-test.true in
+    let is = subst (λ (os : List Output). item ≡ get_or os index item) c.as_slice-output-items.ensures c.output-item.is in
+    any_here (λ (output : Output). is_under place output.place) outputs index item less is
+    (c.read_one.ensures.blamed place (handed_on c.from_residual.result c.read_one.result p.0 c.in_err-read_one.field-0.0 place p.1 p.2 c.in_err-read_one.was device))
+
+pub returns-in_err-read_one-clause-err : goal.returns-in_err-read_one-clause-err
+returns-in_err-read_one-clause-err g c = λ tells.
+    let p = err_from_is_err_and c.from_residual.result c.from_residual.ensures.1 in
+    let old = g.F.Folder.contents c.args.folder.now in
+    let outputs = c.args.task.now.outputs in
+    let index = c.loop-output.output-index in
+    let item = c.output-item.result in
+    let less = subst (λ (os : List Output). index < length os) c.as_slice-output-items.ensures c.loop-output-test.true in
+    let is = subst (λ (os : List Output). item ≡ get_or os index item) c.as_slice-output-items.ensures c.output-item.is in
+    let IsFault : Fault → Type 0 = CannotRead (g.F.Folder.failures c.args.folder.now) (g.F.Folder.failures c.read_one.new.folder) (flat_map (print_faults old) c.args.task.now.outputs) in
+    at_err (λ r. IfErr r IsFault) c.from_residual.result p.0 c.in_err-read_one.field-0.0 p.1 p.2 (elim (c.in_err-read_one.ensures.err tells) [
+      | inl machine ↦ inl (machine_before _ _ _ _ c.loop-output.invariant.asks.count c.read_one.ensures.asks.count machine)
+      | inr first ↦ inr (first_of_all (print_faults old) outputs index item _ less is (c.loop-output.invariant.fit tells)
+          (ap (λ folder. first_of (print_faults folder item)) (sym (c.loop-output.invariant.same tells)) ∙ first))
+    ])
+
+pub loop-output-preserved : goal.loop-output-preserved
+loop-output-preserved g c =
+    let task = c.args.task.now in
+    let old = g.F.Folder.contents c.args.folder.now in
+    let outputs = task.outputs in
+    let index = c.loop-output.output-index in
+    let item = c.output-item.result in
+    let less = subst (λ (os : List Output). index < length os) c.as_slice-output-items.ensures c.loop-output-test.true in
+    let is = subst (λ (os : List Output). item ≡ get_or os index item) c.as_slice-output-items.ensures c.output-item.is in
+    let so_far = c.loop-output.invariant in
+    let readings = c.loop-output.readings.items in
+    let next = c.push.new.self.items in
+    let added = c.in_ok-push.ensures.items in
+    let one = c.in_ok-read_one.ensures in
+    let x : Read = c.in_ok-read_one.field-0 in
+    let told : Output → Prints = λ output. (recorded_of old.files output).prints in
+    record {
+      asks = asks_then so_far.asks c.read_one.ensures.asks;
+      same = λ tells. c.read_one.ensures.same tells ∙ so_far.same tells;
+      named = name_more (λ (reading : Read). reading.0) (λ (output : Output). output.name) readings next x outputs index item less is so_far.named added one.named;
+      within =
+          each_more (λ (reading : Read). AllByRecursion (λ seen. IsTrue (is_output_of task seen.place)) reading.1) readings next x added so_far.within
+          (all_wider (λ (seen : SeenFile). IsTrue (is_under seen.place item.place)) (λ (seen : SeenFile). IsTrue (is_output_of task seen.place)) x.1
+          (λ seen under. any_here (λ (output : Output). is_under seen.place output.place) outputs index item less is under) one.within);
+      answered =
+          let F = g.F.Folder in
+          let before = c.args.folder.now in
+          let now = c.read_one.new.folder in
+          let Answered : Output → Read → Type 0 = IsOutputAnswered F.failures F.may_leave F.asked before now in
+          seen_more Answered outputs readings next index item x less is added
+          (all_zip_more (IsOutputAnswered F.failures F.may_leave F.asked before c.loop-output.folder) Answered (output_longer (asks_nothing before) c.read_one.ensures.asks)
+          (take index outputs) readings so_far.answered)
+          (output_longer so_far.asks (asks_nothing now) item x one.answered);
+      prints = λ tells.
+          prints_more told readings next x outputs index item less is added one.named (one.digests tells ∙ ap (λ folder. digests_of (files_from folder.files item.place)) (so_far.same tells)) (so_far.prints tells);
+      seen = λ tells.
+          seen_more (IsOutputSeen old.files) outputs readings next index item x less is added (so_far.seen tells)
+          (subst (λ (now : Contents). IsOutputSeen now.files item x) (so_far.same tells) (one.seen tells));
+      fit = λ tells.
+          one_more (print_faults old) outputs index item less is
+          ∙ ap (λ xs. xs ++ print_faults old item) (so_far.fit tells) ∙ (ap (λ folder. print_faults folder item) (sym (so_far.same tells)) ∙ one.fit tells);
+    }
+
+pub returns-clause-read : goal.returns-clause-read
+returns-clause-read g c =
+    let outputs = c.args.task.now.outputs in
+    let index = c.loop-output.output-index in
+    let long : length outputs ≤ index = omega (arith, c.loop-output-test.false, ap length c.as_slice-output-items.ensures) in
+    record {
+      named = c.loop-output.invariant.named ∙ ap (map (λ (output : Output). output.name)) (take_all index outputs long);
+      within = c.loop-output.invariant.within;
+    }
+
+pub returns-clause-prints : goal.returns-clause-prints
+returns-clause-prints g c = λ tells.
+    let old = g.F.Folder.contents c.args.folder.now in
+    let outputs = c.args.task.now.outputs in
+    let index = c.loop-output.output-index in
+    let long : length outputs ≤ index = omega (arith, c.loop-output-test.false, ap length c.as_slice-output-items.ensures) in
+    c.loop-output.invariant.prints tells
+    ∙ ap (map (λ (output : Output). (recorded_of old.files output).prints)) (take_all index outputs long)
+    ∙ twice (recorded_of old.files) (λ made. made.prints) outputs
+
+pub returns-clause-seen : goal.returns-clause-seen
+returns-clause-seen g c = λ tells.
+    let old = g.F.Folder.contents c.args.folder.now in
+    let outputs = c.args.task.now.outputs in
+    let index = c.loop-output.output-index in
+    let long : length outputs ≤ index = omega (arith, c.loop-output-test.false, ap length c.as_slice-output-items.ensures) in
+    subst (λ (os : List Output). AllZip (IsOutputSeen old.files) os c.loop-output.readings.items) (take_all index outputs long) (c.loop-output.invariant.seen tells)
+
+pub returns-clause-answered : goal.returns-clause-answered
+returns-clause-answered g c =
+    let F = g.F.Folder in
+    let outputs = c.args.task.now.outputs in
+    let index = c.loop-output.output-index in
+    let long : length outputs ≤ index = omega (arith, c.loop-output-test.false, ap length c.as_slice-output-items.ensures) in
+    subst (λ (os : List Output). AllZip (IsOutputAnswered F.failures F.may_leave F.asked c.args.folder.now c.loop-output.folder) os c.loop-output.readings.items)
+    (take_all index outputs long) c.loop-output.invariant.answered

@@ -1,0 +1,142 @@
+//! The inputs of a task: read by the label, and completed for a run.
+ghost use Rattle.std.specs.Prelude.{◌≡◌, [], map, IsTrue, IfOk, IfErr, OnOk};
+ghost use Rattle.std.specs.List.{AllByRecursion};
+ghost use Rattle.gb_folder.specs.Calls.{Asks, no_change};
+ghost use Rattle.gb_meaning.specs.Tree.{input_faults, tree_faults, tree_of, trees_of};
+ghost use Rattle.gb_plan.specs.Task.{seen_files};
+ghost use Rattle.gb_store.specs.Faults.{Blames, BlamesOnly, IsOfMachine};
+ghost use Rattle.gb_tree.specs.Prints.{digests_of};
+ghost use Rattle.gb_tree.specs.Property.{is_under_any};
+ghost use Rattle.gb_tree.specs.Reading.{digests_seen};
+ghost use Rattle.gb_label.specs.ReadingAnswered.{AreInputsAnswered, AreInputsRead, IsInputAnswered};
+ghost use Rattle.gb_label.specs.Reading.{AreInputs, AreInputsSeen, CannotRead, IsPropertySeen};
+ghost use Rattle.gb_label.specs.Reading.{digests_in, is_input_of, prints_read};
+
+use crate::completing::complete;
+use crate::fault::told;
+use gb_action::snapshot::Snapshots;
+use gb_folder::folder::Folder;
+use gb_plan::task::{FileProperty, TaskDeclaration};
+use gb_report::fault::Fault;
+use gb_tree::kept::Reading;
+use gb_tree::prints::Prints;
+use gb_tree::property::reading_of;
+use std::alloc::Global;
+
+/// The files of one file property.
+fn read_one<F: Folder>(
+    alloc: Global,
+    folder: &mut F,
+    property: &FileProperty,
+    room: &mut u64,
+) -> Result<Reading, Fault>
+    ensures asks { Asks F.failures F.may_leave F.asked no_change folder.old folder.new }
+    ensures blame { Blames result (F.failures folder.old) (F.failures folder.new) }
+    ensures blamed { BlamesOnly (is_under_any property.now.roots) result }
+    ensures same { IsTrue F.tells → F.contents folder.new ≡ F.contents folder.old }
+    ensures named { IfOk result (λ reading. reading.0 ≡ property.now.name) }
+    ensures within { IfOk result
+        (λ reading. AllByRecursion (λ seen. IsTrue (is_under_any property.now.roots seen.place)) reading.1) }
+    ensures answered { IfOk result
+        (IsInputAnswered F.failures F.may_leave F.asked folder.old folder.new property.now) }
+    ensures digests { IsTrue F.tells → IfOk result (λ reading. digests_seen reading.1
+        ≡ digests_of (tree_of property.now (F.contents folder.old).files)) }
+    ensures seen { IsTrue F.tells
+        → IfOk result (IsPropertySeen (F.contents folder.old).files property.now) }
+    ensures fit { IsTrue F.tells → OnOk result (tree_faults property.now (F.contents folder.old) ≡ []) }
+    ensures err { IsTrue F.tells → IfErr result
+        (CannotRead (F.failures folder.old) (F.failures folder.new) (tree_faults property.now
+        (F.contents folder.old))) }
+{
+    match reading_of(
+        alloc,
+        folder,
+        &property.name,
+        property.naming,
+        property.roots.as_slice(),
+        property.include.as_slice(),
+        property.exclude.as_slice(),
+        room,
+    ) {
+        Ok(reading) => Ok(reading),
+        Err(fault) => Err(told(fault)),
+    }
+}
+
+/// The files of all file properties of a task, in the order of their names. Their bytes are kept as far as
+/// there is `room` for them, which they lessen. Nothing is changed, also not by an error: the first of what
+/// hinders reading them.
+pub fn read_inputs<F: Folder>(
+    alloc: Global,
+    folder: &mut F,
+    task: &TaskDeclaration,
+    room: &mut u64,
+) -> Result<Vec<Reading>, Fault>
+    ensures asks { Asks F.failures F.may_leave F.asked no_change folder.old folder.new }
+    ensures blame { Blames result (F.failures folder.old) (F.failures folder.new) }
+    ensures blamed { BlamesOnly (is_input_of task.now) result }
+    ensures read { IfOk result (λ readings. AreInputs task.now readings.items) }
+    // Over any folder: the files are those that calls answered, and so are their digests and bytes.
+    ensures answered { IfOk result (λ readings. AreInputsAnswered F.failures F.may_leave F.asked
+        folder.old folder.new task.now readings.items) }
+    ensures same { IsTrue F.tells → F.contents folder.new ≡ F.contents folder.old }
+    ensures prints { IsTrue F.tells → IfOk result (λ readings.
+        prints_read readings.items ≡ digests_in (trees_of task.now (F.contents folder.old).files)) }
+    ensures seen { IsTrue F.tells → IfOk result
+        (λ readings. AreInputsSeen task.now (F.contents folder.old).files readings.items) }
+    ensures fit { IsTrue F.tells → OnOk result (input_faults task.now (F.contents folder.old) ≡ []) }
+    ensures err { IsTrue F.tells → IfErr result
+        (CannotRead (F.failures folder.old) (F.failures folder.new) (input_faults task.now
+        (F.contents folder.old))) }
+{
+    let mut readings = Vec::new(alloc);
+    for property in task.files.as_slice() {
+        readings.push(read_one(alloc, folder, property, room)?)?;
+    }
+    Ok(readings)
+}
+
+/// What a run works on.
+#[derive(Drop)]
+pub struct Inputs {
+    /// The trees of the file properties.
+    pub trees: Snapshots,
+    /// The digests of these very trees.
+    pub prints: Vec<Prints>,
+}
+
+/// The trees of a task's inputs, whole: what was kept as it was read, and the rest as it is now, digested
+/// anew. Nothing is changed, also not by an error: the machine's, or that a file is gone since or has grown.
+pub fn complete_inputs<F: Folder>(
+    alloc: Global,
+    folder: &mut F,
+    task: &TaskDeclaration,
+    readings: Vec<Reading>,
+) -> Result<Inputs, Fault>
+    requires { AreInputs task.now readings.items }
+    ensures asks { Asks F.failures F.may_leave F.asked no_change folder.old folder.new }
+    ensures blame { Blames result (F.failures folder.old) (F.failures folder.new) }
+    ensures blamed { BlamesOnly (is_input_of task.now) result }
+    // Over any folder: the names of the properties, and the digests of the very trees.
+    ensures named { IfOk result (λ inputs. map (λ tree. tree.0) inputs.trees ≡ seen_files task.now.files) }
+    ensures digests { IfOk result (λ inputs. inputs.prints.items ≡ digests_in inputs.trees) }
+    // And what was answered before, with what is answered now of the rest.
+    ensures answered { (first : _) → Asks F.failures F.may_leave F.asked no_change first folder.old
+        → AreInputsAnswered F.failures F.may_leave F.asked first folder.old task.now readings.items
+        → IfOk result (λ inputs. AreInputsRead F.failures F.may_leave F.asked first folder.new task.now
+        inputs.trees) }
+    ensures same { IsTrue F.tells → F.contents folder.new ≡ F.contents folder.old }
+    ensures trees { IsTrue F.tells → AreInputsSeen task.now (F.contents folder.old).files readings.items
+        → IfOk result (λ inputs. inputs.trees ≡ trees_of task.now (F.contents folder.old).files) }
+    ensures err { IsTrue F.tells → AreInputsSeen task.now (F.contents folder.old).files readings.items
+        → IfErr result (IsOfMachine (F.failures folder.old) (F.failures folder.new)) }
+{
+    let mut trees = Snapshots::new(alloc);
+    let mut prints = Vec::new(alloc);
+    for reading in readings {
+        let (tree, found) = complete(alloc, folder, reading)?;
+        prints.push(found)?;
+        trees.push(tree)?;
+    }
+    Ok(Inputs { trees, prints })
+}

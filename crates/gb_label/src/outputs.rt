@@ -1,0 +1,190 @@
+//! The outputs of a task: read by the label, completed for a run by changes, and recorded.
+ghost use Rattle.std.specs.Prelude.{◌≡◌, [], map, IsTrue, IfOk, IfErr, OnOk};
+ghost use Rattle.std.specs.List.{AllByRecursion, flat_map};
+ghost use Rattle.gb_core.specs.Place.{is_under};
+ghost use Rattle.gb_folder.specs.Calls.{Asks, no_change};
+ghost use Rattle.gb_history.specs.Remembered.{prints_in};
+ghost use Rattle.gb_plan.specs.Task.{is_output_of, seen_outputs};
+ghost use Rattle.gb_store.specs.Faults.{Blames, BlamesOnly, IsOfMachine};
+ghost use Rattle.gb_tree.specs.Answered.{IsTreeRead, WereSeen};
+ghost use Rattle.gb_tree.specs.Prints.{digests_of};
+ghost use Rattle.gb_tree.specs.Reading.{IsSeenIn, digests_seen, entries_seen};
+ghost use Rattle.gb_tree.specs.Tree.{contents_at, files_from, is_among};
+ghost use Rattle.gb_label.specs.ReadingAnswered.{AreOutputsAnswered, AreOutputsRead, IsOutputAnswered};
+ghost use Rattle.gb_label.specs.Reading.{AreOutputs, AreOutputsSeen, CannotRead, IsOutputSeen, print_faults};
+ghost use Rattle.gb_label.specs.Reading.{prints_read, prints_seen, recorded_of, records_with, seen_of};
+
+use crate::completing::complete;
+use crate::fault::told;
+use gb_action::output::{OutputFiles, OutputSnapshots};
+use gb_folder::folder::Folder;
+use gb_history::record::OutputRecord;
+use gb_plan::task::{Output, TaskDeclaration};
+use gb_report::fault::Fault;
+use gb_tree::kept::Reading;
+use gb_tree::output::output_reading;
+use gb_tree::prints::Prints;
+use std::alloc::{AllocError, Global};
+
+/// The files of one output.
+fn read_one<F: Folder>(
+    alloc: Global,
+    folder: &mut F,
+    output: &Output,
+    room: &mut u64,
+) -> Result<Reading, Fault>
+    ensures asks { Asks F.failures F.may_leave F.asked no_change folder.old folder.new }
+    ensures blame { Blames result (F.failures folder.old) (F.failures folder.new) }
+    ensures blamed { BlamesOnly (λ at. is_under at output.now.place) result }
+    ensures same { IsTrue F.tells → F.contents folder.new ≡ F.contents folder.old }
+    ensures named { IfOk result (λ reading. reading.0 ≡ output.now.name) }
+    ensures within { IfOk result
+        (λ reading. AllByRecursion (λ seen. IsTrue (is_under seen.place output.now.place)) reading.1) }
+    ensures answered { IfOk result
+        (IsOutputAnswered F.failures F.may_leave F.asked folder.old folder.new output.now) }
+    ensures digests { IsTrue F.tells → IfOk result (λ reading. digests_seen reading.1
+        ≡ digests_of (files_from (F.contents folder.old).files output.now.place)) }
+    ensures seen { IsTrue F.tells → IfOk result (IsOutputSeen (F.contents folder.old).files output.now) }
+    ensures fit { IsTrue F.tells → OnOk result (print_faults (F.contents folder.old) output.now ≡ []) }
+    ensures err { IsTrue F.tells → IfErr result
+        (CannotRead (F.failures folder.old) (F.failures folder.new) (print_faults
+        (F.contents folder.old) output.now)) }
+{
+    match output_reading(alloc, folder, &output.name, &output.place, room) {
+        Ok(reading) => Ok(reading),
+        Err(fault) => Err(told(fault)),
+    }
+}
+
+/// The files at the outputs of a task, in the order of their names. Their bytes are kept as far as there is
+/// `room` for them, which they lessen. Nothing is changed, also not by an error: the first of what hinders
+/// reading them.
+pub fn read_outputs<F: Folder>(
+    alloc: Global,
+    folder: &mut F,
+    task: &TaskDeclaration,
+    room: &mut u64,
+) -> Result<Vec<Reading>, Fault>
+    ensures asks { Asks F.failures F.may_leave F.asked no_change folder.old folder.new }
+    ensures blame { Blames result (F.failures folder.old) (F.failures folder.new) }
+    ensures blamed { BlamesOnly (is_output_of task.now) result }
+    ensures read { IfOk result (λ readings. AreOutputs task.now readings.items) }
+    // Over any folder: the files are those that calls answered, and so are their digests and bytes.
+    ensures answered { IfOk result (λ readings. AreOutputsAnswered F.failures F.may_leave F.asked
+        folder.old folder.new task.now readings.items) }
+    ensures same { IsTrue F.tells → F.contents folder.new ≡ F.contents folder.old }
+    ensures prints { IsTrue F.tells → IfOk result (λ readings. prints_read readings.items
+        ≡ prints_in (map (recorded_of (F.contents folder.old).files) task.now.outputs)) }
+    ensures seen { IsTrue F.tells → IfOk result
+        (λ readings. AreOutputsSeen task.now (F.contents folder.old).files readings.items) }
+    ensures fit { IsTrue F.tells → OnOk result (flat_map (print_faults
+        (F.contents folder.old)) task.now.outputs ≡ []) }
+    ensures err { IsTrue F.tells → IfErr result (CannotRead (F.failures folder.old) (F.failures folder.new)
+        (flat_map (print_faults (F.contents folder.old)) task.now.outputs)) }
+{
+    let mut readings = Vec::new(alloc);
+    for output in task.outputs.as_slice() {
+        readings.push(read_one(alloc, folder, output, room)?)?;
+    }
+    Ok(readings)
+}
+
+/// What a run by changes goes on from.
+#[derive(Drop)]
+pub struct Outputs {
+    /// The files that stand at the outputs.
+    pub seen: OutputSnapshots,
+    /// The digests of these very files.
+    pub prints: Vec<Prints>,
+}
+
+/// One output whole, and the digests of its files.
+fn complete_one<F: Folder>(
+    alloc: Global,
+    folder: &mut F,
+    output: &Output,
+    reading: Reading,
+) -> Result<(OutputFiles, Prints), Fault>
+    ensures asks { Asks F.failures F.may_leave F.asked no_change folder.old folder.new }
+    ensures blame { Blames result (F.failures folder.old) (F.failures folder.new) }
+    ensures blamed { BlamesOnly (is_among (entries_seen reading.1)) result }
+    ensures same { IsTrue F.tells → F.contents folder.new ≡ F.contents folder.old }
+    ensures named { IfOk result (λ made. made.0.name ≡ output.now.name) }
+    ensures formed { IfOk result (λ made. made.0.form ≡ output.now.form) }
+    ensures digests { IfOk result (λ made. made.1 ≡ (reading.0, digests_of made.0.files)) }
+    // Over any folder: what was answered before, and what is answered now of the rest.
+    ensures answered { (first : _) → Asks F.failures F.may_leave F.asked no_change first folder.old
+        → WereSeen F.failures F.may_leave F.asked first folder.old reading.1
+        → IfOk result (λ made. IsTreeRead F.failures F.may_leave F.asked first folder.new
+        (entries_seen reading.1) made.0.files) }
+    ensures files { IsTrue F.tells → AllByRecursion (IsSeenIn (F.contents folder.old).files) reading.1
+        → IfOk result
+        (λ made. made.0.files ≡ contents_at (F.contents folder.old).files (entries_seen reading.1)) }
+    ensures err { IsTrue F.tells → AllByRecursion (IsSeenIn (F.contents folder.old).files) reading.1
+        → IfErr result (IsOfMachine (F.failures folder.old) (F.failures folder.new)) }
+{
+    let (tree, prints) = complete(alloc, folder, reading)?;
+    let seen = OutputFiles {
+        name: output.name.copy()?,
+        form: output.form,
+        files: tree.into_files(),
+    };
+    Ok((seen, prints))
+}
+
+/// The files at a task's outputs, whole: what was kept as it was read, and the rest as it is now, digested
+/// anew. Nothing is changed, also not by an error: the machine's, or that a file is gone since or has grown.
+pub fn complete_outputs<F: Folder>(
+    alloc: Global,
+    folder: &mut F,
+    task: &TaskDeclaration,
+    readings: Vec<Reading>,
+) -> Result<Outputs, Fault>
+    requires { AreOutputs task.now readings.items }
+    ensures asks { Asks F.failures F.may_leave F.asked no_change folder.old folder.new }
+    ensures blame { Blames result (F.failures folder.old) (F.failures folder.new) }
+    ensures blamed { BlamesOnly (is_output_of task.now) result }
+    // Over any folder: the names and forms of the outputs, and the digests of the very files.
+    ensures formed { IfOk result (λ outputs. map (λ output. (output.name, output.form)) outputs.seen
+        ≡ seen_outputs task.now.outputs) }
+    ensures digests { IfOk result (λ outputs. outputs.prints.items ≡ prints_seen outputs.seen) }
+    // And what was answered before, with what is answered now of the rest.
+    ensures answered { (first : _) → Asks F.failures F.may_leave F.asked no_change first folder.old
+        → AreOutputsAnswered F.failures F.may_leave F.asked first folder.old task.now readings.items
+        → IfOk result (λ outputs. AreOutputsRead F.failures F.may_leave F.asked first folder.new task.now
+        outputs.seen) }
+    ensures same { IsTrue F.tells → F.contents folder.new ≡ F.contents folder.old }
+    ensures files { IsTrue F.tells → AreOutputsSeen task.now (F.contents folder.old).files readings.items
+        → IfOk result
+        (λ outputs. outputs.seen ≡ map (seen_of (F.contents folder.old).files) task.now.outputs) }
+    ensures err { IsTrue F.tells → AreOutputsSeen task.now (F.contents folder.old).files readings.items
+        → IfErr result (IsOfMachine (F.failures folder.old) (F.failures folder.new)) }
+{
+    let mut seen = OutputSnapshots::new(alloc);
+    let mut prints = Vec::new(alloc);
+    for (output, reading) in task.outputs.as_slice().iter().zip(readings) {
+        let (files, found) = complete_one(alloc, folder, output, reading)?;
+        prints.push(found)?;
+        seen.push(files)?;
+    }
+    Ok(Outputs { seen, prints })
+}
+
+/// The outputs of a task with these digests, as they are recorded.
+pub fn records_of(
+    alloc: Global,
+    task: &TaskDeclaration,
+    prints: Vec<Prints>,
+) -> Result<Vec<OutputRecord>, AllocError>
+    ensures { IfOk result (λ records. records.items ≡ records_with task.now.outputs prints.items) }
+{
+    let mut records = Vec::with_capacity(alloc, prints.len())?;
+    for (output, prints) in task.outputs.as_slice().iter().zip(prints) {
+        records.push(OutputRecord {
+            form: output.form,
+            place: output.place.copy()?,
+            prints,
+        })?;
+    }
+    Ok(records)
+}

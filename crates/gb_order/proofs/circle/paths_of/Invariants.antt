@@ -1,6 +1,0 @@
-use Rattle.std.proofs.Common.{◌≡◌, map, take}
-use Rattle.gb_order.specs.Circle.{path_at}
-use Rattle.gb_order.proofs.circle.paths_of.Given as goal
-
-abbrev pub invariant-loop-number : goal.invariant-loop-number
-invariant-loop-number l = l.paths ≡ map (path_at l.tasks) (take l.number-index l.numbers)

@@ -1,9 +1,0 @@
-use Rattle.std.proofs.Common.{◌≡◌, length, take}
-use Rattle.gb_order.specs.Reach.{IsMarked}
-use Rattle.gb_order.proofs.reach.mark_all.Given as goal
-
-abbrev pub invariant-loop-task : goal.invariant-loop-task
-invariant-loop-task l = record {
-  each : length l.words ≡ length l.stands;
-  marked : IsMarked l.initial.stands l.stands l.initial.words l.words l.initial.fresh.items l.fresh.items (take l.task-index l.tasks) l.word;
-}

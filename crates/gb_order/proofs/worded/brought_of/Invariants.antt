@@ -1,7 +1,0 @@
-use Rattle.std.proofs.Common.{◌≡◌, take}
-use Rattle.gb_order.specs.Order.{rows}
-use Rattle.gb_order.specs.Words.{brought_rows}
-use Rattle.gb_order.proofs.worded.brought_of.Given as goal
-
-abbrev pub invariant-loop-task : goal.invariant-loop-task
-invariant-loop-task l = rows l.table.items ≡ brought_rows l.numbers (take l.task-index l.tasks)

@@ -1,5 +1,0 @@
-use Rattle.gb_project.proofs.GrowLemmas.{part_grows}
-use Rattle.gb_project.proofs.laws.parts_grow.Goals as goal
-
-pub returns : goal.returns
-returns c start = part_grows

@@ -1,5 +1,0 @@
-use Rattle.gb_project.proofs.ReadyLemmas.{realised_is_sound}
-use Rattle.gb_project.proofs.laws.realised_is_sound.Goals as goal
-
-pub returns : goal.returns
-returns c start tables source = realised_is_sound tables source

@@ -1,5 +1,0 @@
-use Rattle.gb_project.proofs.RisingLemmas.{realised_names_rise}
-use Rattle.gb_project.proofs.laws.realised_names_rise.Goals as goal
-
-pub returns : goal.returns
-returns c start tables source = realised_names_rise tables source

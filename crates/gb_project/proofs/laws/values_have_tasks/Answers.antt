@@ -1,9 +1,0 @@
-use Rattle.gb_project.proofs.CarrierLemmas.{part_produces}
-use Rattle.gb_project.proofs.NeedLemmas.{given_has_tasks}
-use Rattle.gb_project.proofs.laws.values_have_tasks.Goals as goal
-
-pub returns-clause-given : goal.returns-clause-given
-returns-clause-given c start = given_has_tasks c.T.Transforms.meanings
-
-pub returns-clause-produces : goal.returns-clause-produces
-returns-clause-produces c start = part_produces c.T.Transforms.meanings

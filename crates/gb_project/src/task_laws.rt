@@ -1,0 +1,13 @@
+//! Facts that follow from the definitions alone.
+ghost use Rattle.gb_registry.specs.Source.{Source};
+ghost use Rattle.gb_registry.specs.Tables.{Tables};
+ghost use Rattle.gb_declare.specs.Registered.{DeclaredNamesRise};
+
+use gb_action::actions::Actions;
+use gb_provider::transforms::Transforms;
+
+/// The names of what is declared stand in order, each once: of values, of file properties and of outputs.
+pub fn declared_names_rise<A: Actions, T: Transforms>()
+    ensures { (tables : Tables T.Map T.FlatMap T.Zip T.Test A.Stored) (source : Source)
+        → DeclaredNamesRise tables source }
+{}

@@ -1,0 +1,517 @@
+-- A run by changes that failed: what it keeps, what it prints, and what it leaves.
+use Rattle.std.specs.Prelude.{ℕ, ◌≡◌, ◌≢◌, ◌⊎◌, ◌++◌, ◌||◌, Bool, true, false, cond, if◌then◌else◌, List, [], ◌∷◌, Option, Some, None, Result, Ok, Err, IsTrue}
+use Rattle.std.specs.List.{AllByRecursion, fold, list_any}
+use Rattle.std.specs.FinMap.Entries.{is_sorted}
+use Rattle.std.specs.Ordering.{eq_by_cmp}
+use Rattle.std.proofs.Common.{refl, sym, ap, subst, ◌∙◌, inl, inr}
+use Rattle.std.proofs.lemmas.Grind.{fold-append}
+use mathlib.Core.Bool.{true≢false}
+use Rattle.gb_core.specs.Lists.{byte_order}
+use Rattle.gb_folder.specs.Files.{Place, Bytes, Files, file_at, is_empty, with_left}
+use Rattle.gb_report.specs.declared.fault.Fault.{Fault}
+use Rattle.gb_report.specs.declared.fault.Fault.TheVariants as faults
+use Rattle.gb_action.specs.Changes.{Changes}
+use Rattle.gb_action.specs.Files.{Trees}
+use Rattle.gb_action.specs.declared.reply.Written.{Written}
+use Rattle.gb_plan.specs.Task.{Text, is_output_of}
+use Rattle.gb_plan.specs.declared.task.Action.{Action}
+use Rattle.gb_plan.specs.declared.task.Output.{Output}
+use Rattle.gb_plan.specs.declared.task.TaskDeclaration.{TaskDeclaration as Task}
+use Rattle.gb_plan.proofs.Tests.{filter_append}
+use Rattle.gb_meaning.specs.Events.{IsTornInRun, Setting, StandsInRun}
+use Rattle.gb_meaning.specs.Kinds.{Kinds, kind_of}
+use Rattle.gb_meaning.specs.Label.{has_one_writer}
+use Rattle.gb_meaning.specs.Made.{act, made_of, placed, put_over, rest_of, step_faults}
+use Rattle.gb_meaning.specs.Tree.{has_no_source, trees_of}
+use Rattle.gb_meaning.specs.Turn.{IsWritten}
+use Rattle.gb_meaning.proofs.Lemmas.Ending.{ended_is_made}
+use Rattle.gb_meaning.proofs.Lemmas.Files.{at-put_over, or_else, sorted-put_over}
+use Rattle.gb_meaning.proofs.Lemmas.Making.{made_of_is_right}
+use Rattle.gb_run.specs.Asking.{made_by}
+use Rattle.gb_run.specs.Course.{Course, files_at_hand, free_files, lines_by, run_along}
+use Rattle.gb_run.specs.Laws.{Failure as FullFailure, course_in}
+use Rattle.gb_run.proofs.Endings.{with_none}
+use Rattle.gb_run.proofs.FailedRuns.{failed_runs_invent_nothing as full_runs_invent_nothing, failed_runs_print_fronts as full_runs_print_fronts, left_here, torn_places_are_of_the_run as torn_places_are_of_full_runs}
+use Rattle.gb_run.specs.AskingChanges.{IsFitting, writers}
+use Rattle.gb_run.specs.Changing.{AreAtHand, FailsByItself, FailsByMachine, Moment, ended_files, files_then}
+use Rattle.gb_run.specs.ChangeLaws.{FailedRunsInventNothing, FailedRunsKeepRightFiles, FailedRunsPrintFronts, TornPlacesAreOfTheRun}
+use Rattle.gb_run.specs.Steps.{LeadTo, Step, after_steps}
+use Rattle.gb_run.proofs.Looks.{at_left, same_place}
+use Rattle.gb_run.proofs.Writer.{IsOfWriter, none_made, writer_made, writer_of}
+
+-- ---- lists
+
+all_front : {X : Type 0} (P : X → Type 0) (xs ys : List X) → AllByRecursion P (xs ++ ys) → AllByRecursion P xs
+all_front P [] ys all = tt
+all_front P (x ∷ xs) ys all = (all.0, all_front P xs ys all.1)
+
+all_behind : {X : Type 0} (P : X → Type 0) (xs ys : List X) → AllByRecursion P (xs ++ ys) → AllByRecursion P ys
+all_behind P [] ys all = all
+all_behind P (x ∷ xs) ys all = all_behind P xs ys all.1
+
+all_so : {X : Type 0} (P Q : X → Type 0) → ((x : X) → P x → Q x) → (xs : List X) → AllByRecursion P xs → AllByRecursion Q xs
+all_so P Q so [] all = tt
+all_so P Q so (x ∷ xs) all = (so x all.0, all_so P Q so xs all.1)
+
+front_none : {X : Type 0} (xs ys : List X) → xs ++ ys ≡ [] → xs ≡ []
+front_none [] ys e = refl
+front_none (x ∷ xs) ys e = absurd (let q = e in (cc))
+
+behind_none : {X : Type 0} (xs ys : List X) → xs ++ ys ≡ [] → ys ≡ []
+behind_none [] ys e = e
+behind_none (x ∷ xs) ys e = absurd (let q = e in (cc))
+
+same_tail : {X : Type 0} (x y : X) (xs ys : List X) → x ∷ xs ≡ y ∷ ys → xs ≡ ys
+same_tail x y xs ys e = cc
+
+same_head : {X : Type 0} (x y : X) (xs ys : List X) → x ∷ xs ≡ y ∷ ys → x ≡ y
+same_head x y xs ys e = cc
+
+-- ---- steps
+
+elsewhere : (files : Files) (p : Place) (left : Option Bytes) (q : Place) → p ≢ q → file_at (with_left files p left) q ≡ file_at files q
+elsewhere files p left q apart = at_left files p left q ∙ by (eq_by_cmp byte_order q p) refl
+  where
+    by : (b : Bool) → eq_by_cmp byte_order q p ≡ b → cond b left (file_at files q) ≡ file_at files q
+    by true e = absurd (apart (sym (same_place q p e)))
+    by false e = refl
+
+untouched : (files : Files) (steps : List Step) (q : Place) → AllByRecursion (λ (s : Step). s.0 ≢ q) steps → file_at (after_steps files steps) q ≡ file_at files q
+untouched files [] q all = refl
+untouched files (s ∷ steps) q all = untouched (with_left files s.0 s.1) steps q all.1 ∙ elsewhere files s.0 s.1 q all.0
+
+abbrev AreMeant : Files → List Step → Type 0
+AreMeant target steps = AllByRecursion (λ (step : Step). (step.1 ≡ None) ⊎ (step.1 ≡ file_at target step.0)) steps
+
+-- what holds of no file, of what stood and of what is to stand, holds on the way
+steps_stand : (P : Option Bytes → Type 0) (target files : Files) (q : Place) (steps : List Step) → P None → P (file_at target q) → AreMeant target steps → P (file_at files q) → P (file_at (after_steps files steps) q)
+steps_stand P target files q [] none new meant at = at
+steps_stand P target files q (s ∷ steps) none new meant at =
+    steps_stand P target (with_left files s.0 s.1) q steps none new meant.1 (subst P (sym (at_left files s.0 s.1 q)) (by (eq_by_cmp byte_order q s.0) refl))
+  where
+    put : q ≡ s.0 → (s.1 ≡ None) ⊎ (s.1 ≡ file_at target s.0) → P s.1
+    put is (inl gone) = subst P (sym gone) none
+    put is (inr there) = subst P (sym (there ∙ ap (file_at target) (sym is))) new
+
+    by : (b : Bool) → eq_by_cmp byte_order q s.0 ≡ b → P (cond b s.1 (file_at files q))
+    by true e = put (same_place q s.0 e) meant.0
+    by false e = at
+
+-- ---- which actions write
+
+module _ (kinds : Kinds) where
+  abbrev any_writes : List Action → Bool
+  any_writes actions = list_any (λ (action : Action). kinds.writes (kind_of action)) actions
+
+  none_of : (xs : List Action) → any_writes xs ≡ false → writers kinds xs ≡ []
+  none_of [] e = refl
+  none_of (x ∷ xs) e = by (λ f. none_of xs f) (kinds.writes (kind_of x)) e
+    where
+      by : (any_writes xs ≡ false → writers kinds xs ≡ []) → (b : Bool) → (b || any_writes xs) ≡ false → cond b (x ∷ writers kinds xs) (writers kinds xs) ≡ []
+      by again true f = absurd (true≢false f)
+      by again false f = again f
+
+  none_after : (xs ys : List Action) (w : Action) → any_writes xs ≡ true → writers kinds xs ++ writers kinds ys ≡ w ∷ [] → writers kinds ys ≡ []
+  none_after [] ys w e is = absurd (true≢false (sym e))
+  none_after (x ∷ xs) ys w e is = by (λ f q. none_after xs ys w f q) (kinds.writes (kind_of x)) e is
+    where
+      by : (any_writes xs ≡ true → writers kinds xs ++ writers kinds ys ≡ w ∷ [] → writers kinds ys ≡ []) → (b : Bool) → (b || any_writes xs) ≡ true
+          → cond b (x ∷ writers kinds xs) (writers kinds xs) ++ writers kinds ys ≡ w ∷ [] → writers kinds ys ≡ []
+      by again true f q = behind_none (writers kinds xs) (writers kinds ys) (same_tail x w (writers kinds xs ++ writers kinds ys) [] q)
+      by again false f q = again f q
+
+sorted_free : (outputs : List Output) (made : Result (List Written) Text) → is_sorted byte_order (free_files outputs [] made) ≡ true
+sorted_free outputs (Err text) = refl
+sorted_free outputs (Ok written) = by (is_empty (step_faults outputs [] (placed outputs written)))
+  where
+    by : (b : Bool) → is_sorted byte_order (cond b (put_over [] (placed outputs written)) []) ≡ true
+    by true = sorted-put_over [] (placed outputs written) refl
+    by false = refl
+
+or_twice : (a b : Option Bytes) → or_else (or_else a None) b ≡ or_else a b
+or_twice (Some x) b = refl
+or_twice None b = refl
+
+-- ---- a moment of the run
+
+module _ (setting : Setting) (task : Task) (changes : List Changes) (old : Files) (one : IsTrue (has_one_writer setting.kinds task.actions))
+    (fitting : AllByRecursion (IsFitting setting.kinds task) task.actions) (moment : Moment (course_in setting.kinds task changes old) old) where
+  abbrev course : Course
+  course = course_in setting.kinds task changes old
+
+  abbrev trees : Trees
+  trees = trees_of task old
+
+  abbrev held : Files
+  held = (run_along (course_in setting.kinds task changes old) moment.done).held
+
+  fits : AllByRecursion (IsFitting setting.kinds task) (moment.done ++ moment.left)
+  fits = subst (AllByRecursion (IsFitting setting.kinds task)) moment.all fitting
+
+  parted : (w : Action) → writers setting.kinds task.actions ≡ w ∷ [] → writers setting.kinds moment.done ++ writers setting.kinds moment.left ≡ w ∷ []
+  parted w is =
+      sym (filter_append (λ (a : Action). setting.kinds.writes (kind_of a)) moment.done moment.left)
+      ∙ ap (writers setting.kinds) (sym moment.all) ∙ is
+
+  held_made : fold (act setting.kinds task.outputs task.values (trees_of task old)) (Ok []) moment.done ≡ Ok (run_along (course_in setting.kinds task changes old) moment.done).held
+  held_made = (ended_is_made setting.kinds task.outputs task.values (trees_of task old) (rest_of task old) [] moment.done refl moment.no_fault).0
+
+  held_none : any_writes setting.kinds moment.done ≡ false → held ≡ []
+  held_none none =
+      none_made setting.kinds task task.values (trees_of task old) moment.done [] held (all_front (IsFitting setting.kinds task) moment.done moment.left fits)
+      (none_of setting.kinds moment.done none) held_made
+
+  abbrev found : (w : Action) × (writers setting.kinds task.actions ≡ w ∷ [])
+  found = writer_of setting.kinds task.actions one
+
+  -- the files that the writer is to leave
+  abbrev hand_of : Action → Files
+  hand_of action = free_files task.outputs [] (made_by setting.kinds task action (trees_of task old))
+
+  abbrev target_of : Action → Files
+  target_of action = put_over (rest_of task old) (put_over [] (hand_of action))
+
+  -- the next action is the writer, and its steps are at hand
+  record IsAtWriter : Type 0 where
+    action : Action
+    later : List Action
+    left : moment.left ≡ action ∷ later
+    none_before : any_writes setting.kinds moment.done ≡ false
+    alone : writers setting.kinds task.actions ≡ action ∷ []
+    leads : LeadTo old (target_of action) (moment.front ++ moment.behind)
+
+  module _ (action : Action) (later : List Action) (is : moment.left ≡ action ∷ later) (writes : setting.kinds.writes (kind_of action) ≡ true) where
+    left_writers : writers setting.kinds moment.left ≡ action ∷ writers setting.kinds later
+    left_writers =
+        ap (writers setting.kinds) is
+        ∙ ap (λ b. cond b (action ∷ writers setting.kinds later) (writers setting.kinds later)) writes
+
+    none : any_writes setting.kinds moment.done ≡ false
+    none = at (any_writes setting.kinds moment.done) refl
+      where
+        at : (b : Bool) → any_writes setting.kinds moment.done ≡ b → b ≡ false
+        at true e =
+            let nothing : action ∷ writers setting.kinds later ≡ [] = sym left_writers ∙ none_after setting.kinds moment.done moment.left found.0 e (parted found.0 found.1) in
+            absurd (let q = nothing in (cc))
+        at false e = refl
+
+    alone_then : writers setting.kinds task.actions ≡ action ∷ []
+    alone_then =
+        let all : action ∷ writers setting.kinds later ≡ found.0 ∷ [] =
+        ap (λ (ws : List Action). ws ++ (action ∷ writers setting.kinds later)) (sym (none_of setting.kinds moment.done none))
+        ∙ ap (λ (ws : List Action). writers setting.kinds moment.done ++ ws) (sym left_writers) ∙ parted found.0 found.1 in
+        found.1 ∙ ap (λ (w : Action). w ∷ []) (sym (same_head action found.0 (writers setting.kinds later) [] all))
+
+    ended_old : ended_files (course_in setting.kinds task changes old) old moment.done ≡ old
+    ended_old = ap (λ b. if b then put_over (rest_of task old) held else old) none
+
+    at_writer : LeadTo (ended_files (course_in setting.kinds task changes old) old moment.done)
+        (put_over (rest_of task old) (put_over held (free_files task.outputs held (made_by setting.kinds task action (trees_of task old))))) (moment.front ++ moment.behind) → IsAtWriter
+    at_writer leads = record {
+      action = action;
+      later = later;
+      left = is;
+      none_before = none;
+      alone = alone_then;
+      leads =
+          subst (λ (files : Files). LeadTo files (target_of action) (moment.front ++ moment.behind)) ended_old
+          (subst (λ (h : Files). LeadTo (ended_files (course_in setting.kinds task changes old) old moment.done)
+          (put_over (rest_of task old) (put_over h (free_files task.outputs h (made_by setting.kinds task action (trees_of task old))))) (moment.front ++ moment.behind)) (held_none none) leads);
+    }
+
+  hand : (moment.front ++ moment.behind ≡ []) ⊎ IsAtWriter
+  hand = by moment.left refl moment.at_hand
+    where
+      by : (left : List Action) → moment.left ≡ left → AreAtHand (course_in setting.kinds task changes old) old moment.done left (moment.front ++ moment.behind)
+          → (moment.front ++ moment.behind ≡ []) ⊎ IsAtWriter
+      by [] is steps = inl steps
+      by (action ∷ later) is (inl steps) = inl steps
+      by (action ∷ later) is (inr at) = inr (at_writer action later is at.0 at.1)
+
+  -- ---- what was right
+
+  module _ (files : Files) (makes : made_of setting.kinds task.actions task.values (trees_of task old) task.outputs ≡ Ok files)
+      (place : Place) (bytes : Bytes) (right : file_at files place ≡ Some bytes) (stood : file_at old place ≡ Some bytes) where
+    in_order : is_sorted byte_order files ≡ true
+    in_order = (made_of_is_right setting.kinds task.outputs task.values (trees_of task old) task.actions files makes).in_order
+
+    abbrev goes : Result Files (List Fault) → List Action → Result Files (List Fault)
+    goes so_far actions = fold (act setting.kinds task.outputs task.values (trees_of task old)) so_far actions
+
+    all_made : goes (Ok held) moment.left ≡ Ok files
+    all_made =
+        ap (λ (r : Result Files (List Fault)). goes r moment.left) (sym held_made)
+        ∙ sym (fold-append (act setting.kinds task.outputs task.values (trees_of task old)) (Ok []) moment.done moment.left)
+        ∙ ap (goes (Ok [])) (sym moment.all) ∙ makes
+
+    module _ (e : any_writes setting.kinds moment.done ≡ true) where
+      all_held : files ≡ held
+      all_held =
+          none_made setting.kinds task task.values (trees_of task old) moment.left held files (all_behind (IsFitting setting.kinds task) moment.done moment.left fits)
+          (none_after setting.kinds moment.done moment.left found.0 e (parted found.0 found.1)) all_made
+
+      there : file_at (put_over (rest_of task old) held) place ≡ Some bytes
+      there =
+          at-put_over (rest_of task old) held place (ap (is_sorted byte_order) (sym all_held) ∙ in_order)
+          ∙ ap (λ o. or_else o (file_at (rest_of task old) place)) (ap (λ (fs : Files). file_at fs place) (sym all_held) ∙ right)
+
+    ended_right : file_at (ended_files (course_in setting.kinds task changes old) old moment.done) place ≡ Some bytes
+    ended_right = by (any_writes setting.kinds moment.done) refl
+      where
+        by : (b : Bool) → any_writes setting.kinds moment.done ≡ b → file_at (if b then put_over (rest_of task old) held else old) place ≡ Some bytes
+        by true e = there e
+        by false e = stood
+
+    target_right : (at : IsAtWriter) → file_at (target_of at.action) place ≡ Some bytes
+    target_right at =
+        at-put_over (rest_of task old) (put_over [] (hand_of at.action)) place (sorted-put_over [] (hand_of at.action) refl)
+        ∙ ap (λ o. or_else o (file_at (rest_of task old) place))
+        (at-put_over [] (hand_of at.action) place (sorted_free task.outputs (made_by setting.kinds task at.action (trees_of task old)))
+        ∙ ap (λ o. or_else o (file_at [] place)) (ap (λ (fs : Files). file_at fs place) hand_is ∙ right))
+      where
+        of_writer : IsOfWriter setting.kinds task task.values (trees_of task old) at.action [] files
+        of_writer = writer_made setting.kinds task task.values (trees_of task old) task.actions at.action [] files fitting at.alone makes
+
+        hand_is : hand_of at.action ≡ files
+        hand_is =
+            ap (free_files task.outputs []) of_writer.makes
+            ∙ ap (λ b. if b then put_over [] (placed task.outputs of_writer.written) else []) of_writer.free
+            ∙ sym of_writer.files
+
+    others : AllByRecursion (λ (s : Step). s.0 ≢ place) (moment.front ++ moment.behind)
+    others = by hand
+      where
+        by : (moment.front ++ moment.behind ≡ []) ⊎ IsAtWriter → AllByRecursion (λ (s : Step). s.0 ≢ place) (moment.front ++ moment.behind)
+        by (inl none) = subst (AllByRecursion (λ (s : Step). s.0 ≢ place)) (sym none) tt
+        by (inr at) =
+            all_so (λ (s : Step). file_at old s.0 ≢ file_at (target_of at.action) s.0) (λ (s : Step). s.0 ≢ place)
+            (λ s differ is. differ (ap (file_at old) is ∙ stood ∙ sym (target_right at) ∙ ap (file_at (target_of at.action)) (sym is)))
+            (moment.front ++ moment.behind) at.leads.needed
+
+    then_right : file_at (files_then (course_in setting.kinds task changes old) old moment) place ≡ Some bytes
+    then_right =
+        untouched (ended_files (course_in setting.kinds task changes old) old moment.done) moment.front place
+        (all_front (λ (s : Step). s.0 ≢ place) moment.front moment.behind others)
+        ∙ ended_right
+
+    stays : (may_leave : _) (before after : ℕ) (fault : Fault) (new : Files)
+        → FailsByItself (course_in setting.kinds task changes old) old moment fault new ⊎ FailsByMachine (course_in setting.kinds task changes old) old moment may_leave before fault after new
+        → file_at new place ≡ Some bytes
+    stays may_leave before after fault new (inl itself) = ap (λ (fs : Files). file_at fs place) itself.files ∙ then_right
+    stays may_leave before after fault new (inr (inl memory)) = ap (λ (fs : Files). file_at fs place) memory.1 ∙ then_right
+    stays may_leave before after fault new (inr (inr stopped)) =
+        ap (λ (fs : Files). file_at fs place) stopped.files
+        ∙ elsewhere (files_then (course_in setting.kinds task changes old) old moment) stopped.step.0 stopped.left place apart
+        ∙ then_right
+      where
+        apart : stopped.step.0 ≢ place
+        apart = (subst (AllByRecursion (λ (s : Step). s.0 ≢ place)) stopped.next (all_behind (λ (s : Step). s.0 ≢ place) moment.front moment.behind others)).0
+
+  -- ---- what is printed
+
+  -- memory ran out before the next action, in full
+  full_before : (lines : List Text) → lines ≡ lines_by (course_in setting.kinds task changes old) moment.done
+      → FullFailure setting task changes old faults.OutOfMemory lines (put_over (rest_of task old) held)
+  full_before lines printed = record {
+    before = 0;
+    after = 0;
+    fails = record {
+      moment = record {
+        done = moment.done;
+        left = moment.left;
+        all = moment.all;
+        no_fault = moment.no_fault;
+        front = [];
+        behind = files_at_hand (course_in setting.kinds task changes old) held moment.left;
+        at_hand = refl;
+      };
+      printed = printed;
+      why = inr (inl (refl, refl));
+    };
+  }
+
+  -- and behind its files
+  full_behind : (at : IsAtWriter) → FullFailure setting task changes old faults.OutOfMemory (lines_by (course_in setting.kinds task changes old) moment.done)
+      (put_over (put_over (rest_of task old) held) (hand_of at.action))
+  full_behind at = record {
+    before = 0;
+    after = 0;
+    fails = record {
+      moment = record {
+        done = moment.done;
+        left = moment.left;
+        all = moment.all;
+        no_fault = moment.no_fault;
+        front = hand_of at.action;
+        behind = [];
+        at_hand = (λ i. files_at_hand (course_in setting.kinds task changes old) (held_none at.none_before i) (at.left i)) ∙ sym (with_none (hand_of at.action));
+      };
+      printed = refl;
+      why = inr (inl (refl, refl));
+    };
+  }
+
+  -- ---- what stands
+
+  module _ (source : has_no_source task old ≡ false) (q : Place) (output : is_output_of task q ≡ true) where
+    abbrev Stands : Option Bytes → Type 0
+    Stands left = StandsInRun setting.kinds task old q left
+
+    written_so : (lines : List Text) (new : Files) → FullFailure setting task changes old faults.OutOfMemory lines new → Stands (file_at new q)
+    written_so lines new failure = by (file_at new q) refl
+      where
+        by_law : (bytes : Bytes) → IsWritten setting.kinds task old q bytes ⊎ (faults.OutOfMemory ≡ faults.Device q) → Stands (Some bytes)
+        by_law bytes (inl written) = inr written
+        by_law bytes (inr device) = absurd (let d = device in (cc))
+
+        by : (left : Option Bytes) → file_at new q ≡ left → Stands left
+        by None e = tt
+        by (Some bytes) e = by_law bytes (full_runs_invent_nothing setting task changes old faults.OutOfMemory lines new source failure q bytes output e)
+
+    stood_so : Stands (file_at old q)
+    stood_so = by (file_at old q) refl
+      where
+        by : (left : Option Bytes) → file_at old q ≡ left → Stands left
+        by None e = tt
+        by (Some bytes) e = inl e
+
+    ended_stands : Stands (file_at (ended_files (course_in setting.kinds task changes old) old moment.done) q)
+    ended_stands = by (any_writes setting.kinds moment.done)
+      where
+        by : (b : Bool) → Stands (file_at (if b then put_over (rest_of task old) held else old) q)
+        by true = written_so (lines_by (course_in setting.kinds task changes old) moment.done) (put_over (rest_of task old) held) (full_before _ refl)
+        by false = stood_so
+
+    target_stands : (at : IsAtWriter) → Stands (file_at (target_of at.action) q)
+    target_stands at =
+        subst (λ (left : Option Bytes). Stands left) same
+        (written_so (lines_by (course_in setting.kinds task changes old) moment.done) (put_over (put_over (rest_of task old) held) (hand_of at.action)) (full_behind at))
+      where
+        sorted : is_sorted byte_order (hand_of at.action) ≡ true
+        sorted = sorted_free task.outputs (made_by setting.kinds task at.action (trees_of task old))
+
+        same : file_at (put_over (put_over (rest_of task old) held) (hand_of at.action)) q ≡ file_at (target_of at.action) q
+        same =
+            at-put_over (put_over (rest_of task old) held) (hand_of at.action) q sorted
+            ∙ ap (λ (h : Files). or_else (file_at (hand_of at.action) q) (file_at (put_over (rest_of task old) h) q)) (held_none at.none_before)
+            ∙ sym (or_twice (file_at (hand_of at.action) q) (file_at (rest_of task old) q))
+            ∙ sym (at-put_over (rest_of task old) (put_over [] (hand_of at.action)) q (sorted-put_over [] (hand_of at.action) refl)
+            ∙ ap (λ o. or_else o (file_at (rest_of task old) q)) (at-put_over [] (hand_of at.action) q sorted))
+
+    then_stands : Stands (file_at (files_then (course_in setting.kinds task changes old) old moment) q)
+    then_stands = by hand
+      where
+        by : (moment.front ++ moment.behind ≡ []) ⊎ IsAtWriter → Stands (file_at (files_then (course_in setting.kinds task changes old) old moment) q)
+        by (inl none) =
+            subst (λ (steps : List Step). Stands (file_at (after_steps (ended_files (course_in setting.kinds task changes old) old moment.done) steps) q)) (sym (front_none moment.front moment.behind none)) ended_stands
+        by (inr at) =
+            steps_stand (λ (left : Option Bytes). Stands left) (target_of at.action) (ended_files (course_in setting.kinds task changes old) old moment.done) q moment.front tt (target_stands at)
+            (all_front (λ (step : Step). (step.1 ≡ None) ⊎ (step.1 ≡ file_at (target_of at.action) step.0)) moment.front moment.behind at.leads.meant) ended_stands
+
+    -- so does what was to stand next
+    next_stands : (step : Step) (later : List Step) → moment.behind ≡ step ∷ later → step.0 ≡ q → Stands step.1
+    next_stands step later next here = by hand
+      where
+        put : (at : IsAtWriter) → (step.1 ≡ None) ⊎ (step.1 ≡ file_at (target_of at.action) step.0) → Stands step.1
+        put at (inl gone) = subst (λ (left : Option Bytes). Stands left) (sym gone) tt
+        put at (inr there) = subst (λ (left : Option Bytes). Stands left) (sym (there ∙ ap (file_at (target_of at.action)) here)) (target_stands at)
+
+        by : (moment.front ++ moment.behind ≡ []) ⊎ IsAtWriter → Stands step.1
+        by (inl none) = absurd (let e : step ∷ later ≡ [] = sym next ∙ behind_none moment.front moment.behind none in (cc))
+        by (inr at) =
+            put at (subst (AllByRecursion (λ (s : Step). (s.1 ≡ None) ⊎ (s.1 ≡ file_at (target_of at.action) s.0))) next
+            (all_behind (λ (s : Step). (s.1 ≡ None) ⊎ (s.1 ≡ file_at (target_of at.action) s.0)) moment.front moment.behind at.leads.meant)).0
+
+-- ---- laws
+
+pub failed_runs_keep_right_files : (setting : Setting) → FailedRunsKeepRightFiles setting
+failed_runs_keep_right_files setting task changes old fault lines new failure files makes place bytes right stood =
+    stays setting task changes old failure.one_writer failure.fitting failure.fails.moment files makes place bytes right stood setting.may_leave failure.before failure.after fault new failure.fails.why
+
+pub failed_runs_print_fronts : (setting : Setting) → FailedRunsPrintFronts setting
+failed_runs_print_fronts setting task changes old fault lines new failure =
+    full_runs_print_fronts setting task changes old faults.OutOfMemory lines _ (full_before setting task changes old failure.one_writer failure.fitting failure.fails.moment lines failure.fails.printed)
+
+pub failed_runs_invent_nothing : (setting : Setting) → FailedRunsInventNothing setting
+failed_runs_invent_nothing setting task changes old fault lines new source failure place bytes output e =
+    by failure.fails.why
+  where
+    Right : Type 0
+    Right = (file_at old place ≡ Some bytes) ⊎ IsWritten setting.kinds task old place bytes ⊎ (fault ≡ faults.Device place)
+
+    stood_then : Files
+    stood_then = files_then (course_in setting.kinds task changes old) old failure.fails.moment
+
+    stands : (files : Files) → file_at files place ≡ Some bytes → StandsInRun setting.kinds task old place (file_at files place) → Right
+    stands files is at = as_right (subst (λ (left : Option Bytes). StandsInRun setting.kinds task old place left) is at)
+      where
+        as_right : StandsInRun setting.kinds task old place (Some bytes) → Right
+        as_right (inl there) = inl there
+        as_right (inr written) = inr (inl written)
+
+    then_so : new ≡ stood_then → Right
+    then_so is =
+        stands stood_then (ap (λ (fs : Files). file_at fs place) (sym is) ∙ e)
+        (then_stands setting task changes old failure.one_writer failure.fitting failure.fails.moment source place output)
+
+    by : FailsByItself (course_in setting.kinds task changes old) old failure.fails.moment fault new
+        ⊎ FailsByMachine (course_in setting.kinds task changes old) old failure.fails.moment setting.may_leave failure.before fault failure.after new → Right
+    by (inl itself) = then_so itself.files
+    by (inr (inl memory)) = then_so memory.1
+    by (inr (inr stopped)) = at (eq_by_cmp byte_order place stopped.step.0) refl
+      where
+        at : (b : Bool) → eq_by_cmp byte_order place stopped.step.0 ≡ b → Right
+        at true is = inr (inr (stopped.device ∙ ap faults.Device (sym (same_place place stopped.step.0 is))))
+        at false other =
+            stands stood_then
+            (sym (at_left stood_then stopped.step.0 stopped.left place ∙ ap (λ b. cond b stopped.left (file_at stood_then place)) other)
+            ∙ ap (λ (fs : Files). file_at fs place) (sym stopped.files) ∙ e)
+            (then_stands setting task changes old failure.one_writer failure.fitting failure.fails.moment source place output)
+
+pub torn_places_are_of_the_run : (setting : Setting) → TornPlacesAreOfTheRun setting
+torn_places_are_of_the_run setting task changes old place lines new source output failure = by failure.fails.why
+  where
+    same_device : (p q : Place) → faults.Device p ≡ faults.Device q → p ≡ q
+    same_device p q e = cc
+
+    -- over a folder that is never torn no run blames the device by itself
+    whole : Setting
+    whole = record setting { may_leave = λ at was next left. ⊥ }
+
+    never : FailsByItself (course_in setting.kinds task changes old) old failure.fails.moment (faults.Device place) new → ⊥
+    never itself =
+        let torn = torn_places_are_of_full_runs whole task changes old place lines _ source output (record {
+          before = 0;
+          after = 0;
+          fails = record {
+            moment = record {
+              done = failure.fails.moment.done;
+              left = failure.fails.moment.left;
+              all = failure.fails.moment.all;
+              no_fault = failure.fails.moment.no_fault;
+              front = [];
+              behind = files_at_hand (course_in setting.kinds task changes old) (run_along (course_in setting.kinds task changes old) failure.fails.moment.done).held failure.fails.moment.left;
+              at_hand = refl;
+            };
+            printed = failure.fails.printed;
+            why = inl (record { faulty = itself.faulty; done = itself.done; files = refl });
+          };
+        }) in torn.4
+
+    by : FailsByItself (course_in setting.kinds task changes old) old failure.fails.moment (faults.Device place) new
+        ⊎ FailsByMachine (course_in setting.kinds task changes old) old failure.fails.moment setting.may_leave failure.before (faults.Device place) failure.after new
+        → IsTornInRun setting task old place (file_at new place)
+    by (inl itself) = absurd (never itself)
+    by (inr (inl memory)) = absurd (let d = memory.0 in (cc))
+    by (inr (inr stopped)) =
+        let here : stopped.step.0 ≡ place = same_device stopped.step.0 place (sym stopped.device) in
+        let stood = files_then (course_in setting.kinds task changes old) old failure.fails.moment in (
+          file_at stood place,
+          stopped.step.1,
+          then_stands setting task changes old failure.one_writer failure.fitting failure.fails.moment source place output,
+          next_stands setting task changes old failure.one_writer failure.fitting failure.fails.moment source place output stopped.step stopped.later stopped.next here,
+          subst (λ (left : Option Bytes). setting.may_leave place (file_at stood place) stopped.step.1 left)
+              (sym (ap (λ (fs : Files). file_at fs place) stopped.files
+              ∙ ap (λ (p : Place). file_at (with_left stood p stopped.left) place) here ∙ left_here stood place stopped.left))
+              (subst (λ (p : Place). setting.may_leave p (file_at stood p) stopped.step.1 stopped.left) here stopped.may),
+        )

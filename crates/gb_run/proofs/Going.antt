@@ -1,0 +1,256 @@
+-- A run by changes on the way: what holds between its actions, and what its end comes to.
+use Rattle.std.specs.Prelude.{ℕ, ◌≡◌, ◌≤◌, ◌⊎◌, ◌++◌, ◌||◌, Bool, true, false, cond, if◌then◌else◌, List, [], ◌∷◌, None, Ok, Err, map}
+use Rattle.std.specs.List.{list_any}
+use Rattle.std.proofs.Common.{refl, sym, ap, subst, ◌∙◌, inl, inr, append_assoc}
+use mathlib.Core.Bool.{true≢false}
+use Rattle.gb_folder.specs.Files.{Files, SameTearing, Tearing, file_at, with_left}
+use Rattle.gb_folder.proofs.Changes.{HasRisen-before}
+use Rattle.gb_report.specs.declared.fault.Fault.{Fault}
+use Rattle.gb_report.specs.declared.fault.Fault.TheVariants as faults
+use Rattle.gb_action.specs.Changes.{Changes}
+use Rattle.gb_action.specs.Files.{Trees}
+use Rattle.gb_plan.specs.Task.{Text}
+use Rattle.gb_plan.specs.declared.task.Action.{Action}
+use Rattle.gb_plan.specs.declared.task.Output.{Output}
+use Rattle.gb_plan.specs.declared.task.TaskDeclaration.{TaskDeclaration as Task}
+use Rattle.gb_plan.proofs.Tests.{any_append, filter_append}
+use Rattle.gb_meaning.specs.Kinds.{Kinds, kind_of}
+use Rattle.gb_meaning.specs.Made.{full_outputs, put_over, rest_of}
+use Rattle.gb_meaning.specs.Run.{step_by, unless_hindered}
+use Rattle.gb_run.specs.Asking.{made_by, printed_by}
+use Rattle.gb_run.specs.Course.{Course, EndsWell, course_of, files_at_hand, free_files, lines_by, run_along}
+use Rattle.gb_run.proofs.Endings.{more_fault, more_held, stops_done, stops_fault, with_none}
+use Rattle.gb_run.specs.AskingChanges.{writers}
+use Rattle.gb_run.specs.Changing.{AreAtHand, Fails, FailsByItself, FailsByMachine, IsStopped, Moment, ended_files}
+use Rattle.gb_run.specs.Steps.{LeadTo, after_steps}
+use Rattle.gb_run.specs.Turn.{Ends, Stops}
+
+abbrev pub course_in : Kinds → Task → Trees → List Changes → Files → Course
+course_in kinds task trees changes old = course_of kinds task trees changes (rest_of task old)
+
+module _ (kinds : Kinds) (task : Task) (trees : Trees) (changes : List Changes) (old : Files) where
+  abbrev course : Course
+  course = course_of kinds task trees changes (rest_of task old)
+
+  abbrev any_writes : List Action → Bool
+  any_writes actions = list_any (λ action. kinds.writes (kind_of action)) actions
+
+  -- Some first actions have ended; these are left.
+  pub record IsGoing (left : List Action) (folder : Files) (lines : List Text) : Type 0 where
+    pub done : List Action
+    pub all : task.actions ≡ done ++ left
+    pub no_fault : (run_along course done).fault ≡ None
+    pub stands : folder ≡ ended_files course old done
+    pub few : full_outputs task.outputs (run_along course done).held ≡ []
+    pub none_held : any_writes done ≡ false → (run_along course done).held ≡ []
+    pub printed : lines ≡ lines_by course done
+
+  none_full : (outputs : List Output) → full_outputs outputs [] ≡ []
+  none_full [] = refl
+  none_full (output ∷ outputs) = none_full outputs
+
+  pub begins : IsGoing task.actions old []
+  begins = record { done = []; all = refl; no_fault = refl; stands = refl; few = none_full task.outputs; none_held = λ _. refl; printed = refl }
+
+  -- memory ran out before it began
+  pub fails_early : (may_leave : Tearing) (before : ℕ) (fault : Fault) (after : ℕ) → fault ≡ faults.OutOfMemory → Fails course old may_leave before fault [] after old
+  fails_early may_leave before fault after is = record {
+    moment = record { done = []; left = task.actions; all = refl; no_fault = refl; front = []; behind = []; at_hand = nothing task.actions };
+    printed = refl;
+    why = inr (inl (is, refl));
+  }
+    where
+      nothing : (left : List Action) → AreAtHand (course_of kinds task trees changes (rest_of task old)) old [] left []
+      nothing [] = refl
+      nothing (action ∷ left) = inl refl
+
+  lines_more : (done : List Action) (action : Action) → lines_by course (done ++ action ∷ []) ≡ lines_by course done ++ printed_by kinds task action trees changes
+  lines_more [] action = with_none (printed_by kinds task action trees changes)
+  lines_more (first ∷ done) action =
+      ap (λ ls. printed_by kinds task first trees changes ++ ls) (lines_more done action)
+      ∙ sym (append_assoc (printed_by kinds task first trees changes) (lines_by (course_of kinds task trees changes (rest_of task old)) done) (printed_by kinds task action trees changes))
+
+  or_none : (b : Bool) → (b || false) ≡ b
+  or_none true = refl
+  or_none false = refl
+
+  -- where one action writes, none before it does
+  pub two_writers : (xs : List Action) (a b : Action) (ys : List Action) → any_writes xs ≡ true → writers kinds xs ++ a ∷ ys ≡ b ∷ [] → ⊥
+  two_writers [] a b ys e is = true≢false (sym e)
+  two_writers (x ∷ xs) a b ys e is = by (λ w q. two_writers xs a b ys w q) (kinds.writes (kind_of x)) e is
+    where
+      never : (zs : List Action) (z c : Action) (ws : List Action) → z ∷ (zs ++ c ∷ ws) ≡ b ∷ [] → ⊥
+      never [] z c ws q = let p = q in (cc)
+      never (y ∷ zs) z c ws q = let p = q in (cc)
+
+      by : (any_writes xs ≡ true → writers kinds xs ++ a ∷ ys ≡ b ∷ [] → ⊥) → (t : Bool) → (t || any_writes xs) ≡ true → cond t (x ∷ writers kinds xs) (writers kinds xs) ++ a ∷ ys ≡ b ∷ [] → ⊥
+      by again true q p = never (writers kinds xs) x a ys p
+      by again false q p = again q p
+
+  module _ (folder : Files) (lines : List Text) where
+    pub ends_well : IsGoing [] folder lines → any_writes task.actions ≡ true → EndsWell course lines folder
+    ends_well going some =
+        let same : task.actions ≡ going.done = going.all ∙ with_none going.done in
+        record {
+          no_fault = ap (λ (actions : List Action). (run_along course actions).fault) same ∙ going.no_fault;
+          files = going.stands ∙ ap (λ b. if b then put_over course.rest (run_along course going.done).held else old) (ap any_writes (sym same) ∙ some)
+              ∙ ap (λ (actions : List Action). put_over course.rest (run_along course actions).held) (sym same);
+          printed = going.printed ∙ ap (lines_by course) (sym same);
+        }
+
+    -- memory ran out behind the last action
+    pub fails_late : IsGoing [] folder lines → (may_leave : Tearing) (before : ℕ) (fault : Fault) (after : ℕ) → fault ≡ faults.OutOfMemory → Fails course old may_leave before fault lines after folder
+    fails_late going may_leave before fault after is = record {
+      moment = record { done = going.done; left = []; all = going.all; no_fault = going.no_fault; front = []; behind = []; at_hand = refl };
+      printed = going.printed;
+      why = inr (inl (is, going.stands));
+    }
+
+    module _ (action : Action) (left : List Action) (going : IsGoing (action ∷ left) folder lines) where
+      all_more : task.actions ≡ (going.done ++ action ∷ []) ++ left
+      all_more = going.all ∙ sym (append_assoc going.done (action ∷ []) left)
+
+      any_more : any_writes (going.done ++ action ∷ []) ≡ (any_writes going.done || kinds.writes (kind_of action))
+      any_more = any_append (λ (a : Action). kinds.writes (kind_of a)) going.done (action ∷ []) ∙ ap (λ b. any_writes going.done || b) (or_none (kinds.writes (kind_of action)))
+
+      -- an action that makes nothing leaves what is held
+      quiet_step : made_by kinds task action trees ≡ Ok [] → step_by task.outputs (rest_of task old) (run_along course going.done).held (made_by kinds task action trees) ≡ Ok (run_along course going.done).held
+      quiet_step is =
+          ap (step_by task.outputs (rest_of task old) (run_along course going.done).held) is
+          ∙ ap (λ (os : List Output). unless_hindered ((map (λ (output : Output). faults.TooManyFiles output.name) os) ++ []) (run_along course going.done).held) going.few
+
+      -- the next action ends, and writes nothing
+      pub reads_on : (lines_now : List Text) → kinds.writes (kind_of action) ≡ false → made_by kinds task action trees ≡ Ok [] → lines_now ≡ lines ++ printed_by kinds task action trees changes → IsGoing left folder lines_now
+      reads_on lines_now quiet is prints = record {
+        done = going.done ++ action ∷ [];
+        all = all_more;
+        no_fault = more_fault kinds task.outputs task.values trees (rest_of task old) going.done [] (run_along course going.done).held action going.no_fault (quiet_step is);
+        stands = going.stands ∙ ap (λ b. if b then put_over (rest_of task old) (run_along course going.done).held else old) (sym same_writes)
+            ∙ ap (λ (held : Files). if any_writes (going.done ++ action ∷ []) then put_over (rest_of task old) held else old) (sym held_same);
+        few = ap (full_outputs task.outputs) held_same ∙ going.few;
+        none_held = λ none. held_same ∙ going.none_held (sym same_writes ∙ none);
+        printed = prints ∙ ap (λ (ls : List Text). ls ++ printed_by kinds task action trees changes) going.printed ∙ sym (lines_more going.done action);
+      }
+        where
+          held_same : (run_along (course_of kinds task trees changes (rest_of task old)) (going.done ++ action ∷ [])).held ≡ (run_along (course_of kinds task trees changes (rest_of task old)) going.done).held
+          held_same = more_held kinds task.outputs task.values trees (rest_of task old) going.done [] (run_along (course_of kinds task trees changes (rest_of task old)) going.done).held action going.no_fault (quiet_step is)
+
+          same_writes : any_writes (going.done ++ action ∷ []) ≡ any_writes going.done
+          same_writes = any_more ∙ ap (λ b. any_writes going.done || b) quiet ∙ or_none (any_writes going.done)
+
+      -- it stops before it did anything
+      pub fails_reading : (may_leave : Tearing) (before after : ℕ) (fault : Fault) (lines_now : List Text)
+          → (fault ≡ faults.OutOfMemory) ⊎ ((text : Text) × (fault ≡ faults.ActionFailed text) × (made_by kinds task action trees ≡ Err text)) → lines_now ≡ lines → Fails course old may_leave before fault lines_now after folder
+      fails_reading may_leave before after fault lines_now why prints = record { moment = here; printed = prints ∙ going.printed; why = by why }
+        where
+          here : Moment (course_of kinds task trees changes (rest_of task old)) old
+          here = record { done = going.done; left = action ∷ left; all = going.all; no_fault = going.no_fault; front = []; behind = []; at_hand = inl refl }
+
+          by : (fault ≡ faults.OutOfMemory) ⊎ ((text : Text) × (fault ≡ faults.ActionFailed text) × (made_by kinds task action trees ≡ Err text))
+              → FailsByItself (course_of kinds task trees changes (rest_of task old)) old here fault folder ⊎ FailsByMachine (course_of kinds task trees changes (rest_of task old)) old here may_leave before fault after folder
+          by (inl memory) = inr (inl (memory, going.stands))
+          by (inr failed) =
+              let stops : step_by task.outputs (rest_of task old) (run_along (course_of kinds task trees changes (rest_of task old)) going.done).held (made_by kinds task action trees) ≡ Err fault =
+              ap (step_by task.outputs (rest_of task old) (run_along (course_of kinds task trees changes (rest_of task old)) going.done).held) failed.2 ∙ ap Err (sym failed.1) in
+              inl (record {
+                faulty = ap (λ (actions : List Action). (run_along (course_of kinds task trees changes (rest_of task old)) actions).fault) going.all
+                    ∙ stops_fault kinds task.outputs task.values trees (rest_of task old) going.done left [] action fault going.no_fault stops;
+                done = ap (λ (actions : List Action). (run_along (course_of kinds task trees changes (rest_of task old)) actions).done) going.all
+                    ∙ stops_done kinds task.outputs task.values trees (rest_of task old) going.done left [] action fault going.no_fault stops;
+                files = going.stands;
+              })
+
+      -- ---- the action is the one that writes
+
+      module _ (writes : kinds.writes (kind_of action) ≡ true) (one : writers kinds task.actions ≡ action ∷ []) where
+        none_before : any_writes going.done ≡ false
+        none_before = by (any_writes going.done) refl
+          where
+            here : writers kinds (going.done ++ action ∷ left) ≡ writers kinds going.done ++ action ∷ writers kinds left
+            here =
+                filter_append (λ (a : Action). kinds.writes (kind_of a)) going.done (action ∷ left)
+                ∙ ap (λ b. writers kinds going.done ++ cond b (action ∷ writers kinds left) (writers kinds left)) writes
+
+            by : (b : Bool) → any_writes going.done ≡ b → b ≡ false
+            by true e = absurd (two_writers going.done action action (writers kinds left) e (sym here ∙ ap (writers kinds) (sym going.all) ∙ one))
+            by false e = refl
+
+        held_none : (run_along course going.done).held ≡ []
+        held_none = going.none_held none_before
+
+        -- what stands is what stood
+        pub stands_old : folder ≡ old
+        stands_old = going.stands ∙ ap (λ b. if b then put_over (rest_of task old) (run_along course going.done).held else old) none_before
+
+        pub writes_on : (new : Files) (lines_now : List Text) → Ends kinds task action trees old new → lines_now ≡ lines ++ printed_by kinds task action trees changes → IsGoing left new lines_now
+        writes_on new lines_now ended prints = record {
+          done = going.done ++ action ∷ [];
+          all = all_more;
+          no_fault = more_fault kinds task.outputs task.values trees (rest_of task old) going.done [] ended.more action going.no_fault step;
+          stands = ended.files ∙ ap (put_over (rest_of task old)) (sym held_now)
+              ∙ ap (λ b. if b then put_over (rest_of task old) (run_along (course_of kinds task trees changes (rest_of task old)) (going.done ++ action ∷ [])).held else old) (sym now_writes);
+          few = ap (full_outputs task.outputs) held_now ∙ ended.few;
+          none_held = λ none. absurd (true≢false (sym now_writes ∙ none));
+          printed = prints ∙ ap (λ (ls : List Text). ls ++ printed_by kinds task action trees changes) going.printed ∙ sym (lines_more going.done action);
+        }
+          where
+            step : step_by task.outputs (rest_of task old) (run_along (course_of kinds task trees changes (rest_of task old)) going.done).held (made_by kinds task action trees) ≡ Ok ended.more
+            step = ap (λ (held : Files). step_by task.outputs (rest_of task old) held (made_by kinds task action trees)) held_none ∙ ended.step
+
+            held_now : (run_along (course_of kinds task trees changes (rest_of task old)) (going.done ++ action ∷ [])).held ≡ ended.more
+            held_now = more_held kinds task.outputs task.values trees (rest_of task old) going.done [] ended.more action going.no_fault step
+
+            now_writes : any_writes (going.done ++ action ∷ []) ≡ true
+            now_writes = any_more ∙ ap (λ b. b || kinds.writes (kind_of action)) none_before ∙ writes
+
+        pub fails_writing : (first second : Tearing) (before between after : ℕ) (fault : Fault) (new : Files) (lines_now : List Text) → SameTearing first second → before ≤ between → between ≤ after
+            → Stops kinds task action trees old second between fault after new → lines_now ≡ lines → Fails course old first before fault lines_now after new
+        fails_writing first second before between after fault new lines_now same le more stops prints = record { moment = here; printed = prints ∙ going.printed; why = by stops.why }
+          where
+            ended_old : ended_files (course_of kinds task trees changes (rest_of task old)) old going.done ≡ old
+            ended_old = ap (λ b. if b then put_over (rest_of task old) (run_along (course_of kinds task trees changes (rest_of task old)) going.done).held else old) none_before
+
+            hand : AreAtHand (course_of kinds task trees changes (rest_of task old)) old going.done (action ∷ left) (stops.front ++ stops.behind)
+            hand = at stops.at_hand
+              where
+                at : (stops.front ++ stops.behind ≡ []) ⊎ LeadTo old (put_over (rest_of task old) (put_over [] (free_files task.outputs [] (made_by kinds task action trees)))) (stops.front ++ stops.behind)
+                    → AreAtHand (course_of kinds task trees changes (rest_of task old)) old going.done (action ∷ left) (stops.front ++ stops.behind)
+                at (inl none) = inl none
+                at (inr leads) = inr (
+                  writes,
+                  subst (λ (fs : Files). LeadTo fs (put_over (rest_of task old) (put_over (run_along (course_of kinds task trees changes (rest_of task old)) going.done).held
+                      (files_at_hand (course_of kinds task trees changes (rest_of task old)) (run_along (course_of kinds task trees changes (rest_of task old)) going.done).held (action ∷ left)))) (stops.front ++ stops.behind)) (sym ended_old)
+                      (subst (λ (held : Files). LeadTo old (put_over (rest_of task old) (put_over held (free_files task.outputs held (made_by kinds task action trees)))) (stops.front ++ stops.behind)) (sym held_none) leads),
+                )
+
+            here : Moment (course_of kinds task trees changes (rest_of task old)) old
+            here = record { done = going.done; left = action ∷ left; all = going.all; no_fault = going.no_fault; front = stops.front; behind = stops.behind; at_hand = hand }
+
+            old_then : after_steps old stops.front ≡ after_steps (ended_files (course_of kinds task trees changes (rest_of task old)) old going.done) stops.front
+            old_then = ap (λ (fs : Files). after_steps fs stops.front) (sym ended_old)
+
+            by : ((step_by task.outputs (rest_of task old) [] (made_by kinds task action trees) ≡ Err fault) × (new ≡ after_steps old stops.front))
+                ⊎ ((fault ≡ faults.OutOfMemory) × (new ≡ after_steps old stops.front))
+                ⊎ IsStopped second between (after_steps old stops.front) stops.behind fault after new
+                → FailsByItself (course_of kinds task trees changes (rest_of task old)) old here fault new ⊎ FailsByMachine (course_of kinds task trees changes (rest_of task old)) old here first before fault after new
+            by (inl itself) =
+                let step : step_by task.outputs (rest_of task old) (run_along (course_of kinds task trees changes (rest_of task old)) going.done).held (made_by kinds task action trees) ≡ Err fault =
+                ap (λ (held : Files). step_by task.outputs (rest_of task old) held (made_by kinds task action trees)) held_none ∙ itself.0 in
+                inl (record {
+                  faulty = ap (λ (actions : List Action). (run_along (course_of kinds task trees changes (rest_of task old)) actions).fault) going.all
+                      ∙ stops_fault kinds task.outputs task.values trees (rest_of task old) going.done left [] action fault going.no_fault step;
+                  done = ap (λ (actions : List Action). (run_along (course_of kinds task trees changes (rest_of task old)) actions).done) going.all
+                      ∙ stops_done kinds task.outputs task.values trees (rest_of task old) going.done left [] action fault going.no_fault step;
+                  files = itself.1 ∙ old_then;
+                })
+            by (inr (inl memory)) = inr (inl (memory.0, memory.1 ∙ old_then))
+            by (inr (inr stopped)) = inr (inr (record {
+              step = stopped.step;
+              later = stopped.later;
+              next = stopped.next;
+              device = stopped.device;
+              risen = HasRisen-before before between after le more stopped.risen;
+              left = stopped.left;
+              may = (same stopped.step.0 _ _ stopped.left).0 (subst (λ (fs : Files). second stopped.step.0 (file_at fs stopped.step.0) stopped.step.1 stopped.left) old_then stopped.may);
+              files = stopped.files ∙ ap (λ (fs : Files). with_left fs stopped.step.0 stopped.left) old_then;
+            }))

@@ -1,0 +1,57 @@
+-- The turn of the action that writes, and how it ends or stops.
+use Rattle.std.specs.Prelude.{ℕ, ◌≡◌, ◌⊎◌, ◌++◌, List, [], ◌∷◌, Ok, Err}
+use Rattle.std.specs.List.{AllByRecursion}
+use Rattle.gb_folder.specs.Files.{Files, Tearing}
+use Rattle.gb_report.specs.declared.fault.Fault.{Fault}
+use Rattle.gb_report.specs.declared.fault.Fault.TheVariants as faults
+use Rattle.gb_action.specs.Changes.{Changes}
+use Rattle.gb_action.specs.Files.{Trees}
+use Rattle.gb_action.specs.declared.output.OutputFiles.{OutputFiles}
+use Rattle.gb_tree.specs.Prints.{digests_of}
+use Rattle.gb_plan.specs.declared.task.Action.{Action}
+use Rattle.gb_plan.specs.declared.task.TaskDeclaration.{TaskDeclaration as Task}
+use Rattle.gb_meaning.specs.Kinds.{Kinds}
+use Rattle.gb_meaning.specs.Made.{full_outputs, put_over, put_result, rest_of}
+use Rattle.gb_meaning.specs.Run.{step_by}
+use Rattle.gb_run.specs.Asking.{made_by}
+use Rattle.gb_run.specs.Course.{free_files}
+use Rattle.gb_run.specs.AskingChanges.{GoesOn, IsFitting, writers}
+use Rattle.gb_run.specs.Changing.{IsStopped}
+use Rattle.gb_run.specs.Steps.{LeadTo, Step, after_steps}
+
+-- The action is the one that writes, and goes on from what stands.
+pub record IsItsTurn (kinds : Kinds) (task : Task) (action : Action) (trees : Trees) (changes : List Changes)
+    (seen : List OutputFiles) (files : Files) : Type 0 where
+  pub fitting : AllByRecursion (IsFitting kinds task) task.actions
+  pub old : Trees
+  pub goes_on : GoesOn kinds task old trees changes seen files
+  pub writes : writers kinds task.actions ≡ action ∷ []
+
+-- It ends: the folder is the rest with its files.
+pub record Ends (kinds : Kinds) (task : Task) (action : Action) (trees : Trees)
+    (old new : Files) : Type 0 where
+  pub more : Files
+  pub step : step_by task.outputs (rest_of task old) [] (made_by kinds task action trees) ≡ Ok more
+  pub few : full_outputs task.outputs more ≡ []
+  pub files : new ≡ put_over (rest_of task old) more
+
+-- It makes files, and these are their digests.
+pub record Makes (kinds : Kinds) (task : Task) (action : Action) (trees : Trees)
+    (digests : Files) : Type 0 where
+  pub more : Files
+  pub put : put_result task.outputs [] (made_by kinds task action trees) ≡ Ok more
+  pub few : full_outputs task.outputs more ≡ []
+  pub prints : digests ≡ digests_of more
+
+-- It stops, by itself or by the machine; of its steps some first ones are done.
+pub record Stops (kinds : Kinds) (task : Task) (action : Action) (trees : Trees) (old : Files)
+    (may_leave : Tearing) (before : ℕ) (fault : Fault) (after : ℕ) (new : Files) : Type 0 where
+  pub front : List Step
+  pub behind : List Step
+  pub at_hand : (front ++ behind ≡ [])
+      ⊎ LeadTo old (put_over (rest_of task old)
+      (put_over [] (free_files task.outputs [] (made_by kinds task action trees)))) (front ++ behind)
+  pub why : ((step_by task.outputs (rest_of task old) [] (made_by kinds task action trees) ≡ Err fault)
+      × (new ≡ after_steps old front))
+      ⊎ ((fault ≡ faults.OutOfMemory) × (new ≡ after_steps old front))
+      ⊎ IsStopped may_leave before (after_steps old front) behind fault after new

@@ -1,0 +1,117 @@
+//! The files that a task holds once a reply is done, checked before anything changes.
+//!
+//! All of them are looked at by place, also those that stay as they are: so what is told first is what a
+//! run in full tells first.
+ghost use Rattle.std.specs.Prelude.{◌≡◌, ◌⊎◌, [], ◌∷◌, false, Some, IsTrue, IfOk, IfErr, OnOk};
+ghost use Rattle.std.specs.List.{flat_map};
+ghost use Rattle.gb_core.specs.Lists.{first_of};
+ghost use Rattle.gb_core.specs.Place.{is_place};
+ghost use Rattle.gb_folder.specs.Files.{are_placed};
+ghost use Rattle.gb_meaning.specs.Made.{file_faults, put_over};
+ghost use Rattle.gb_run.specs.Placing.{blank, count_faults, faults_beside};
+ghost use Rattle.gb_run.specs.Named.{files_left};
+ghost use Rattle.gb_run.specs.ChangeTexts.{steps_in};
+
+use crate::placing::place_of;
+use gb_core::bytes::Bytes;
+use gb_core::place::{Place, PlaceFault};
+use gb_core::text::Text;
+use gb_folder::file_map::FileMap;
+use gb_folder::limits::{MAX_FILE, MAX_FILES};
+use gb_plan::task::Output;
+use gb_report::fault::Fault;
+use std::alloc::{AllocError, Global};
+use std::collections::BTreeMap;
+
+/// Checks all the files that stand once these steps are done. An error is the first of what hinders them,
+/// or want of memory (3).
+pub fn check_held(
+    alloc: Global,
+    outputs: &[Output],
+    steps: &BTreeMap<String, Option<&Bytes>>,
+) -> Result<(), Fault>
+    ensures ok { OnOk result (faults_beside outputs.now [] (files_left (steps_in steps.now)) ≡ []) }
+    ensures err { IfErr result (λ fault. (fault ≡ Fault.OutOfMemory)
+        ⊎ (first_of (faults_beside outputs.now [] (files_left (steps_in steps.now))) ≡ Some fault)) }
+{
+    let held = places_held(alloc, steps)?;
+    check_all(alloc, &held, steps)?;
+    check_counts(alloc, &held, outputs)?;
+    Ok(())
+}
+
+/// The places of the files that stand.
+fn places_held(
+    alloc: Global,
+    steps: &BTreeMap<String, Option<&Bytes>>,
+) -> Result<FileMap, AllocError>
+    ensures { IfOk result (λ held. held ≡ put_over [] (blank (files_left (steps_in steps.now)))) }
+{
+    let mut held = FileMap::new(alloc);
+    for (text, bytes) in steps.iter() {
+        if bytes.is_some() {
+            held.put(text.as_str(), &[])?;
+        }
+    }
+    Ok(held)
+}
+
+/// Checks each of these files beside all.
+fn check_all(
+    alloc: Global,
+    all: &FileMap,
+    steps: &BTreeMap<String, Option<&Bytes>>,
+) -> Result<(), Fault>
+    ensures ok { OnOk result (flat_map (file_faults all.now) (files_left (steps_in steps.now)) ≡ []) }
+    ensures err { IfErr result (λ fault. (fault ≡ Fault.OutOfMemory)
+        ⊎ (first_of (flat_map (file_faults all.now) (files_left (steps_in steps.now))) ≡ Some fault)) }
+{
+    for (text, bytes) in steps.iter() {
+        if let Some(bytes) = bytes {
+            check_file(alloc, all, text.as_str(), bytes)?;
+        }
+    }
+    Ok(())
+}
+
+/// Checks one file beside all.
+fn check_file(alloc: Global, all: &FileMap, text: &str, bytes: &Bytes) -> Result<(), Fault>
+    ensures ok { OnOk result (file_faults all.now (text.now, bytes.now) ≡ []) }
+    ensures err { IfErr result (λ fault. (fault ≡ Fault.OutOfMemory)
+        ⊎ (first_of (file_faults all.now (text.now, bytes.now)) ≡ Some fault)) }
+{
+    let place = place_of(alloc, text)?;
+    if all.is_blocked(&place)? {
+        return Err(Fault::Blocked(place));
+    }
+    if bytes.as_slice().len() as u64 > MAX_FILE {
+        return Err(Fault::TooLarge(place));
+    }
+    Ok(())
+}
+
+/// Whether no output has more files than it may.
+fn check_counts(alloc: Global, held: &FileMap, outputs: &[Output]) -> Result<(), Fault>
+    requires { IsTrue (are_placed held.now) }
+    ensures ok { OnOk result (count_faults outputs.now held.now ≡ []) }
+    ensures err { IfErr result (λ fault. (fault ≡ Fault.OutOfMemory)
+        ⊎ (first_of (count_faults outputs.now held.now) ≡ Some fault)) }
+{
+    for output in outputs.iter() {
+        check_count(alloc, held, output)?;
+    }
+    Ok(())
+}
+
+fn check_count(alloc: Global, held: &FileMap, output: &Output) -> Result<(), Fault>
+    requires { IsTrue (are_placed held.now) }
+    ensures ok { OnOk result (count_faults (output.now ∷ []) held.now ≡ []) }
+    ensures err { IfErr result (λ fault. (fault ≡ Fault.OutOfMemory)
+        ⊎ (first_of (count_faults (output.now ∷ []) held.now) ≡ Some fault)) }
+{
+    let places = held.list_under(alloc, &output.place)?;
+    if places.len() > MAX_FILES {
+        return Err(Fault::TooManyFiles(output.name.copy()?));
+    }
+    Ok(())
+}

@@ -1,0 +1,79 @@
+//! What a reply comes to: all that the task then holds is checked, and the steps stand in their turn.
+ghost use Rattle.std.specs.Prelude.{◌≡◌, ◌⊎◌, [], Some, IfOk, IfErr, OnOk};
+ghost use Rattle.std.specs.List.{AllByRecursion};
+ghost use Rattle.gb_core.specs.Lists.{first_of};
+ghost use Rattle.gb_run.specs.Placing.{faults_beside};
+ghost use Rattle.gb_run.specs.Named.{held_after, steps_of};
+ghost use Rattle.gb_run.specs.Stepping.{IsSmall};
+ghost use Rattle.gb_run.specs.Steps.{in_turn};
+ghost use Rattle.gb_run.specs.ChangeTexts.{shown_steps, steps_in};
+
+use crate::checking::check_held;
+use crate::reply::{put_reply, put_standing};
+use crate::turns::in_turn;
+use gb_action::output::OutputFiles;
+use gb_action::reply::{OutputPath, Written};
+use gb_core::bytes::Bytes;
+use gb_core::place::Place;
+use gb_plan::task::Output;
+use gb_report::fault::Fault;
+use std::alloc::{AllocError, Global};
+use std::collections::BTreeMap;
+
+/// The steps of a reply over the files that are seen. An error is the first of what hinders all that the
+/// task then holds, or want of memory (3).
+pub fn planned<'a>(
+    alloc: Global,
+    outputs: &[Output],
+    seen: &[OutputFiles],
+    removes: &[OutputPath],
+    writes: &'a [Written],
+) -> Result<Vec<(Place, Option<&'a Bytes>)>, Fault>
+    ensures steps { IfOk result (λ ordered.
+        shown_steps ordered.items ≡ in_turn (steps_of outputs.now removes.now writes.now)) }
+    ensures small { IfOk result (λ ordered. AllByRecursion IsSmall (shown_steps ordered.items)) }
+    ensures ok { OnOk result
+        (faults_beside outputs.now [] (held_after outputs.now seen.now removes.now writes.now) ≡ []) }
+    ensures err { IfErr result (λ fault. (fault ≡ Fault.OutOfMemory)
+        ⊎ (first_of (faults_beside outputs.now [] (held_after outputs.now seen.now removes.now writes.now))
+        ≡ Some fault)) }
+{
+    check_planned(alloc, outputs, seen, removes, writes)?;
+    let steps = named_steps(alloc, outputs, removes, writes)?;
+    let ordered = in_turn(alloc, &steps)?;
+    Ok(ordered)
+}
+
+/// Checks all that the task holds once a reply is done.
+fn check_planned(
+    alloc: Global,
+    outputs: &[Output],
+    seen: &[OutputFiles],
+    removes: &[OutputPath],
+    writes: &[Written],
+) -> Result<(), Fault>
+    ensures ok { OnOk result
+        (faults_beside outputs.now [] (held_after outputs.now seen.now removes.now writes.now) ≡ []) }
+    ensures err { IfErr result (λ fault. (fault ≡ Fault.OutOfMemory)
+        ⊎ (first_of (faults_beside outputs.now [] (held_after outputs.now seen.now removes.now writes.now))
+        ≡ Some fault)) }
+{
+    let mut held = BTreeMap::new(alloc);
+    put_standing(alloc, &mut held, outputs, seen)?;
+    put_reply(alloc, &mut held, outputs, removes, writes)?;
+    check_held(alloc, outputs, &held)
+}
+
+/// The steps that a reply names, by place.
+fn named_steps<'a>(
+    alloc: Global,
+    outputs: &[Output],
+    removes: &[OutputPath],
+    writes: &'a [Written],
+) -> Result<BTreeMap<String, Option<&'a Bytes>>, AllocError>
+    ensures { IfOk result (λ steps. steps_in steps ≡ steps_of outputs.now removes.now writes.now) }
+{
+    let mut steps = BTreeMap::new(alloc);
+    put_reply(alloc, &mut steps, outputs, removes, writes)?;
+    Ok(steps)
+}

@@ -1,0 +1,99 @@
+//! The digests of what stands at a task's outputs, and of what stands there once the steps of a reply are
+//! done.
+ghost use Rattle.std.specs.Prelude.{◌≡◌, ◌∷◌, [], IfOk, OnOk, map};
+ghost use Rattle.std.specs.Option.{option_copied};
+ghost use Rattle.gb_core.specs.Place.{beneath};
+ghost use Rattle.gb_folder.specs.Files.{Files, with_left};
+ghost use Rattle.gb_tree.specs.Prints.{digests_of};
+ghost use Rattle.gb_meaning.specs.Made.{put_over};
+ghost use Rattle.gb_run.specs.ChangeDigests.{at_places, digests_at};
+ghost use Rattle.gb_run.specs.Steps.{after_steps};
+ghost use Rattle.gb_run.specs.ChangeTexts.{shown_steps};
+
+use crate::digests::Digests;
+use gb_core::bytes::Bytes;
+use gb_core::place::{Place, PlaceFault, RelPath};
+use gb_plan::task::Output;
+use gb_tree::prints::Prints;
+use std::alloc::{AllocError, Global};
+
+/// The digests of outputs as they stood, each beneath the place of its output.
+pub fn digests_stood(
+    alloc: Global,
+    outputs: &[Output],
+    stood: &[Prints],
+) -> Result<Digests, AllocError>
+    ensures { IfOk result
+        (λ digests. digests ≡ put_over [] (at_places (digests_at outputs.now stood.now))) }
+{
+    let mut digests = Digests::new(alloc);
+    for (output, prints) in outputs.iter().zip(stood) {
+        hold_tree(alloc, &mut digests, &output.place, prints.as_slice())?;
+    }
+    Ok(digests)
+}
+
+/// Puts the digests of a tree beneath a place.
+fn hold_tree(
+    alloc: Global,
+    digests: &mut Digests,
+    root: &Place,
+    tree: &[(RelPath, [u8; 32])],
+) -> Result<(), AllocError>
+    ensures { OnOk result (digests.new ≡ put_over digests.old
+        (at_places (map (λ file. (beneath root.now file.0, file.1)) tree.now))) }
+{
+    for (path, digest) in tree.iter() {
+        hold_file(alloc, digests, root, path, digest)?;
+    }
+    Ok(())
+}
+
+/// Puts the digest of a path beneath a place. A path that leads to no place is passed over.
+fn hold_file(
+    alloc: Global,
+    digests: &mut Digests,
+    root: &Place,
+    path: &RelPath,
+    digest: &[u8; 32],
+) -> Result<(), AllocError>
+    ensures { OnOk result (digests.new ≡ put_over digests.old
+        (at_places ((beneath root.now path.now, digest.now) ∷ []))) }
+{
+    match root.beneath(alloc, path) {
+        Ok(place) => digests.hold(&place, *digest),
+        Err(PlaceFault::OutOfMemory) => Err(AllocError),
+        Err(PlaceFault::BadPlace) => Ok(()),
+    }
+}
+
+/// Follows these steps, one after another: what comes is digested, what goes is forgotten.
+pub fn follow_steps(
+    digests: &mut Digests,
+    steps: &[(Place, Option<&Bytes>)],
+) -> Result<(), AllocError>
+    ensures { OnOk result ((files : Files) → digests.old ≡ digests_of files
+        → digests.new ≡ digests_of (after_steps files (shown_steps steps.now))) }
+{
+    for step in steps.iter() {
+        follow_step(digests, &step.0, step.1)?;
+    }
+    Ok(())
+}
+
+fn follow_step(
+    digests: &mut Digests,
+    place: &Place,
+    bytes: Option<&Bytes>,
+) -> Result<(), AllocError>
+    ensures { OnOk result ((files : Files) → digests.old ≡ digests_of files
+        → digests.new ≡ digests_of (with_left files place.now (option_copied bytes.entry))) }
+{
+    match bytes {
+        Some(bytes) => digests.put(place, bytes),
+        None => {
+            digests.remove(place);
+            Ok(())
+        }
+    }
+}

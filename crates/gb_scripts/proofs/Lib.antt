@@ -1,9 +1,0 @@
-pub mod FileLemmas
-pub mod TurnLemmas
-pub mod RowLemmas
-pub mod PlaceLemmas
-pub mod OneLemmas
-pub mod OwnLemmas
-pub mod BlameLemmas
-pub mod SaidLemmas
-pub mod Rows

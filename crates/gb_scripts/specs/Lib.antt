@@ -1,4 +1,0 @@
-pub mod Texts
-pub mod Turns
-pub mod Scripts
-pub mod Laws

@@ -1,5 +1,0 @@
-pub mod Marks
-pub mod Kept
-pub mod ByNumber
-pub mod Starting
-pub mod Rowed

@@ -1,5 +1,0 @@
-use Rattle.gb_tasks.proofs.RealiseLemmas.{names_rise}
-use Rattle.gb_tasks.proofs.laws.declared_names_rise.Goals as goal
-
-pub returns : goal.returns
-returns c start tables source = names_rise tables source

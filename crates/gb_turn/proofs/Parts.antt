@@ -1,0 +1,186 @@
+-- Parts of a folder: without the tool's own files, at a task's outputs, and but for its record.
+use Rattle.std.specs.Prelude.{ℕ, ◌≡◌, ◌||◌, ◌&&◌, Bool, true, false, not, None, List, [], ◌∷◌, map, cond, if◌then◌else◌, unwrap_or, bytes_eq}
+use Rattle.std.specs.List.{AllByRecursion, list_any}
+use Rattle.std.specs.Cmp.Lexicographic.{bytes_decides}
+use Rattle.std.proofs.Common.{refl, sym, ap, ap₂, ◌∙◌}
+use Rattle.gb_core.specs.Place.{is_beneath, is_under}
+use Rattle.gb_folder.specs.Files.{Place, Bytes, Contents, DiffersOnlyAt, Files, file_at, files_where, is_blocked, is_own, places_under}
+use Rattle.gb_folder.proofs.Beneath.{not_beneath_itself}
+use Rattle.gb_folder.proofs.Changes.{file_at-files_where}
+use Rattle.gb_history.specs.Places.{record_place}
+use Rattle.gb_meaning.specs.TrueRecord.{outside}
+use Rattle.gb_meaning.proofs.Lemmas.Reading.{all_map, all_where}
+use Rattle.gb_plan.proofs.Tests.{neither, no_longer, not_false, not_true}
+use Rattle.gb_plan.specs.Task.{Path, is_output_of}
+use Rattle.gb_plan.specs.declared.task.Output.{Output}
+use Rattle.gb_plan.specs.declared.task.TaskDeclaration.{TaskDeclaration as Task}
+use Rattle.gb_store.specs.Changes.{ChangesOnly, is_at}
+use Rattle.gb_tree.specs.Tree.{Entries, bytes_at, contents_at, entries_from, files_from, path_from}
+use Rattle.gb_turn.specs.Turned.{is_of_turn}
+use Rattle.gb_turn.proofs.Outside.{kept}
+use Rattle.gb_turn.proofs.Own.{blocked_where, is_kept, kept_at, not_in_own_way}
+
+-- of the files that pass a test, those that pass a narrower one
+pub narrowed : (inner wide : Place → Bool) → ((q : Place) → inner q ≡ true → wide q ≡ true) → (files : Files)
+    → files_where inner (files_where wide files) ≡ files_where inner files
+narrowed inner wide within [] = refl
+narrowed inner wide within (f ∷ files) =
+    let rest = narrowed inner wide within files in
+    elim (wide f.0) as (λ b. wide f.0 ≡ b → files_where inner (cond b (f ∷ files_where wide files) (files_where wide files)) ≡ cond (inner f.0) (f ∷ files_where inner files) (files_where inner files)) [
+      | true ↦ λ _. ap (λ (xs : Files). cond (inner f.0) (f ∷ xs) xs) rest
+      | false ↦ λ out. elim (inner f.0) as (λ b. inner f.0 ≡ b → files_where inner (files_where wide files) ≡ cond b (f ∷ files_where inner files) (files_where inner files)) [
+        | true ↦ λ e. not_false (sym (within f.0 e) ∙ out)
+        | false ↦ λ _. rest
+      ] refl
+    ] refl
+
+where_both : (one other : Place → Bool) (files : Files) → files_where one (files_where other files) ≡ files_where (λ q. other q && one q) files
+where_both one other [] = refl
+where_both one other (f ∷ files) =
+    let rest = where_both one other files in
+    elim (other f.0) as (λ b. files_where one (cond b (f ∷ files_where other files) (files_where other files))
+    ≡ cond (b && one f.0) (f ∷ files_where (λ q. other q && one q) files) (files_where (λ q. other q && one q) files)) [
+      | true ↦ ap (λ (xs : Files). cond (one f.0) (f ∷ xs) xs) rest
+      | false ↦ rest
+    ]
+
+where_same : (one other : Place → Bool) → ((q : Place) → one q ≡ other q) → (files : Files) → files_where one files ≡ files_where other files
+where_same one other same [] = refl
+where_same one other same (f ∷ files) = ap₂ (λ (b : Bool) (xs : Files). cond b (f ∷ xs) xs) (same f.0) (where_same one other same files)
+
+-- what changes at some places changes at more
+pub widened : (few more : Place → Bool) → ((q : Place) → few q ≡ true → more q ≡ true) → (old new : Contents) → ChangesOnly few old new → ChangesOnly more old new
+widened few more within old new changes = record {
+  elsewhere =
+      sym (narrow new.files) ∙ ap (files_where (λ q. not (more q))) changes.elsewhere ∙ narrow old.files;
+  odd = changes.odd;
+}
+  where
+    passes : (q : Place) → not (more q) ≡ true → not (few q) ≡ true
+    passes q none = by (few q) refl
+      where
+        by : (b : Bool) → few q ≡ b → not b ≡ true
+        by true is = not_true (sym (no_longer (more q) none) ∙ within q is)
+        by false is = refl
+
+    narrow : (files : Files) → files_where (λ q. not (more q)) (files_where (λ q. not (few q)) files) ≡ files_where (λ q. not (more q)) files
+    narrow = narrowed (λ q. not (more q)) (λ q. not (few q)) passes
+
+-- ---- the place of a record
+
+not_the_record : (path : Path) (q : Place) → is_kept q ≡ true → is_at (record_place path) q ≡ false
+not_the_record path q is = by (bytes_eq q (record_place path)) refl
+  where
+    by : (b : Bool) → bytes_eq q (record_place path) ≡ b → b ≡ false
+    by true e = not_false (sym (ap is_own ((bytes_decides q (record_place path)).0 e)) ∙ no_longer (is_own q) is)
+    by false e = refl
+
+not_not : (b : Bool) → b ≡ false → not b ≡ true
+not_not true e = not_false e
+not_not false e = refl
+
+same_kept : (path : Path) (old new : Files) → DiffersOnlyAt (is_at (record_place path)) old new → kept new ≡ kept old
+same_kept path old new differs =
+    let narrow = narrowed is_kept (λ q. not (is_at (record_place path) q)) (λ q is. not_not (is_at (record_place path) q) (not_the_record path q is)) in
+    sym (narrow new) ∙ ap (files_where is_kept) differs ∙ narrow old
+
+-- where a record changed, the folder without the tool's own files is the same
+pub outside_same : (path : Path) (old new : Contents) → ChangesOnly (is_at (record_place path)) old new → outside new ≡ outside old
+outside_same path old new changes =
+    ap₂ (λ (files : Files) (odd : List (List ℕ)). let folder : Contents = record { files = files; odd = odd } in folder) (same_kept path old.files new.files changes.elsewhere) changes.odd
+
+-- what is in the way of a record is the tool's own
+pub blocked_by_own : (path : Path) (files : Files) → is_blocked files (record_place path) ≡ is_blocked (files_where is_own files) (record_place path)
+blocked_by_own path files = sym (blocked_where is_own (record_place path) (λ f not_own. not_in_own_way (record_place path) f refl not_own) files)
+
+-- ---- what a turn changes
+
+module _ (task : Task) (old new : Files) (differs : DiffersOnlyAt (is_of_turn task) old new) where
+  abbrev turn_passes : Place → Bool
+  turn_passes q = not (is_of_turn task q) && is_kept q
+
+  pub differs_outside : DiffersOnlyAt (is_output_of task) (kept old) (kept new)
+  differs_outside = as_one new ∙ ap (files_where is_kept) differs ∙ sym (as_one old)
+    where
+      by : (k o a : Bool) → (k ≡ true → a ≡ false) → (k && not o) ≡ (not (o || a) && k)
+      by true true a h = refl
+      by true false true h = not_false (h refl)
+      by true false false h = refl
+      by false true a h = refl
+      by false false true h = refl
+      by false false false h = refl
+
+      as_one : (files : Files) → files_where (λ q. not (is_output_of task q)) (files_where is_kept files) ≡ files_where is_kept (files_where (λ q. not (is_of_turn task q)) files)
+      as_one files =
+          where_both (λ q. not (is_output_of task q)) is_kept files
+          ∙ where_same (λ q. is_kept q && not (is_output_of task q)) (λ q. not (is_of_turn task q) && is_kept q)
+          (λ q. by (is_kept q) (is_output_of task q) (is_at (record_place task.path) q) (not_the_record task.path q)) files
+          ∙ sym (where_both is_kept (λ q. not (is_of_turn task q)) files)
+
+  -- what is in the way of the task's record was so before
+  module _ (out : list_any (λ (o : Output). is_own o.place) task.outputs ≡ false) where
+    abbrev others : Place → Bool
+    others q = not (is_of_turn task q) && is_own q
+
+    not_at_output : (q : Place) → is_own q ≡ true → is_output_of task q ≡ false
+    not_at_output q own = by (is_output_of task q) refl
+      where
+        by : (b : Bool) → is_output_of task q ≡ b → b ≡ false
+        by true at = not_true (sym (no_longer (is_own q) (kept_at task.outputs out q at)) ∙ own)
+        by false at = refl
+
+    free : (f : Place) → others f ≡ false → (is_beneath (record_place task.path) f || is_beneath f (record_place task.path)) ≡ false
+    free f others_not = by (is_own f) refl
+      where
+        itself : is_at (record_place task.path) f ≡ true → (is_beneath (record_place task.path) f || is_beneath f (record_place task.path)) ≡ false
+        itself e =
+            let same = (bytes_decides f (record_place task.path)).0 e in
+            ap (λ p. is_beneath (record_place task.path) p || is_beneath p (record_place task.path)) same
+            ∙ neither _ _ (not_beneath_itself (record_place task.path)) (not_beneath_itself (record_place task.path))
+
+        here : (o a : Bool) → o ≡ false → (not (o || a) && true) ≡ false → a ≡ true
+        here true a h e = not_false h
+        here false true h e = refl
+        here false false h e = not_false e
+
+        by : (b : Bool) → is_own f ≡ b → (is_beneath (record_place task.path) f || is_beneath f (record_place task.path)) ≡ false
+        by true own = itself (here (is_output_of task f) (is_at (record_place task.path) f) (not_at_output f own)
+            (sym (ap (λ b. not (is_of_turn task f) && b) own) ∙ others_not))
+        by false not_own = not_in_own_way (record_place task.path) f refl not_own
+
+    pub in_way_before : is_blocked new (record_place task.path) ≡ is_blocked (files_where is_own old) (record_place task.path)
+    in_way_before =
+        sym (blocked_where others (record_place task.path) free new)
+        ∙ ap (λ files. is_blocked files (record_place task.path)) (sym (where_both is_own (λ q. not (is_of_turn task q)) new) ∙ ap (files_where is_own) differs ∙ where_both is_own (λ q. not (is_of_turn task q)) old)
+        ∙ blocked_where others (record_place task.path) free old
+        ∙ sym (blocked_where is_own (record_place task.path) (λ f not_own. not_in_own_way (record_place task.path) f refl not_own) old)
+
+-- ---- the files of an output in a part
+
+module _ (test : Place → Bool) where
+  abbrev Within : Place → Type 0
+  Within root = (q : Place) → is_under q root ≡ true → test q ≡ true
+
+  bytes_same : (files : Files) (place : Place) → test place ≡ true → bytes_at (files_where test files) place ≡ bytes_at files place
+  bytes_same files place passes =
+      ap (λ o. unwrap_or o []) (file_at-files_where files test place ∙ ap (λ b. cond b (file_at files place) None) passes)
+
+  entries_same : (files : Files) (entries : Entries) → AllByRecursion (λ (entry : List ℕ × Place). test entry.1 ≡ true) entries
+      → contents_at (files_where test files) entries ≡ contents_at files entries
+  entries_same files [] all = refl
+  entries_same files (entry ∷ entries) all =
+      ap₂ (λ (b : Bytes) (l : Files). (entry.0, b) ∷ l) (bytes_same files entry.1 all.0) (entries_same files entries all.1)
+
+  all_from : (files : Files) (root : Place) → Within root → AllByRecursion (λ (entry : List ℕ × Place). test entry.1 ≡ true) (entries_from root (places_under files root))
+  all_from files root within =
+      all_map (λ (entry : List ℕ × Place). test entry.1 ≡ true) (λ place. (path_from root place, place)) (places_under files root)
+      (all_where (λ place. test place ≡ true) (λ place. is_under place root) within files)
+
+  pub from_same : (files : Files) (root : Place) → Within root → files_from (files_where test files) root ≡ files_from files root
+  from_same files root within =
+      elim (is_own root) as (λ own. contents_at (files_where test files) (if own then [] else entries_from root (places_under (files_where test files) root)) ≡ contents_at files (if own then [] else entries_from root (places_under files root))) [
+        | true ↦ refl
+        | false ↦
+            ap (λ (fs : Files). contents_at (files_where test files) (entries_from root (map (λ (file : Place × Bytes). file.0) fs))) (narrowed (λ place. is_under place root) test within files)
+            ∙ entries_same files (entries_from root (places_under files root)) (all_from files root within)
+      ]

@@ -1,0 +1,108 @@
+use Rattle.std.proofs.Common.{◌≡◌, ◌≤◌, ℕ, Bool, sym, subst, ◌∙◌}
+use Rattle.gb_folder.specs.Files.{Contents}
+use Rattle.gb_label.specs.Preparing.{IsSeenFor}
+use Rattle.gb_meaning.specs.Label.{Moment}
+use Rattle.gb_turn.specs.Turned.{ComesAt, HasTurned, setting_with}
+use Rattle.gb_turn.proofs.Answered.{cleared_not_current, run_not_current}
+use Rattle.gb_turn.proofs.Answering.{cleared_answers, run_answers, told_answers}
+use Rattle.gb_turn.proofs.Later.{cleared_started, comes_later, copied_some, run_started, told_turned, turned_before}
+use Rattle.gb_turn.proofs.Recorded.{seen_later}
+use Rattle.gb_folder.proofs.Asked.{asks_reading, asks_then}
+use Rattle.gb_turn.specs.Asking.{HasRead}
+use Rattle.gb_turn.proofs.Asking.{asks_once, source_read, taken_in_turn}
+use Rattle.gb_turn.proofs.turn.take_turn.Goals as goal
+
+pub returns-in-Told-clause-blame : goal.returns-in-Told-clause-blame
+returns-in-Told-clause-blame g c = λ place is. (c.in-Told.ensures.of_task.3 place is).0
+
+pub returns-in-Told-clause-answer : goal.returns-in-Told-clause-answer
+returns-in-Told-clause-answer g c = told_answers c.args.options c.args.task.now c.in-Told.report c.in-Told.ensures.of_task.2 c.in-Told.ensures.answer
+
+pub returns-in-Sourceless-clause-answer : goal.returns-in-Sourceless-clause-answer
+returns-in-Sourceless-clause-answer g c =
+    let cleared = c.take_turn_without_source in
+    cleared_answers c.args.options c.args.task.now cleared.result cleared.ensures.lines c.in-Sourceless.ensures.of_task.1 cleared.ensures.outcome
+
+pub returns-in-Due-clause-answer : goal.returns-in-Due-clause-answer
+returns-in-Due-clause-answer g c = run_answers c.args.options c.args.task.now c.run.result c.run.ensures.outcome
+
+pub returns-in-Told-clause-turn : goal.returns-in-Told-clause-turn
+returns-in-Told-clause-turn g c = λ tells kinds registry_of plan moment agrees seen at needed known.
+    let F = g.F.Folder in
+    let start = c.args.folder.now in
+    let now = c.settle.new.folder in
+    told_turned kinds registry_of (F.may_leave start) c.args.options plan c.args.task.now _ moment c.in-Told.report (F.contents start) (F.failures start) (F.failures now) (F.contents now) at
+    (c.settle.ensures.same tells) (c.in-Told.ensures.settled tells kinds registry_of plan moment at.folder at.failures needed known)
+
+pub returns-in-Sourceless-clause-turn : goal.returns-in-Sourceless-clause-turn
+returns-in-Sourceless-clause-turn g c = λ tells kinds registry_of plan moment agrees seen at needed known.
+    let F = g.F.Folder in
+    let task = c.args.task.now in
+    let start = c.args.folder.now in
+    let then = c.settle.new.folder in
+    let now = c.take_turn_without_source.new.folder in
+    let same : F.contents then ≡ F.contents start = c.settle.ensures.same tells in
+    let came = comes_later task c.is_some.result (F.contents start) (F.failures start) moment (F.contents then) (F.failures then) same
+    (subst (λ (b : Bool). ComesAt task b (F.contents start) (F.failures start) moment) (copied_some c.args.last ∙ sym c.is_some.ensures) at) in
+    let later : Moment = record { world = moment.world; outcomes = moment.outcomes; failures = F.failures then } in
+    turned_before kinds registry_of (F.may_leave start) (F.may_leave then) c.settle.ensures.asks.tearing c.args.options plan task moment (F.failures then)
+    (subst (λ (n : ℕ). n ≤ F.failures then) (sym at.failures) c.settle.ensures.asks.count) c.take_turn_without_source.result (F.contents start) (F.failures now) (F.contents now) c.take_turn_without_source.ensures.asks.count
+    (subst (λ (folder : Contents). HasTurned (setting_with kinds registry_of (F.may_leave then)) c.args.options plan task later c.take_turn_without_source.result folder (F.failures now) (F.contents now)) same
+    (c.take_turn_without_source.ensures.turn tells kinds registry_of c.args.options plan later (seen_later _ _ c.settle.ensures.asks.tearing seen) came
+    (c.in-Sourceless.ensures.settled tells kinds registry_of plan moment at.folder at.failures needed known)))
+
+pub run-requires-clause-due : goal.run-requires-clause-due
+run-requires-clause-due g c = c.in-Due.ensures.of_task.1
+
+pub run-requires-clause-read : goal.run-requires-clause-read
+run-requires-clause-read g c = c.in-Due.ensures.of_task.2
+
+pub returns-in-Due-clause-turn : goal.returns-in-Due-clause-turn
+returns-in-Due-clause-turn g c = λ tells kinds registry_of plan moment agrees seen at needed known.
+    let F = g.F.Folder in
+    let task = c.args.task.now in
+    let start = c.args.folder.now in
+    let then = c.settle.new.folder in
+    let now = c.run.new.folder in
+    let same : F.contents then ≡ F.contents start = c.settle.ensures.same tells in
+    let came = comes_later task _ (F.contents start) (F.failures start) moment (F.contents then) (F.failures then) same at in
+    let later : Moment = record { world = moment.world; outcomes = moment.outcomes; failures = F.failures then } in
+    let due = c.in-Due.ensures.settled tells kinds registry_of plan moment at.folder at.failures needed known in
+    turned_before kinds registry_of (F.may_leave start) (F.may_leave then) c.settle.ensures.asks.tearing c.args.options plan task moment (F.failures then)
+    (subst (λ (n : ℕ). n ≤ F.failures then) (sym at.failures) c.settle.ensures.asks.count) c.run.result (F.contents start) (F.failures now) (F.contents now) (c.run.ensures.asks start c.settle.ensures.asks c.in-Due.ensures.answered.0 c.in-Due.ensures.answered.1).count
+    (subst (λ (folder : Contents). HasTurned (setting_with kinds registry_of (F.may_leave then)) c.args.options plan task later c.run.result folder (F.failures now) (F.contents now)) same
+    (c.run.ensures.turn tells kinds registry_of plan later agrees (seen_later _ _ c.settle.ensures.asks.tearing seen) came due.0 due.1 due.2
+    (subst (λ (folder : Contents). IsSeenFor task folder.files c.in-Due.seen c.in-Due.decision) (sym same) due.3) known))
+
+pub returns-in-Told-clause-started : goal.returns-in-Told-clause-started
+returns-in-Told-clause-started g c = c.in-Told.ensures.of_task.4
+
+pub returns-in-Sourceless-clause-started : goal.returns-in-Sourceless-clause-started
+returns-in-Sourceless-clause-started g c = cleared_started c.take_turn_without_source.result.outcome c.take_turn_without_source.ensures.outcome
+
+pub returns-in-Due-clause-started : goal.returns-in-Due-clause-started
+returns-in-Due-clause-started g c = run_started c.run.result.outcome c.run.ensures.outcome
+
+pub returns-in-Told-clause-asks : goal.returns-in-Told-clause-asks
+returns-in-Told-clause-asks g c = asks_reading c.settle.ensures.asks
+
+pub returns-in-Sourceless-clause-asks : goal.returns-in-Sourceless-clause-asks
+returns-in-Sourceless-clause-asks g c =
+    let F = g.F.Folder in
+    let task = c.args.task.now in
+    asks_then (asks_reading c.settle.ensures.asks)
+    (asks_once (HasRead F.failures F.may_leave F.asked c.args.folder.now task) _
+    (source_read F.failures F.may_leave F.asked c.args.folder.now task c.settle.new.folder c.in-Sourceless.ensures.answered)
+    (taken_in_turn task _ c.take_turn_without_source.ensures.asks))
+
+pub returns-in-Due-clause-asks : goal.returns-in-Due-clause-asks
+returns-in-Due-clause-asks g c =
+    asks_then (asks_reading c.settle.ensures.asks) (c.run.ensures.asks c.args.folder.now c.settle.ensures.asks c.in-Due.ensures.answered.0 c.in-Due.ensures.answered.1)
+
+pub returns-in-Sourceless-clause-current : goal.returns-in-Sourceless-clause-current
+returns-in-Sourceless-clause-current g c = λ told acts.
+    let was = c.take_turn_without_source.ensures.outcome in absurd (cleared_not_current was.0 (sym was.1 ∙ told))
+
+pub returns-in-Due-clause-current : goal.returns-in-Due-clause-current
+returns-in-Due-clause-current g c = λ told acts.
+    let was = c.run.ensures.outcome in absurd (run_not_current was.0 (sym was.1 ∙ told))

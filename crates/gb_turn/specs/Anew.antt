@@ -1,0 +1,61 @@
+-- What a task that may go on by changes comes to, on what was read of it whole.
+use Rattle.std.specs.Prelude.{◌≡◌, List, map}
+use Rattle.gb_action.specs.Changes.{Changes}
+use Rattle.gb_action.specs.Files.{Trees}
+use Rattle.gb_action.specs.declared.output.OutputFiles.{OutputFiles}
+use Rattle.gb_folder.specs.Files.{Files}
+use Rattle.gb_history.specs.Decision.{DecidesFrom}
+use Rattle.gb_history.specs.Remembered.{Remembered}
+use Rattle.gb_history.specs.declared.decide.Decision.{Decision}
+use Rattle.gb_history.specs.declared.decide.Decision.TheVariants as decisions
+use Rattle.gb_history.specs.declared.decide.Present.{Present}
+use Rattle.gb_label.specs.Deciding.{IsPresentOf}
+use Rattle.gb_meaning.specs.Kinds.{Kinds}
+use Rattle.gb_meaning.specs.Memory.{World}
+use Rattle.gb_meaning.specs.Tree.{trees_of}
+use Rattle.gb_plan.specs.Task.{seen_files, seen_outputs}
+use Rattle.gb_plan.specs.declared.task.TaskDeclaration.{TaskDeclaration as Task}
+use Rattle.gb_report.specs.declared.report.Options.{Options}
+use Rattle.gb_label.specs.Reading.{digests_in, prints_seen, records_with, seen_of}
+use Rattle.gb_label.specs.declared.inputs.Inputs.{Inputs}
+use Rattle.gb_label.specs.declared.outputs.Outputs.{Outputs}
+use Rattle.gb_turn.specs.Turned.{IsDueByChanges}
+use Rattle.gb_turn.specs.declared.anew.Anew.{Anew}
+use Rattle.gb_turn.specs.declared.anew.Anew.TheVariants as anew
+
+-- the trees of the task's properties, with the digests of these very trees
+pub record AreWhole (task : Task) (inputs : Inputs) : Type 0 where
+  pub named : map (λ tree. tree.0) inputs.trees ≡ seen_files task.files
+  pub digests : inputs.prints.items ≡ digests_in inputs.trees
+
+-- the files at the task's outputs, with the digests of these very files
+pub record AreWholeOutputs (task : Task) (outputs : Outputs) : Type 0 where
+  pub formed : map (λ output. (output.name, output.form)) outputs.seen ≡ seen_outputs task.outputs
+  pub digests : outputs.prints.items ≡ prints_seen outputs.seen
+
+-- The changes are decided by the record on the digests of these trees and outputs.
+pub record AreDecided (options : Options) (task : Task) (last : Remembered) (trees : Trees)
+    (seen : List OutputFiles) (changes : List Changes) : Type 0 where
+  pub present : Present
+  pub is : IsPresentOf options task (digests_in trees) (records_with task.outputs (prints_seen seen)) present
+  pub decides : DecidesFrom last present (decisions.Incremental changes)
+
+-- what a task comes to by what was decided
+abbrev pub anew_by : Decision → Inputs → Outputs → Anew
+anew_by decisions.UpToDate inputs outputs = anew.InFull inputs
+anew_by (decisions.Incremental changes) inputs outputs = anew.ByChanges inputs outputs changes
+anew_by decisions.Full inputs outputs = anew.InFull inputs
+
+-- What it comes to was decided on these very inputs and outputs.
+abbrev pub IsAnew : Options → Task → Remembered → Anew → Type 0
+IsAnew options task last (anew.ByChanges inputs outputs changes) =
+    AreWhole task inputs × AreWholeOutputs task outputs
+    × AreDecided options task last inputs.trees outputs.seen changes
+IsAnew options task last (anew.InFull inputs) = AreWhole task inputs
+
+-- It goes on by changes, on what stands in these files.
+abbrev pub IsAsBefore : Kinds → Options → Task → Files → World → Anew → Type 0
+IsAsBefore kinds options task files world (anew.ByChanges inputs outputs changes) =
+    (inputs.trees ≡ trees_of task files) × (outputs.seen ≡ map (seen_of files) task.outputs)
+    × IsDueByChanges kinds options task world changes
+IsAsBefore kinds options task files world (anew.InFull inputs) = ⊥

@@ -1,0 +1,67 @@
+-- What a turn goes by, as calls answered it, over any folder.
+use Rattle.std.specs.Prelude.{ℕ, ◌≡◌, true, false, List, map, Option, Some, ⊤}
+use Rattle.gb_action.specs.Files.{Trees}
+use Rattle.gb_action.specs.declared.output.OutputFiles.{OutputFiles}
+use Rattle.gb_folder.specs.Calls.{Call}
+use Rattle.gb_folder.specs.Files.{Tearing, is_empty}
+use Rattle.gb_history.specs.Decision.{DecidesFrom}
+use Rattle.gb_history.specs.Remembered.{Remembered}
+use Rattle.gb_history.specs.declared.decide.Decision.TheVariants as decisions
+use Rattle.gb_history.specs.declared.decide.Present.{Present}
+use Rattle.gb_label.specs.Answered.{WasDecided, WasSourceless}
+use Rattle.gb_label.specs.Deciding.{IsPresentOf}
+use Rattle.gb_plan.specs.Task.{seen_files, seen_outputs}
+use Rattle.gb_plan.specs.declared.task.TaskDeclaration.{TaskDeclaration as Task}
+use Rattle.gb_report.specs.declared.report.Options.{Options}
+use Rattle.gb_report.specs.declared.report.Outcome.{Outcome}
+use Rattle.gb_report.specs.declared.report.Outcome.TheVariants as outcomes
+use Rattle.gb_label.specs.ReadingAnswered.{AreInputsAnswered, AreInputsRead, AreOutputsRead}
+use Rattle.gb_label.specs.Reading.{digests_in, prints_seen, records_with}
+use Rattle.gb_turn.specs.declared.anew.Anew.{Anew}
+use Rattle.gb_turn.specs.declared.anew.Anew.TheVariants as anew
+use Rattle.gb_turn.specs.declared.settle.Settled.{Settled}
+use Rattle.gb_turn.specs.declared.settle.Settled.TheVariants as settled
+
+-- The record that was read of the task finds it up to date, on trees and files that calls answered.
+pub record IsCurrentOn {F : Type 0} (failures : F → ℕ) (may_leave : F → Tearing)
+    (asked : F → Call → F → Type 0) (options : Options) (task : Task) (last : Option Remembered)
+    (old new : F) : Type 0 where
+  pub run : Remembered
+  pub remembered : last ≡ Some run
+  pub trees : Trees
+  pub inputs_read : AreInputsRead failures may_leave asked old new task trees
+  pub named : map (λ tree. tree.0) trees ≡ seen_files task.files
+  pub seen : List OutputFiles
+  pub outputs_read : AreOutputsRead failures may_leave asked old new task seen
+  pub formed : map (λ output. (output.name, output.form)) seen ≡ seen_outputs task.outputs
+  pub present : Present
+  pub has : IsPresentOf options task (digests_in trees) (records_with task.outputs (prints_seen seen)) present
+  pub decides : DecidesFrom run present decisions.UpToDate
+
+-- where a task that has actions is told up to date it was found so
+abbrev pub IsToldCurrent : {F : Type 0} → (F → ℕ) → (F → Tearing) → (F → Call → F → Type 0) → Options → Task
+    → Option Remembered → F → F → Outcome → Type 0
+IsToldCurrent failures may_leave asked options task last old new outcome =
+    outcome ≡ outcomes.UpToDate → is_empty task.actions ≡ false
+    → IsCurrentOn failures may_leave asked options task last old new
+
+-- what is settled goes by what was answered
+abbrev pub WasSettled : {F : Type 0} → (F → ℕ) → (F → Tearing) → (F → Call → F → Type 0) → F → F → Options
+    → Task → Option Remembered → Settled → Type 0
+WasSettled failures may_leave asked old new options task last (settled.Told report) =
+    IsToldCurrent failures may_leave asked options task last old new report.outcome
+WasSettled failures may_leave asked old new options task last (settled.Sourceless path) =
+    WasSourceless failures may_leave asked old new task
+WasSettled failures may_leave asked old new options task last (settled.Due path decision seen) =
+    AreInputsAnswered failures may_leave asked old new task seen.inputs.items
+    × WasDecided failures may_leave asked old new options task last seen.inputs.items decision
+    seen.outputs.items
+
+-- and so does what it comes to anew
+abbrev pub WasReadAnew : {F : Type 0} → (F → ℕ) → (F → Tearing) → (F → Call → F → Type 0) → F → F → Task
+    → Anew → Type 0
+WasReadAnew failures may_leave asked old new task (anew.ByChanges inputs outputs changes) =
+    AreInputsRead failures may_leave asked old new task inputs.trees
+    × AreOutputsRead failures may_leave asked old new task outputs.seen
+WasReadAnew failures may_leave asked old new task (anew.InFull inputs) =
+    AreInputsRead failures may_leave asked old new task inputs.trees

@@ -1,0 +1,51 @@
+-- What becomes of a task's record.
+use Rattle.std.specs.Prelude.{ℕ, ◌≡◌, ◌⊎◌, List, Option, Result, Ok, Err, map, if◌then◌else◌}
+use Rattle.gb_action.specs.Files.{Trees}
+use Rattle.gb_folder.specs.Files.{Bytes, Files, HasRisen, is_empty}
+use Rattle.gb_history.specs.Remembered.{Prints, Remembered}
+use Rattle.gb_meaning.specs.Kinds.{Kinds}
+use Rattle.gb_meaning.specs.Made.{made_of}
+use Rattle.gb_meaning.specs.Memory.{Entry, Memory, forget, remember}
+use Rattle.gb_plan.specs.Task.{Path}
+use Rattle.gb_plan.specs.declared.task.TaskDeclaration.{TaskDeclaration as Task}
+use Rattle.gb_records.specs.Standing.{CannotStand, Standing}
+use Rattle.gb_report.specs.declared.fault.Fault.{Fault}
+use Rattle.gb_report.specs.declared.fault.Fault.TheVariants as faults
+use Rattle.gb_label.specs.Reading.{digests_in, recorded_of}
+
+-- a run of the task with these input digests, whose outputs are those of these files
+abbrev pub run_now : Task → List Prints → Files → Remembered
+run_now task inputs files = record {
+  actions = task.actions;
+  values = task.values;
+  inputs = inputs;
+  outputs = map (recorded_of files) task.outputs;
+}
+
+-- Why a record was not taken out or put in: memory ran out; or it cannot stand there, or the device failed.
+abbrev pub IsUnwritten : Path → Option Bytes → Files → ℕ → ℕ → Fault → Type 0
+IsUnwritten path next files before after fault =
+    (fault ≡ faults.OutOfMemory)
+    ⊎ ((fault ≡ faults.HistoryNotWritten) × (CannotStand files path next ⊎ HasRisen before after))
+
+-- The record is that of a run of the task on these trees, whose outputs are what its actions make of them.
+abbrev pub IsRecordOf : Kinds → Task → Trees → Remembered → Type 0
+IsRecordOf kinds task trees run =
+    (files : Files) × (made_of kinds task.actions task.values trees task.outputs ≡ Ok files)
+    × (run ≡ run_now task (digests_in trees) files)
+
+-- which records stand once a task's was taken out, or that failed
+abbrev pub IsForgotten : Path → Memory → Result (Unit {0}) Fault → Files → Type 0
+IsForgotten path memory (Ok done) files = Standing files (forget memory path)
+IsForgotten path memory (Err faults.HistoryNotWritten) files =
+    Standing files memory ⊎ Standing files (forget memory path)
+IsForgotten path memory (Err fault) files = Standing files memory
+
+-- which records stand once a task's was put in, where it has outputs, or that failed
+abbrev pub IsRemembered : Task → Entry → Memory → Result (Unit {0}) Fault → Files → Type 0
+IsRemembered task entry memory (Ok done) files =
+    Standing files (if is_empty task.outputs then memory else remember memory task.path entry)
+IsRemembered task entry memory (Err faults.HistoryNotWritten) files =
+    Standing files memory ⊎ Standing files (remember memory task.path entry)
+    ⊎ Standing files (forget memory task.path)
+IsRemembered task entry memory (Err fault) files = Standing files memory

@@ -1,0 +1,101 @@
+-- What is settled of a task's turn before anything is changed.
+use Rattle.std.specs.Prelude.{ℕ, ◌≡◌, ◌≢◌, ◌||◌, Bool, true, false, not, [], Result, Ok, Err, None, Some}
+use Rattle.std.specs.Prelude.{IsTrue, ⊤}
+use Rattle.std.specs.List.{list_any}
+use Rattle.gb_turn.specs.Case.{IsCaseFor}
+use Rattle.gb_turn.specs.Turns.{IsRunFor}
+use Rattle.gb_folder.specs.Files.{Contents, HasRisen, Place, is_empty}
+use Rattle.gb_history.specs.declared.decide.Decision.TheVariants as decisions
+use Rattle.gb_label.specs.Preparing.{IsReadFor, IsSeenFor}
+use Rattle.gb_label.specs.declared.prepare.Prepared.{Prepared}
+use Rattle.gb_label.specs.declared.prepare.Prepared.TheVariants as prepared
+use Rattle.gb_meaning.specs.Events.{Setting, own_files, rules_in}
+use Rattle.gb_meaning.specs.Label.{HasNoSource, Moment, early_case}
+use Rattle.gb_meaning.specs.Outline.{MayAnswer, PrintsNothing}
+use Rattle.gb_meaning.specs.Turn.{StartedTurn}
+use Rattle.gb_plan.specs.Graph.{Plan}
+use Rattle.gb_plan.specs.Task.{Path, is_output_of}
+use Rattle.gb_plan.specs.declared.task.TaskDeclaration.{TaskDeclaration as Task}
+use Rattle.gb_report.specs.Outcome.{is_started}
+use Rattle.gb_report.specs.declared.fault.Fault.{Fault}
+use Rattle.gb_report.specs.declared.fault.Fault.TheVariants as faults
+use Rattle.gb_report.specs.declared.report.Options.{Options}
+use Rattle.gb_report.specs.declared.report.Outcome.{Outcome}
+use Rattle.gb_report.specs.declared.report.Outcome.TheVariants as outcomes
+use Rattle.gb_report.specs.declared.report.TaskReport.{TaskReport}
+use Rattle.gb_label.specs.Reading.{is_input_of}
+use Rattle.gb_turn.specs.declared.settle.Settled.{Settled}
+use Rattle.gb_turn.specs.declared.settle.Settled.TheVariants as settled
+
+-- what a task without actions is told as
+abbrev pub idle_outcome : Bool → Outcome
+idle_outcome true = outcomes.Executed
+idle_outcome false = outcomes.UpToDate
+
+-- a report of the task without a line
+abbrev pub silent_report : Task → Path → Outcome → TaskReport
+silent_report task path outcome =
+    record { path = path; outcome = outcome; has_actions = not (is_empty task.actions); lines = [] }
+
+-- what is settled by what a turn was prepared for
+abbrev pub settled_as : Task → Path → Result Prepared Fault → Bool → Settled
+settled_as task path (Err fault) need = settled.Told (silent_report task path (outcomes.Failed fault))
+settled_as task path (Ok prepared.Skips) need = settled.Told (silent_report task path outcomes.Skipped)
+settled_as task path (Ok prepared.HasNoActions) need =
+    settled.Told (silent_report task path (idle_outcome need))
+settled_as task path (Ok prepared.HasNoSource) need = settled.Sourceless path
+settled_as task path (Ok (prepared.Decided decisions.UpToDate seen)) need =
+    settled.Told (silent_report task path outcomes.UpToDate)
+settled_as task path (Ok (prepared.Decided decision seen)) need = settled.Due path decision seen
+
+-- What is told is of the task, without a line, tells that it was started, and blames the device only where it
+-- failed in the turn; what has no source has a property that skips it; and what is due is not up to date.
+abbrev pub IsOfTask : Task → ℕ → ℕ → Settled → Type 0
+IsOfTask task before after (settled.Told report) =
+    (report.path ≡ task.path) × (report.has_actions ≡ not (is_empty task.actions)) × (report.lines ≡ [])
+    × ((place : Place) → report.outcome ≡ outcomes.Failed (faults.Device place)
+    → HasRisen before after × IsTrue (is_input_of task place || is_output_of task place))
+    × IsTrue (is_started report.outcome)
+IsOfTask task before after (settled.Sourceless path) =
+    (path ≡ task.path) × (list_any (λ property. property.skip_when_empty) task.files ≡ true)
+IsOfTask task before after (settled.Due path decision seen) =
+    (path ≡ task.path) × (decision ≢ decisions.UpToDate) × IsReadFor task seen decision
+
+-- all is told, with this outcome
+abbrev pub IsToldAs : Outcome → Settled → Type 0
+IsToldAs outcome (settled.Told report) = report.outcome ≡ outcome
+IsToldAs outcome other = ⊥
+
+-- a task that is skipped, or has no actions, is told so; of others nothing is said
+abbrev pub AnswersAlone : Bool → Bool → Bool → Settled → Type 0
+AnswersAlone false idle need result = IsToldAs outcomes.Skipped result
+AnswersAlone true true need result = IsToldAs (idle_outcome need) result
+AnswersAlone true false need result = ⊤
+
+-- so it is told of a whole turn
+abbrev pub IsAnsweredAlone : Bool → Bool → Bool → Outcome → Type 0
+IsAnsweredAlone false idle need outcome = outcome ≡ outcomes.Skipped
+IsAnsweredAlone true true need outcome = outcome ≡ idle_outcome need
+IsAnsweredAlone true false need outcome = ⊤
+
+-- what is told of a task that runs and has actions is an outcome that it may answer
+abbrev pub TellsAnswer : Options → Task → Settled → Type 0
+TellsAnswer options task (settled.Told report) =
+    task.runs ≡ true → is_empty task.actions ≡ false → MayAnswer options task report.outcome
+TellsAnswer options task other = ⊤
+
+-- so it is of a whole turn, which prints nothing where its outcome leaves no choice
+pub record IsAnswer (options : Options) (task : Task) (report : TaskReport) : Type 0 where
+  pub lines : PrintsNothing report.outcome report
+  pub answer : task.runs ≡ true → is_empty task.actions ≡ false → MayAnswer options task report.outcome
+
+-- What is told is the task's turn, which changes nothing; and what is not is the task's case.
+abbrev pub SettlesTurn : Setting → Options → Plan → Task → Moment → Contents → ℕ → Settled → Type 0
+SettlesTurn setting options plan task moment old after (settled.Told report) =
+    StartedTurn (rules_in setting (own_files old) options plan) moment task report
+    (record { world = moment.world; failures = after })
+SettlesTurn setting options plan task moment old after (settled.Sourceless path) =
+    early_case task moment.world.folder ≡ Some HasNoSource
+SettlesTurn setting options plan task moment old after (settled.Due path decision seen) =
+    (early_case task moment.world.folder ≡ None) × IsCaseFor setting.kinds options task moment.world decision
+    × IsRunFor setting.kinds options task moment.world decision × IsSeenFor task old.files seen decision

@@ -1,0 +1,107 @@
+//! What a task that may go on by changes comes to, on the very contents that its run works on.
+//!
+//! What the label read is taken, and what it did not keep is read now. So the decision is made once more, on
+//! the digests of exactly these contents: a file that somebody saved in between is a change like any other,
+//! and where outputs or other properties were changed the run is one in full.
+ghost use Rattle.std.specs.Prelude.{◌≡◌, ◌||◌, false, map, IsTrue, IfOk, IfErr, OnOk};
+ghost use Rattle.std.specs.List.{list_any};
+ghost use Rattle.gb_folder.specs.Calls.{Asks, no_change};
+ghost use Rattle.gb_folder.specs.Files.{is_own};
+ghost use Rattle.gb_label.specs.Deciding.{HasNamesInOrder};
+ghost use Rattle.gb_meaning.specs.Kinds.{Kinds};
+ghost use Rattle.gb_meaning.specs.Memory.{World};
+ghost use Rattle.gb_meaning.specs.TrueRecord.{outside};
+ghost use Rattle.gb_plan.specs.Task.{is_output_of};
+ghost use Rattle.gb_store.specs.Faults.{Blames, BlamesOnly, IsOfMachine};
+ghost use Rattle.gb_turn.specs.Anew.{IsAnew, IsAsBefore, anew_by};
+ghost use Rattle.gb_turn.specs.Current.{WasReadAnew};
+ghost use Rattle.gb_turn.specs.Turned.{IsToGoOn};
+ghost use Rattle.gb_label.specs.ReadingAnswered.{AreInputsAnswered, AreOutputsAnswered};
+ghost use Rattle.gb_label.specs.Reading.{AreInputs, AreInputsSeen, AreOutputs, AreOutputsSeen, is_input_of};
+
+use crate::case_laws::{outside_is_enough, prepared_is_case};
+use gb_action::change::ChangeLists;
+use gb_folder::folder::Folder;
+use gb_history::decide::Decision;
+use gb_history::record::Record;
+use gb_label::deciding::{DecidedOn, decide_on};
+use gb_label::inputs::{Inputs, complete_inputs};
+use gb_label::outputs::{Outputs, complete_outputs};
+use gb_label::prepare::Seen;
+use gb_plan::task::TaskDeclaration;
+use gb_report::fault::Fault;
+use gb_report::report::Options;
+use std::alloc::Global;
+
+/// What a task comes to on what was read of it whole.
+#[derive(Drop)]
+pub enum Anew {
+    /// It goes on from these outputs by these changes.
+    ByChanges(Inputs, Outputs, ChangeLists),
+    /// It runs in full on these inputs.
+    InFull(Inputs),
+}
+
+/// Reads what was not kept of the inputs and the outputs, and decides on the digests of all. Nothing is
+/// changed, also not by an error: the machine's, or that a file is gone or has grown since it was seen.
+pub(crate) fn settle_anew<F: Folder>(
+    alloc: Global,
+    folder: &mut F,
+    task: &TaskDeclaration,
+    options: Options,
+    last: &Record,
+    seen: Seen,
+) -> Result<Anew, Fault>
+    requires in_order { HasNamesInOrder task.now }
+    requires not_own { list_any (λ output. is_own output.place) task.now.outputs ≡ false }
+    requires inputs { AreInputs task.now seen.inputs.items }
+    requires outputs { AreOutputs task.now seen.outputs.items }
+    ensures asks { Asks F.failures F.may_leave F.asked no_change folder.old folder.new }
+    ensures blame { Blames result (F.failures folder.old) (F.failures folder.new) }
+    ensures blamed { BlamesOnly (λ place. is_input_of task.now place || is_output_of task.now place) result }
+    // Over any folder: the digests are those of what is worked on, and the changes are decided on them.
+    ensures anew { IfOk result (IsAnew options task.now last.now) }
+    // And they are what calls answered, before and now.
+    ensures answered { (first : _) → Asks F.failures F.may_leave F.asked no_change first folder.old
+        → AreInputsAnswered F.failures F.may_leave F.asked first folder.old task.now seen.inputs.items
+        → AreOutputsAnswered F.failures F.may_leave F.asked first folder.old task.now seen.outputs.items
+        → IfOk result (WasReadAnew F.failures F.may_leave F.asked first folder.new task.now) }
+    ensures same { IsTrue F.tells → F.contents folder.new ≡ F.contents folder.old }
+    // Where nobody else writes it is what was decided before.
+    ensures as_before { IsTrue F.tells → (kinds : Kinds) (world : World)
+        → world.folder ≡ outside (F.contents folder.old)
+        → AreInputsSeen task.now (F.contents folder.old).files seen.inputs.items
+        → AreOutputsSeen task.now (F.contents folder.old).files seen.outputs.items
+        → IsToGoOn kinds options task.now world last.now
+        → IfOk result (IsAsBefore kinds options task.now (F.contents folder.old).files world) }
+    ensures err { IsTrue F.tells → AreInputsSeen task.now (F.contents folder.old).files seen.inputs.items
+        → AreOutputsSeen task.now (F.contents folder.old).files seen.outputs.items
+        → IfErr result (IsOfMachine (F.failures folder.old) (F.failures folder.new)) }
+{
+    outside_is_enough();
+    prepared_is_case();
+    let Seen { inputs, outputs } = seen;
+    let Inputs { trees, prints } = complete_inputs(alloc, folder, task, inputs)?;
+    let Outputs {
+        seen,
+        prints: stood,
+    } = complete_outputs(alloc, folder, task, outputs)?;
+    let DecidedOn { decision, present } = decide_on(alloc, task, options, last, prints, stood)?;
+    let (prints, stood) = present.now.into_prints(alloc)?;
+    let inputs = Inputs { trees, prints };
+    let outputs = Outputs {
+        seen,
+        prints: stood,
+    };
+    Ok(anew_by(decision, inputs, outputs))
+}
+
+/// What a task comes to by what was decided on these inputs and outputs.
+fn anew_by(decision: Decision, inputs: Inputs, outputs: Outputs) -> Anew
+    ensures { result ≡ anew_by decision inputs outputs }
+{
+    match decision {
+        Decision::Incremental(changes) => Anew::ByChanges(inputs, outputs, changes),
+        Decision::UpToDate | Decision::Full => Anew::InFull(inputs),
+    }
+}

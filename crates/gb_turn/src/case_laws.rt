@@ -1,0 +1,45 @@
+//! Laws of what a turn comes to, each the contract of a function that does nothing.
+ghost use Rattle.gb_turn.specs.Case.{DecisionIsCase, MadeIsNotGrown, OutsideIsEnough, PreparedIsCase};
+ghost use Rattle.gb_turn.specs.Case.{PresentIsOfContents};
+ghost use Rattle.gb_turn.specs.Known.{WhatIsReadIsKnown};
+ghost use Rattle.gb_turn.specs.Turns.{IdleTurnsAreTurns, RunsAreOfCase};
+
+/// What is compared with a record by digests is what the task has now, whole.
+pub fn present_is_of_contents()
+    ensures { PresentIsOfContents }
+{}
+
+/// What a run left that ended well can be read: no file is too large, and no output has too many.
+pub fn made_is_not_grown()
+    ensures { MadeIsNotGrown }
+{}
+
+/// What is decided of a task is its case by whole contents.
+pub fn decision_is_case()
+    ensures { DecisionIsCase }
+{}
+
+/// What a turn is prepared for is its case by whole contents.
+pub fn prepared_is_case()
+    ensures { PreparedIsCase }
+{}
+
+/// A turn is prepared in a whole folder as it is without the tool's own files.
+pub fn outside_is_enough()
+    ensures { OutsideIsEnough }
+{}
+
+/// What is read of a task is known of it, where true records stood and what was seen is clear.
+pub fn what_is_read_is_known()
+    ensures { WhatIsReadIsKnown }
+{}
+
+/// Where a turn has nothing to do, its answer is the task's label and changes nothing.
+pub fn idle_turns_are_turns()
+    ensures { IdleTurnsAreTurns }
+{}
+
+/// What is decided for a run holds of it: what it is told, and whether it goes on by changes.
+pub fn runs_are_of_case()
+    ensures { RunsAreOfCase }
+{}

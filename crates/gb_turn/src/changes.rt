@@ -1,0 +1,151 @@
+//! The turn of a task that may go on from what its last run left.
+ghost use Rattle.std.specs.Prelude.{◌≡◌, ◌||◌, [], ℕ, List, false, true, not, IsTrue};
+ghost use Rattle.std.specs.List.{AllByRecursion, list_any};
+ghost use Rattle.gb_folder.specs.Calls.{Asks, no_change};
+ghost use Rattle.gb_folder.specs.Files.{HasRisen, is_empty, is_own};
+ghost use Rattle.gb_history.specs.Places.{record_place};
+ghost use Rattle.gb_run.specs.AskingChanges.{CanGoOn};
+ghost use Rattle.gb_label.specs.Deciding.{HasNamesInOrder};
+ghost use Rattle.gb_meaning.specs.Headline.{Agrees, TearsAreSeen};
+ghost use Rattle.gb_meaning.specs.Kinds.{Kinds};
+ghost use Rattle.gb_meaning.specs.Label.{Moment};
+ghost use Rattle.gb_plan.specs.Graph.{Plan, reads_output_of, some_overlap};
+ghost use Rattle.gb_plan.specs.Ready.{IsReady};
+ghost use Rattle.gb_plan.specs.Task.{is_output_of, output_places};
+ghost use Rattle.gb_records.specs.Said.{IsText};
+ghost use Rattle.gb_report.specs.declared.report.Outcome.TheVariants.{Failed};
+ghost use Rattle.gb_store.specs.Changes.{ChangesOnly};
+ghost use Rattle.gb_store.specs.Faults.{Blames, BlamesOnly};
+ghost use Rattle.gb_turn.specs.Asking.{HasRead, IsTextAnew, in_turn_with, once};
+ghost use Rattle.gb_turn.specs.Turned.{ComesAt, HasTurned, IsToGoOn, IsToldOf, Registering, is_of_turn};
+ghost use Rattle.gb_turn.specs.Turned.{outcome_of, report_of, setting_with};
+ghost use Rattle.gb_label.specs.ReadingAnswered.{AreInputsAnswered, AreOutputsAnswered};
+ghost use Rattle.gb_label.specs.Reading.{AreInputs, AreInputsSeen, AreOutputs, AreOutputsSeen, is_input_of};
+
+use crate::anew::{Anew, settle_anew};
+use crate::full::{outcome_of, run_on};
+use crate::going::go_by;
+use gb_action::actions::Actions;
+use gb_action::table::ActionTable;
+use gb_core::path::TaskPath;
+use gb_core::text::Texts;
+use gb_folder::folder::Folder;
+use gb_history::record::Record;
+use gb_label::prepare::Seen;
+use gb_plan::task::TaskDeclaration;
+use gb_report::fault::Fault;
+use gb_report::report::{Options, TaskReport};
+use std::alloc::Global;
+
+/// Takes the turn of a task that may go on from what its last run left, whose record this is: on its inputs
+/// and outputs as they were read. The path is the task's own, so that a report needs no memory.
+pub fn take_turn_by_changes<A: Actions, F: Folder>(
+    alloc: Global,
+    folder: &mut F,
+    task: &TaskDeclaration,
+    path: TaskPath,
+    table: &ActionTable<A::Stored>,
+    options: Options,
+    last: &Record,
+    seen: Seen,
+) -> TaskReport
+    requires ready { IsReady A.meanings table.now task.now }
+    requires able { AllByRecursion (CanGoOn A.meanings table.now) task.now.actions }
+    requires in_order { HasNamesInOrder task.now }
+    requires not_own { list_any (λ output. is_own output.place) task.now.outputs ≡ false }
+    requires apart { reads_output_of task.now task.now ≡ false }
+    requires outputs_apart { some_overlap (output_places task.now) ≡ false }
+    requires path { path ≡ task.now.path }
+    requires inputs { AreInputs task.now seen.inputs.items }
+    requires outputs { AreOutputs task.now seen.outputs.items }
+    ensures path { result.path ≡ task.now.path }
+    ensures has_actions { result.has_actions ≡ not (is_empty task.now.actions) }
+    ensures outcome { IsToldOf outcome_of result.outcome }
+    // Nothing is changed before its inputs were answered whole. Where inputs and outputs were on the way
+    // from a state of the folder, records are of these.
+    ensures asks { (first : _) → Asks F.failures F.may_leave F.asked no_change first folder.old
+        → AreInputsAnswered F.failures F.may_leave F.asked first folder.old task.now seen.inputs.items
+        → AreOutputsAnswered F.failures F.may_leave F.asked first folder.old task.now seen.outputs.items
+        → Asks F.failures F.may_leave F.asked (once (HasRead F.failures F.may_leave F.asked first task.now)
+        (in_turn_with task.now
+        (IsTextAnew F.failures F.may_leave F.asked first A.meanings table.now options task.now last.now)))
+        folder.old folder.new }
+    ensures blame { (place : List ℕ) → result.outcome ≡ Failed (Fault.Device place)
+        → HasRisen (F.failures folder.old) (F.failures folder.new) }
+    ensures blamed { (place : List ℕ) → result.outcome ≡ Failed (Fault.Device place)
+        → IsTrue (is_input_of task.now place || is_output_of task.now place) }
+    ensures changes { IsTrue F.tells
+        → ChangesOnly (is_of_turn task.now) (F.contents folder.old) (F.contents folder.new) }
+    // Where the task goes on from what its record says, this is its turn.
+    ensures turn { IsTrue F.tells → (kinds : Kinds) (registry_of : Registering)
+        (plan : Plan) (moment : Moment) → Agrees A.meanings table.now kinds
+        → TearsAreSeen IsText record_place (F.may_leave folder.old)
+        → ComesAt task.now true (F.contents folder.old) (F.failures folder.old) moment
+        → AreInputsSeen task.now (F.contents folder.old).files seen.inputs.items
+        → AreOutputsSeen task.now (F.contents folder.old).files seen.outputs.items
+        → IsToGoOn kinds options task.now moment.world last.now
+        → HasTurned (setting_with kinds registry_of (F.may_leave folder.old)) options plan task.now moment
+        result (F.contents folder.old) (F.failures folder.new) (F.contents folder.new) }
+{
+    let has_actions = !task.actions.is_empty();
+    let mut lines = Texts::new(alloc);
+    let ended = go_on::<A, F>(alloc, folder, task, table, options, last, seen, &mut lines);
+    TaskReport {
+        path,
+        outcome: outcome_of(ended),
+        has_actions,
+        lines,
+    }
+}
+
+/// Reads what is left, decides once more, and runs as that says.
+fn go_on<A: Actions, F: Folder>(
+    alloc: Global,
+    folder: &mut F,
+    task: &TaskDeclaration,
+    table: &ActionTable<A::Stored>,
+    options: Options,
+    last: &Record,
+    seen: Seen,
+    lines: &mut Texts,
+) -> Result<(), Fault>
+    requires ready { IsReady A.meanings table.now task.now }
+    requires able { AllByRecursion (CanGoOn A.meanings table.now) task.now.actions }
+    requires in_order { HasNamesInOrder task.now }
+    requires not_own { list_any (λ output. is_own output.place) task.now.outputs ≡ false }
+    requires apart { reads_output_of task.now task.now ≡ false }
+    requires outputs_apart { some_overlap (output_places task.now) ≡ false }
+    requires inputs { AreInputs task.now seen.inputs.items }
+    requires outputs { AreOutputs task.now seen.outputs.items }
+    requires no_lines { lines.old ≡ [] }
+    // Nothing is changed before its inputs were answered whole. Where inputs and outputs were on the way
+    // from a state of the folder, records are of these.
+    ensures asks { (first : _) → Asks F.failures F.may_leave F.asked no_change first folder.old
+        → AreInputsAnswered F.failures F.may_leave F.asked first folder.old task.now seen.inputs.items
+        → AreOutputsAnswered F.failures F.may_leave F.asked first folder.old task.now seen.outputs.items
+        → Asks F.failures F.may_leave F.asked (once (HasRead F.failures F.may_leave F.asked first task.now)
+        (in_turn_with task.now
+        (IsTextAnew F.failures F.may_leave F.asked first A.meanings table.now options task.now last.now)))
+        folder.old folder.new }
+    ensures blame { Blames result (F.failures folder.old) (F.failures folder.new) }
+    ensures blamed { BlamesOnly (λ place. is_input_of task.now place || is_output_of task.now place) result }
+    ensures changes { IsTrue F.tells
+        → ChangesOnly (is_of_turn task.now) (F.contents folder.old) (F.contents folder.new) }
+    ensures turn { IsTrue F.tells → (kinds : Kinds) (registry_of : Registering)
+        (plan : Plan) (moment : Moment) → Agrees A.meanings table.now kinds
+        → TearsAreSeen IsText record_place (F.may_leave folder.old)
+        → ComesAt task.now true (F.contents folder.old) (F.failures folder.old) moment
+        → AreInputsSeen task.now (F.contents folder.old).files seen.inputs.items
+        → AreOutputsSeen task.now (F.contents folder.old).files seen.outputs.items
+        → IsToGoOn kinds options task.now moment.world last.now
+        → HasTurned (setting_with kinds registry_of (F.may_leave folder.old)) options plan task.now moment
+        (report_of task.now result lines.new)
+        (F.contents folder.old) (F.failures folder.new) (F.contents folder.new) }
+{
+    match settle_anew(alloc, folder, task, options, last, seen)? {
+        Anew::ByChanges(inputs, outputs, changes) => {
+            go_by::<A, F>(alloc, folder, task, table, inputs, outputs, changes, lines)
+        }
+        Anew::InFull(inputs) => run_on::<A, F>(alloc, folder, task, table, inputs, true, lines),
+    }
+}

@@ -1,0 +1,126 @@
+//! What is settled of a task's turn before anything is changed.
+ghost use Rattle.std.specs.Prelude.{◌≡◌, ◌||◌, false, IsTrue, option_copied};
+ghost use Rattle.std.specs.List.{list_any};
+ghost use Rattle.gb_turn.specs.Case.{IsKnown};
+ghost use Rattle.gb_folder.specs.Calls.{Asks, no_change};
+ghost use Rattle.gb_folder.specs.Files.{is_empty, is_own};
+ghost use Rattle.gb_label.specs.Deciding.{HasNamesInOrder};
+ghost use Rattle.gb_meaning.specs.Kinds.{Kinds};
+ghost use Rattle.gb_meaning.specs.Label.{Moment, some_outcome};
+ghost use Rattle.gb_meaning.specs.TrueRecord.{outside};
+ghost use Rattle.gb_plan.specs.Graph.{Plan, needs_in};
+ghost use Rattle.gb_report.specs.Outcome.{is_executed};
+ghost use Rattle.gb_turn.specs.Current.{WasSettled};
+ghost use Rattle.gb_turn.specs.Settled.{AnswersAlone, IsOfTask, SettlesTurn, TellsAnswer, idle_outcome};
+ghost use Rattle.gb_turn.specs.Settled.{settled_as, silent_report};
+ghost use Rattle.gb_turn.specs.Turned.{Registering, setting_with};
+
+use crate::case_laws::{
+    idle_turns_are_turns, outside_is_enough, prepared_is_case, runs_are_of_case,
+};
+use gb_core::path::TaskPath;
+use gb_core::text::Texts;
+use gb_folder::folder::Folder;
+use gb_history::decide::Decision;
+use gb_history::record::Record;
+use gb_label::prepare::{Prepared, Seen, prepare};
+use gb_plan::task::TaskDeclaration;
+use gb_report::fault::Fault;
+use gb_report::report::{Options, Outcome, TaskReport};
+use std::alloc::Global;
+
+/// What is settled of a started task's turn before anything is changed.
+#[derive(Drop)]
+pub enum Settled {
+    /// All of it: there is nothing to do, or what the task has cannot be read.
+    Told(TaskReport),
+    /// The task has no source.
+    Sourceless(TaskPath),
+    /// It is to run, as was decided on what was read of it: by changes or in full.
+    Due(TaskPath, Decision, Seen),
+}
+
+/// Finds what a started task's turn comes to, and tells of it where nothing is to be done. Nothing is
+/// changed. `last` is the record that was read of the task, and `has_executed_need` says whether a task that
+/// it needs was executed in this build; the path is the task's own, so that a report needs no memory.
+pub fn settle<F: Folder>(
+    alloc: Global,
+    folder: &mut F,
+    task: &TaskDeclaration,
+    path: TaskPath,
+    options: Options,
+    last: Option<&Record>,
+    has_executed_need: bool,
+) -> Settled
+    requires in_order { HasNamesInOrder task.now }
+    requires not_own { list_any (λ output. is_own output.place) task.now.outputs ≡ false }
+    requires path { path ≡ task.now.path }
+    ensures asks { Asks F.failures F.may_leave F.asked no_change folder.old folder.new }
+    // Over any folder: what is told is of the task, what is skipped or has no actions is told so, and of what
+    // has actions and runs no other outcome is told than it may answer.
+    ensures of_task { IsOfTask task.now (F.failures folder.old) (F.failures folder.new) result }
+    ensures alone { AnswersAlone task.now.runs (is_empty task.now.actions) has_executed_need result }
+    ensures answer { TellsAnswer options task.now result }
+    // And it goes by what calls answered.
+    ensures answered { WasSettled F.failures F.may_leave F.asked folder.old folder.new options task.now
+        (option_copied last.entry) result }
+    ensures same { IsTrue F.tells → F.contents folder.new ≡ F.contents folder.old }
+    // What is told is the task's turn; what is not told is its case.
+    ensures settled { IsTrue F.tells → (kinds : Kinds) (registry_of : Registering) (plan : Plan)
+        (moment : Moment) → moment.world.folder ≡ outside (F.contents folder.old)
+        → moment.failures ≡ F.failures folder.old
+        → some_outcome is_executed moment (needs_in plan task.now) ≡ has_executed_need
+        → IsKnown kinds task.now moment.world (option_copied last.entry)
+        → SettlesTurn (setting_with kinds registry_of (F.may_leave folder.old)) options plan task.now moment
+        (F.contents folder.old) (F.failures folder.new) result }
+{
+    outside_is_enough();
+    prepared_is_case();
+    idle_turns_are_turns();
+    runs_are_of_case();
+    let prepared = prepare(alloc, folder, task, options, last);
+    settled_by(alloc, task, path, prepared, has_executed_need)
+}
+
+/// What is settled by what the turn was prepared for.
+fn settled_by(
+    alloc: Global,
+    task: &TaskDeclaration,
+    path: TaskPath,
+    prepared: Result<Prepared, Fault>,
+    has_executed_need: bool,
+) -> Settled
+    ensures { result ≡ settled_as task.now path prepared has_executed_need }
+{
+    match prepared {
+        Ok(Prepared::Skips) => told(alloc, task, path, Outcome::Skipped),
+        Ok(Prepared::HasNoActions) => told(alloc, task, path, idle_outcome(has_executed_need)),
+        Ok(Prepared::HasNoSource) => Settled::Sourceless(path),
+        Ok(Prepared::Decided(Decision::UpToDate, _)) => told(alloc, task, path, Outcome::UpToDate),
+        Ok(Prepared::Decided(decision, seen)) => Settled::Due(path, decision, seen),
+        Err(fault) => told(alloc, task, path, Outcome::Failed(fault)),
+    }
+}
+
+/// What a task without actions is told as.
+fn idle_outcome(has_executed_need: bool) -> Outcome
+    ensures { result ≡ idle_outcome has_executed_need }
+{
+    if has_executed_need {
+        Outcome::Executed
+    } else {
+        Outcome::UpToDate
+    }
+}
+
+/// The task's report without a line.
+fn told(alloc: Global, task: &TaskDeclaration, path: TaskPath, outcome: Outcome) -> Settled
+    ensures { result ≡ Settled.Told (silent_report task.now path outcome) }
+{
+    Settled::Told(TaskReport {
+        path,
+        outcome,
+        has_actions: !task.actions.is_empty(),
+        lines: Texts::new(alloc),
+    })
+}

@@ -1,0 +1,200 @@
+//! A started task's turn.
+ghost use Rattle.std.specs.Prelude.{◌≡◌, ◌≢◌, ◌||◌, ℕ, List, None, false, not, is_some, IsTrue};
+ghost use Rattle.std.specs.Prelude.{option_copied};
+ghost use Rattle.std.specs.List.{AllByRecursion, list_any};
+ghost use Rattle.gb_action.specs.Changes.{Changes};
+ghost use Rattle.gb_turn.specs.Case.{IsCaseFor, IsKnown};
+ghost use Rattle.gb_turn.specs.Turns.{IsRunFor, goes_by_changes};
+ghost use Rattle.gb_folder.specs.Calls.{Asks, no_change};
+ghost use Rattle.gb_folder.specs.Files.{HasRisen, is_empty, is_own};
+ghost use Rattle.gb_history.specs.Places.{record_place};
+ghost use Rattle.gb_run.specs.AskingChanges.{CanGoOn};
+ghost use Rattle.gb_label.specs.Answered.{WasDecided};
+ghost use Rattle.gb_label.specs.Deciding.{HasNamesInOrder};
+ghost use Rattle.gb_label.specs.Preparing.{IsReadFor, IsSeenFor};
+ghost use Rattle.gb_meaning.specs.Headline.{Agrees, TearsAreSeen};
+ghost use Rattle.gb_meaning.specs.Kinds.{Kinds};
+ghost use Rattle.gb_meaning.specs.Label.{Moment, early_case, some_outcome};
+ghost use Rattle.gb_plan.specs.Graph.{Plan, needs_in, reads_output_of, some_overlap};
+ghost use Rattle.gb_plan.specs.Ready.{IsReady};
+ghost use Rattle.gb_plan.specs.Task.{is_output_of, output_places};
+ghost use Rattle.gb_records.specs.Said.{IsText};
+ghost use Rattle.gb_report.specs.Outcome.{is_executed, is_started};
+ghost use Rattle.gb_report.specs.declared.report.Options.{Options};
+ghost use Rattle.gb_report.specs.declared.report.Outcome.TheVariants.{Failed};
+ghost use Rattle.gb_store.specs.Changes.{ChangesOnly};
+ghost use Rattle.gb_turn.specs.Asking.{HasRead, IsTextOf, in_turn_with, once};
+ghost use Rattle.gb_turn.specs.Current.{IsToldCurrent};
+ghost use Rattle.gb_turn.specs.Settled.{IsAnswer, IsAnsweredAlone};
+ghost use Rattle.gb_turn.specs.Turned.{ComesAt, HasTurned, IsToldOf, Registering, is_of_turn, outcome_of};
+ghost use Rattle.gb_turn.specs.Turned.{setting_with};
+ghost use Rattle.gb_label.specs.ReadingAnswered.{AreInputsAnswered};
+ghost use Rattle.gb_label.specs.Reading.{is_input_of};
+
+use crate::changes::take_turn_by_changes;
+use crate::full::take_full_turn;
+use crate::settle::{Settled, settle};
+use crate::sourceless::take_turn_without_source;
+use gb_action::actions::Actions;
+use gb_action::table::ActionTable;
+use gb_core::path::TaskPath;
+use gb_folder::folder::Folder;
+use gb_history::decide::Decision;
+use gb_history::record::Record;
+use gb_label::prepare::Seen;
+use gb_plan::task::TaskDeclaration;
+use gb_report::fault::Fault;
+use gb_report::report::{Options, TaskReport};
+use gb_run::asking_changes::has_one_writer;
+use std::alloc::Global;
+
+/// Takes the turn of a started task. `last` is the record that was read of it, and `has_executed_need` says
+/// whether a task that it needs was executed in this build; the path is the task's own, so that a report
+/// needs no memory.
+pub fn take_turn<A: Actions, F: Folder>(
+    alloc: Global,
+    folder: &mut F,
+    task: &TaskDeclaration,
+    path: TaskPath,
+    table: &ActionTable<A::Stored>,
+    options: Options,
+    last: Option<&Record>,
+    has_executed_need: bool,
+) -> TaskReport
+    requires ready { IsReady A.meanings table.now task.now }
+    requires in_order { HasNamesInOrder task.now }
+    requires not_own { list_any (λ output. is_own output.place) task.now.outputs ≡ false }
+    requires apart { reads_output_of task.now task.now ≡ false }
+    requires outputs_apart { some_overlap (output_places task.now) ≡ false }
+    requires path { path ≡ task.now.path }
+    ensures path { result.path ≡ task.now.path }
+    ensures has_actions { result.has_actions ≡ not (is_empty task.now.actions) }
+    // Over any folder: what may be changed, but nothing before its inputs were answered whole in this turn,
+    // or that it has no source; and that a record is of trees that were answered so.
+    ensures asks { Asks F.failures F.may_leave F.asked
+        (once (HasRead F.failures F.may_leave F.asked folder.old task.now) (in_turn_with task.now
+        (IsTextOf F.failures F.may_leave F.asked folder.old A.meanings table.now options task.now
+        (option_copied last.entry)))) folder.old folder.new }
+    // And what is told up to date was found so on what was answered in this turn.
+    ensures current { IsToldCurrent F.failures F.may_leave F.asked options task.now (option_copied last.entry)
+        folder.old folder.new result.outcome }
+    ensures blame { (place : List ℕ) → result.outcome ≡ Failed (Fault.Device place)
+        → HasRisen (F.failures folder.old) (F.failures folder.new) }
+    ensures blamed { (place : List ℕ) → result.outcome ≡ Failed (Fault.Device place)
+        → IsTrue (is_input_of task.now place || is_output_of task.now place) }
+    ensures started { IsTrue (is_started result.outcome) }
+    // Over any folder: what is skipped or has no actions is told so; what has actions and runs answers as it
+    // may, and prints nothing where its outcome leaves no choice.
+    ensures alone { IsAnsweredAlone task.now.runs (is_empty task.now.actions) has_executed_need
+        result.outcome }
+    ensures answer { IsAnswer options task.now result }
+    ensures changes { IsTrue F.tells
+        → ChangesOnly (is_of_turn task.now) (F.contents folder.old) (F.contents folder.new) }
+    // Where what was read of the task is known of it, this is its turn.
+    ensures turn { IsTrue F.tells → (kinds : Kinds) (registry_of : Registering) (plan : Plan)
+        (moment : Moment) → Agrees A.meanings table.now kinds
+        → TearsAreSeen IsText record_place (F.may_leave folder.old)
+        → ComesAt task.now (is_some (option_copied last.entry)) (F.contents folder.old)
+        (F.failures folder.old) moment
+        → some_outcome is_executed moment (needs_in plan task.now) ≡ has_executed_need
+        → IsKnown kinds task.now moment.world (option_copied last.entry)
+        → HasTurned (setting_with kinds registry_of (F.may_leave folder.old)) options plan task.now moment
+        result (F.contents folder.old) (F.failures folder.new) (F.contents folder.new) }
+{
+    match settle(alloc, folder, task, path, options, last, has_executed_need) {
+        Settled::Told(report) => report,
+        Settled::Sourceless(path) => {
+            take_turn_without_source(alloc, folder, task, path, last.is_some())
+        }
+        Settled::Due(path, decision, seen) => run::<A, F>(
+            alloc, folder, task, path, table, options, last, decision, seen,
+        ),
+    }
+}
+
+/// Runs a task that is due: from what its record says, where it goes on by changes, or else in full.
+fn run<A: Actions, F: Folder>(
+    alloc: Global,
+    folder: &mut F,
+    task: &TaskDeclaration,
+    path: TaskPath,
+    table: &ActionTable<A::Stored>,
+    options: Options,
+    last: Option<&Record>,
+    decision: Decision,
+    seen: Seen,
+) -> TaskReport
+    requires ready { IsReady A.meanings table.now task.now }
+    requires in_order { HasNamesInOrder task.now }
+    requires not_own { list_any (λ output. is_own output.place) task.now.outputs ≡ false }
+    requires apart { reads_output_of task.now task.now ≡ false }
+    requires outputs_apart { some_overlap (output_places task.now) ≡ false }
+    requires path { path ≡ task.now.path }
+    requires due { decision ≢ Decision.UpToDate }
+    requires read { IsReadFor task.now seen decision }
+    ensures path { result.path ≡ task.now.path }
+    ensures has_actions { result.has_actions ≡ not (is_empty task.now.actions) }
+    ensures outcome { IsToldOf outcome_of result.outcome }
+    ensures asks { (first : _) → Asks F.failures F.may_leave F.asked no_change first folder.old
+        → AreInputsAnswered F.failures F.may_leave F.asked first folder.old task.now seen.inputs.items
+        → WasDecided F.failures F.may_leave F.asked first folder.old options task.now
+        (option_copied last.entry) seen.inputs.items decision seen.outputs.items
+        → Asks F.failures F.may_leave F.asked (once (HasRead F.failures F.may_leave F.asked first task.now)
+        (in_turn_with task.now
+        (IsTextOf F.failures F.may_leave F.asked first A.meanings table.now options task.now
+        (option_copied last.entry)))) folder.old folder.new }
+    ensures blame { (place : List ℕ) → result.outcome ≡ Failed (Fault.Device place)
+        → HasRisen (F.failures folder.old) (F.failures folder.new) }
+    ensures blamed { (place : List ℕ) → result.outcome ≡ Failed (Fault.Device place)
+        → IsTrue (is_input_of task.now place || is_output_of task.now place) }
+    ensures changes { IsTrue F.tells
+        → ChangesOnly (is_of_turn task.now) (F.contents folder.old) (F.contents folder.new) }
+    ensures turn { IsTrue F.tells → (kinds : Kinds) (registry_of : Registering)
+        (plan : Plan) (moment : Moment) → Agrees A.meanings table.now kinds
+        → TearsAreSeen IsText record_place (F.may_leave folder.old)
+        → ComesAt task.now (is_some (option_copied last.entry)) (F.contents folder.old)
+        (F.failures folder.old) moment
+        → early_case task.now moment.world.folder ≡ None
+        → IsCaseFor kinds options task.now moment.world decision
+        → IsRunFor kinds options task.now moment.world decision
+        → IsSeenFor task.now (F.contents folder.old).files seen decision
+        → IsKnown kinds task.now moment.world (option_copied last.entry)
+        → HasTurned (setting_with kinds registry_of (F.may_leave folder.old)) options plan task.now moment
+        result (F.contents folder.old) (F.failures folder.new) (F.contents folder.new) }
+{
+    if let Some(record) = last {
+        if goes_by_changes::<A>(table, task, &decision) {
+            return take_turn_by_changes::<A, F>(
+                alloc, folder, task, path, table, options, record, seen,
+            );
+        }
+    }
+    take_full_turn::<A, F>(
+        alloc,
+        folder,
+        task,
+        path,
+        table,
+        seen.inputs,
+        last.is_some(),
+    )
+}
+
+/// Whether a run goes on by changes: where that was decided, and one action writes that can answer them.
+fn goes_by_changes<A: Actions>(
+    table: &ActionTable<A::Stored>,
+    task: &TaskDeclaration,
+    decision: &Decision,
+) -> bool
+    requires { IsReady A.meanings table.now task.now }
+    ensures agreed { (kinds : Kinds) → Agrees A.meanings table.now kinds
+        → goes_by_changes kinds task.now decision.now ≡ result }
+    ensures able { IsTrue result → AllByRecursion (CanGoOn A.meanings table.now) task.now.actions }
+    ensures decided { IsTrue result → (changes : List Changes)
+        × (decision.now ≡ Decision.Incremental changes) }
+{
+    match decision {
+        Decision::Incremental(_) => has_one_writer::<A>(table, task),
+        Decision::UpToDate | Decision::Full => false,
+    }
+}
