@@ -11,7 +11,7 @@ use Rattle.gb_core.specs.Lists.{byte_order}
 use Rattle.gb_core.specs.Name.{is_letter, is_name}
 use Rattle.gb_core.specs.Path.{is_project_path, is_task_path, project_of}
 use Rattle.gb_core.specs.Place.{is_beneath, joined}
-use Rattle.gb_exec.specs.Building.{IsBuildable}
+use Rattle.gb_turn.specs.Buildable.{IsBuildable}
 use Rattle.gb_folder.specs.Files.{Place, is_own}
 use Rattle.gb_history.specs.Ascending.{ascends, ascends_from}
 use Rattle.gb_build.specs.Asking.{AreBuildable}

@@ -2,17 +2,16 @@
 ghost use Rattle.std.specs.Prelude.{◌≡◌, ◌≤◌, [], ◌∷◌, IfOk, IsTrue, OnErr, length, map};
 ghost use Rattle.std.specs.List.{AllZip};
 ghost use Rattle.gb_folder.specs.Files.{SameTearing};
-ghost use Rattle.gb_history.specs.Places.{record_place};
 ghost use Rattle.gb_build.specs.Registering.{registers_in, setting_of};
 ghost use Rattle.gb_build.specs.Leading.{Leads};
 ghost use Rattle.gb_meaning.specs.Every.{PromiseHolds};
-ghost use Rattle.gb_meaning.specs.Headline.{Agrees, AllKeepElsewhere, EventKeeps, EventsHold, HaveHeardAll};
-ghost use Rattle.gb_meaning.specs.Headline.{HasFailed, TearsAreSeen, answer_of, times_blamed};
+ghost use Rattle.gb_meaning.specs.Headline.{AllKeepElsewhere, EventKeeps, EventsHold, HaveHeardAll};
+ghost use Rattle.gb_meaning.specs.Headline.{HasFailed, answer_of, times_blamed};
 ghost use Rattle.gb_meaning.specs.Headline.{times_blamed_in_all};
 ghost use Rattle.gb_meaning.specs.Kinds.{Kinds};
-ghost use Rattle.gb_records.specs.Said.{IsText};
 ghost use Rattle.gb_registry.specs.Tables.{tables_of};
 ghost use Rattle.gb_build.specs.EventAsked.{EventAsks, EventsAsk};
+ghost use Rattle.gb_turn.specs.Granted.{IsGranted};
 ghost use Rattle.gb_build.specs.Answers.{AnswerIsOutlined, edit_answer};
 
 use crate::edits::{lose, put, remove};
@@ -63,8 +62,7 @@ pub fn run_events<A: Actions, T: Transforms, F: Folder, L: TaskListener>(
         (F.contents folder.old) (F.contents folder.new)) }
     // It is a run of the events by its definition.
     ensures holds { IsTrue F.tells → IfOk result (λ answers. (kinds : Kinds)
-        → Agrees A.meanings tables.now.actions kinds
-        → TearsAreSeen IsText record_place (F.may_leave folder.old)
+        → IsGranted A.meanings tables.now.actions kinds (F.may_leave folder.old)
         → EventsHold
         (setting_of (tables_of T.meanings A.meanings tables.now) kinds (F.may_leave folder.old))
         (record { contents = F.contents folder.old; failures = F.failures folder.old })
@@ -73,8 +71,7 @@ pub fn run_events<A: Actions, T: Transforms, F: Folder, L: TaskListener>(
     // So each event is a plain step, and each build in which no task failed is from scratch, from whatever
     // true records.
     ensures promise { IsTrue F.tells → IfOk result (λ answers. (kinds : Kinds)
-        → Agrees A.meanings tables.now.actions kinds
-        → TearsAreSeen IsText record_place (F.may_leave folder.old)
+        → IsGranted A.meanings tables.now.actions kinds (F.may_leave folder.old)
         → PromiseHolds
         (setting_of (tables_of T.meanings A.meanings tables.now) kinds (F.may_leave folder.old))
         (record { contents = F.contents folder.old; failures = F.failures folder.old })
@@ -108,8 +105,7 @@ fn take<A: Actions, T: Transforms, F: Folder, L: TaskListener>(
         → EventKeeps (registers_in (tables_of T.meanings A.meanings tables.now)) event.now result
         (F.contents folder.old) (F.contents folder.new) }
     ensures leads { IsTrue F.tells → (kinds : Kinds)
-        → Agrees A.meanings tables.now.actions kinds
-        → TearsAreSeen IsText record_place (F.may_leave folder.old)
+        → IsGranted A.meanings tables.now.actions kinds (F.may_leave folder.old)
         → Leads (setting_of (tables_of T.meanings A.meanings tables.now) kinds (F.may_leave folder.old))
         (record { contents = F.contents folder.old; failures = F.failures folder.old })
         event.now result

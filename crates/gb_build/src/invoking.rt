@@ -2,19 +2,18 @@
 ghost use Rattle.std.specs.Prelude.{◌≡◌, ◌≤◌, ◌&&◌, ◌∷◌, [], ℕ, List, Ok, map, not, true, IfErr};
 ghost use Rattle.std.specs.Prelude.{IfOk, IsTrue, OnErr};
 ghost use Rattle.gb_folder.specs.Files.{SameTearing, is_own};
-ghost use Rattle.gb_history.specs.Places.{record_place};
 ghost use Rattle.gb_build.specs.Leading.{Leads};
 ghost use Rattle.gb_build.specs.Refusing.{IsNotBegun};
 ghost use Rattle.gb_meaning.specs.declared.events.Event.TheVariants as events;
 ghost use Rattle.gb_meaning.specs.Events.{IsNotBuilt, is_read_first};
 ghost use Rattle.gb_meaning.specs.Every.{PromiseHolds};
-ghost use Rattle.gb_meaning.specs.Headline.{Agrees, EventKeeps, HaveHeard, InvocationHolds, KeepsElsewhere};
-ghost use Rattle.gb_meaning.specs.Headline.{HasFailed, TearsAreSeen, answer_of, times_blamed};
+ghost use Rattle.gb_meaning.specs.Headline.{EventKeeps, HaveHeard, InvocationHolds, KeepsElsewhere};
+ghost use Rattle.gb_meaning.specs.Headline.{HasFailed, answer_of, times_blamed};
 ghost use Rattle.gb_meaning.specs.Kinds.{Kinds};
 ghost use Rattle.gb_meaning.specs.Outline.{IsOutlined};
 ghost use Rattle.gb_printer.specs.Printing.{Prints, parts_text};
-ghost use Rattle.gb_records.specs.Said.{IsText};
 ghost use Rattle.gb_registry.specs.Tables.{tables_of};
+ghost use Rattle.gb_turn.specs.Granted.{IsGranted};
 ghost use Rattle.gb_turn.specs.Turned.{setting_with};
 ghost use Rattle.gb_declare.specs.Registered.{registry_said};
 ghost use Rattle.gb_build.specs.InvocationAsked.{InvocationAsks};
@@ -88,16 +87,14 @@ pub fn invoke<A: Actions, T: Transforms, F: Folder, L: TaskListener, P: Printer>
         (answer_of result) (F.contents folder.old) (F.contents folder.new) }
     // It leads any run on, with what the scripts of the folder register.
     ensures leads { IsTrue F.tells → (kinds : Kinds)
-        → Agrees A.meanings tables.now.actions kinds
-        → TearsAreSeen IsText record_place (F.may_leave folder.old)
+        → IsGranted A.meanings tables.now.actions kinds (F.may_leave folder.old)
         → Leads (setting_of (tables_of T.meanings A.meanings tables.now) kinds (F.may_leave folder.old))
         (record { contents = F.contents folder.old; failures = F.failures folder.old })
         (events.Invoke invocation.now) (answer_of result)
         (record { contents = F.contents folder.new; failures = F.failures folder.new }) }
     // It is one invocation by its definition.
     ensures holds { IsTrue F.tells → (kinds : Kinds)
-        → Agrees A.meanings tables.now.actions kinds
-        → TearsAreSeen IsText record_place (F.may_leave folder.old)
+        → IsGranted A.meanings tables.now.actions kinds (F.may_leave folder.old)
         → InvocationHolds
         (setting_of (tables_of T.meanings A.meanings tables.now) kinds (F.may_leave folder.old))
         (record { contents = F.contents folder.old; failures = F.failures folder.old })
@@ -106,8 +103,7 @@ pub fn invoke<A: Actions, T: Transforms, F: Folder, L: TaskListener, P: Printer>
     // So it is a plain step, and a build in which no task failed is from scratch, from whatever true
     // records.
     ensures promise { IsTrue F.tells → (kinds : Kinds)
-        → Agrees A.meanings tables.now.actions kinds
-        → TearsAreSeen IsText record_place (F.may_leave folder.old)
+        → IsGranted A.meanings tables.now.actions kinds (F.may_leave folder.old)
         → PromiseHolds
         (setting_of (tables_of T.meanings A.meanings tables.now) kinds (F.may_leave folder.old))
         (record { contents = F.contents folder.old; failures = F.failures folder.old })
@@ -156,8 +152,7 @@ fn build_registered<A: Actions, T: Transforms, F: Folder, L: TaskListener, P: Pr
         (F.contents folder.old) (F.contents folder.new) }
     ensures leads { let tables = tables_of T.meanings A.meanings configured.now.tables.now in
         IsTrue F.tells → (kinds : Kinds)
-        → Agrees A.meanings configured.now.tables.now.actions kinds
-        → TearsAreSeen IsText record_place (F.may_leave folder.old)
+        → IsGranted A.meanings configured.now.tables.now.actions kinds (F.may_leave folder.old)
         → Leads (setting_with kinds (λ files given. Ok (registry_said tables configured.now.registry))
         (F.may_leave folder.old))
         (record { contents = F.contents folder.old; failures = F.failures folder.old })

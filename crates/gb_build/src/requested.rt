@@ -1,16 +1,15 @@
 //! One build of what is asked for.
 ghost use Rattle.std.specs.Prelude.{◌≡◌, ◌≤◌, Ok, map, true, IfErr, IfOk, IsTrue, OnErr};
 ghost use Rattle.gb_folder.specs.Files.{SameTearing};
-ghost use Rattle.gb_history.specs.Places.{record_place};
 ghost use Rattle.gb_meaning.specs.declared.events.Event.TheVariants as events;
-ghost use Rattle.gb_meaning.specs.Headline.{Agrees, HasFailed, HaveHeard, InvocationHolds, TearsAreSeen};
+ghost use Rattle.gb_meaning.specs.Headline.{HasFailed, HaveHeard, InvocationHolds};
 ghost use Rattle.gb_meaning.specs.Headline.{answer_of, is_of_build, times_blamed};
 ghost use Rattle.gb_meaning.specs.Kinds.{Kinds};
 ghost use Rattle.gb_meaning.specs.Outline.{IsOutlinedBy};
 ghost use Rattle.gb_meaning.specs.TrueRecord.{outside};
 ghost use Rattle.gb_printer.specs.Printing.{Prints, parts_text};
-ghost use Rattle.gb_records.specs.Said.{IsText};
 ghost use Rattle.gb_store.specs.Changes.{ChangesOnly};
+ghost use Rattle.gb_turn.specs.Granted.{IsGranted};
 ghost use Rattle.gb_turn.specs.Turned.{Registering, setting_with};
 ghost use Rattle.gb_build.specs.RequestAsked.{BuildAsks};
 ghost use Rattle.gb_build.specs.Asking.{AreBuildable, IsReportOf, NoneBlameDevice};
@@ -75,8 +74,7 @@ pub fn build_requested<A: Actions, F: Folder, L: TaskListener, P: Printer, Ts: T
         (F.contents folder.old) (F.contents folder.new) }
     // It leads any run on, wherever scripts say what is registered here.
     ensures leads { IsTrue F.tells → (kinds : Kinds) (registry_of : Registering)
-        → Agrees A.meanings table.now kinds
-        → TearsAreSeen IsText record_place (F.may_leave folder.old)
+        → IsGranted A.meanings table.now kinds (F.may_leave folder.old)
         → registry_of (outside (F.contents folder.old)).files invocation.now.properties
         ≡ Ok (Ts.registry tasks.old)
         → Leads (setting_with kinds registry_of (F.may_leave folder.old))
@@ -85,8 +83,7 @@ pub fn build_requested<A: Actions, F: Folder, L: TaskListener, P: Printer, Ts: T
         (record { contents = F.contents folder.new; failures = F.failures folder.new }) }
     // It is one invocation by its definition.
     ensures holds { IsTrue F.tells → (kinds : Kinds) (registry_of : Registering)
-        → Agrees A.meanings table.now kinds
-        → TearsAreSeen IsText record_place (F.may_leave folder.old)
+        → IsGranted A.meanings table.now kinds (F.may_leave folder.old)
         → registry_of (outside (F.contents folder.old)).files invocation.now.properties
         ≡ Ok (Ts.registry tasks.old)
         → InvocationHolds (setting_with kinds registry_of (F.may_leave folder.old))

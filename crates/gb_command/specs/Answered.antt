@@ -4,20 +4,19 @@ use Rattle.std.specs.Result.{result_map_both}
 use Rattle.gb_action.specs.Meanings.{Meanings}
 use Rattle.gb_folder.specs.Calls.{Asks, Call, no_change}
 use Rattle.gb_folder.specs.Files.{Tearing}
-use Rattle.gb_history.specs.Places.{record_place}
 use Rattle.gb_build.specs.InvocationAsked.{InvocationAsks}
 use Rattle.gb_build.specs.Registering.{registers_in, setting_of}
 use Rattle.gb_meaning.specs.Edits.{Shown}
-use Rattle.gb_meaning.specs.Headline.{Agrees, EventKeeps, InvocationHolds, TearsAreSeen, answer_of}
+use Rattle.gb_meaning.specs.Headline.{EventKeeps, InvocationHolds, answer_of}
 use Rattle.gb_meaning.specs.Every.{PromiseHolds}
 use Rattle.gb_meaning.specs.Kinds.{Kinds}
 use Rattle.gb_meaning.specs.declared.events.Event.TheVariants as events
 use Rattle.gb_meaning.specs.declared.events.Invocation.{Invocation}
 use Rattle.gb_plan.specs.Ready.{Rows}
-use Rattle.gb_records.specs.Said.{IsText}
 use Rattle.gb_registry.specs.Tables.{Tables}
 use Rattle.gb_report.specs.declared.fault.Fault.{Fault}
 use Rattle.gb_report.specs.declared.report.Report.{Report}
+use Rattle.gb_turn.specs.Granted.{IsGranted}
 use Rattle.gb_words.specs.Faults.{IsFirstFault}
 use Rattle.gb_words.specs.Words.{IsAsked, words_faults}
 
@@ -63,11 +62,9 @@ module _ {M F Z S A : Type 0} (tables : Tables M F Z S A) (may_leave : Tearing) 
       : Type 0 where
     pub keeps : EventKeeps (registers_in tables) (events.Invoke asked) (answer_of answer)
         old.contents new.contents
-    pub holds : (kinds : Kinds) → Agrees tables.shapes tables.kinds kinds
-        → TearsAreSeen IsText record_place may_leave
+    pub holds : (kinds : Kinds) → IsGranted tables.shapes tables.kinds kinds may_leave
         → InvocationHolds (setting_of tables kinds may_leave) old asked answer new
-    pub promise : (kinds : Kinds) → Agrees tables.shapes tables.kinds kinds
-        → TearsAreSeen IsText record_place may_leave
+    pub promise : (kinds : Kinds) → IsGranted tables.shapes tables.kinds kinds may_leave
         → PromiseHolds (setting_of tables kinds may_leave) old (events.Invoke asked ∷ [])
         (answer_of answer ∷ []) new
 

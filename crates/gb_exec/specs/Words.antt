@@ -1,6 +1,6 @@
 -- What the contract of `execute` speaks of.
 pub use Rattle.gb_exec.specs.Asking.{WereCurrent, in_build}
-pub use Rattle.gb_exec.specs.Building.{CanBuild, IsBuildable, is_of_turns}
+pub use Rattle.gb_exec.specs.Building.{CanBuild, is_of_turns}
 pub use Rattle.gb_exec.specs.Built.{AreWorth, HasBuilt}
 pub use Rattle.gb_exec.specs.Failing.{times_blamed}
 pub use Rattle.gb_exec.specs.Reports.{IsOf}
@@ -15,6 +15,8 @@ pub use Rattle.gb_meaning.specs.Outline.{Outlines}
 pub use Rattle.gb_printer.specs.Printing.{Prints, parts_text}
 pub use Rattle.gb_records.specs.Said.{IsText}
 pub use Rattle.gb_store.specs.Changes.{ChangesOnly}
+pub use Rattle.gb_turn.specs.Buildable.{IsBuildable}
+pub use Rattle.gb_turn.specs.Granted.{IsGranted}
 pub use Rattle.gb_turn.specs.Turned.{Registering, setting_with}
 pub use Rattle.gb_report.specs.declared.report.Heard.{Heard}
 pub use Rattle.gb_report.specs.declared.report.Options.{Options}

@@ -3,15 +3,14 @@ ghost use Rattle.std.specs.Prelude.{◌≡◌, Bool, List, true, not, map, lengt
 ghost use Rattle.std.specs.List.{AllZip};
 ghost use Rattle.gb_folder.specs.Calls.{Asks};
 ghost use Rattle.gb_folder.specs.Files.{Bytes};
-ghost use Rattle.gb_history.specs.Places.{record_place};
-ghost use Rattle.gb_meaning.specs.Headline.{Agrees, HasFailed, HaveHeard, TearsAreSeen};
+ghost use Rattle.gb_meaning.specs.Headline.{HasFailed, HaveHeard};
 ghost use Rattle.gb_meaning.specs.Kinds.{Kinds};
 ghost use Rattle.gb_meaning.specs.Memory.{Memory};
 ghost use Rattle.gb_meaning.specs.Outline.{Outlines};
 ghost use Rattle.gb_plan.specs.Graph.{order};
 ghost use Rattle.gb_printer.specs.Printing.{Prints, parts_text};
-ghost use Rattle.gb_records.specs.Said.{IsText};
 ghost use Rattle.gb_store.specs.Changes.{ChangesOnly};
+ghost use Rattle.gb_turn.specs.Granted.{IsGranted};
 ghost use Rattle.gb_turn.specs.Turned.{Registering, setting_with};
 ghost use Rattle.gb_exec.specs.Asking.{WereCurrent, in_build};
 ghost use Rattle.gb_exec.specs.Building.{CanBuild, is_of_turns};
@@ -79,8 +78,7 @@ pub fn execute<A: Actions, F: Folder, L: TaskListener, P: Printer>(
     // From records that are worth it, this is a build of the plan, and the records of what is remembered
     // stand after it.
     ensures build { IsTrue F.tells → IfOk result (λ report. (kinds : Kinds) (registry_of : Registering)
-        (remembered : Memory) (clear : Bool) (seen : List Bytes) → Agrees A.meanings table.now kinds
-        → TearsAreSeen IsText record_place (F.may_leave folder.old)
+        (remembered : Memory) (clear : Bool) (seen : List Bytes) → IsGranted A.meanings table.now kinds (F.may_leave folder.old)
         → (IsTrue clear → AreWorth kinds plan.now records.now seen (F.contents folder.old) remembered)
         → HasBuilt (setting_with kinds registry_of (F.may_leave folder.old)) clear seen options plan.now
         (record {

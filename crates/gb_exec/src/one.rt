@@ -1,19 +1,17 @@
 //! The turn of one task of a plan.
 ghost use Rattle.std.specs.Prelude.{◌≡◌, ◌<◌, [], ◌∷◌, ℕ, List, None, Some, false, map, length};
 ghost use Rattle.std.specs.Prelude.{slice_get, slice_index_or, IsTrue};
+ghost use Rattle.gb_turn.specs.Granted.{IsGranted};
 ghost use Rattle.gb_turn.specs.Case.{IsKnown};
 ghost use Rattle.gb_folder.specs.Calls.{Asks, changes_at};
 ghost use Rattle.gb_folder.specs.Files.{HasRisen};
-ghost use Rattle.gb_history.specs.Places.{record_place};
 ghost use Rattle.gb_exec.specs.Telling.{AllTold};
-ghost use Rattle.gb_meaning.specs.Headline.{Agrees, TearsAreSeen};
 ghost use Rattle.gb_meaning.specs.Kinds.{Kinds};
 ghost use Rattle.gb_meaning.specs.Label.{Moment};
 ghost use Rattle.gb_meaning.specs.Outline.{IsOutline};
 ghost use Rattle.gb_meaning.specs.TrueRecord.{outside};
 ghost use Rattle.gb_meaning.specs.Turn.{heard_of};
 ghost use Rattle.gb_plan.specs.declared.plan.Planned.{Planned};
-ghost use Rattle.gb_records.specs.Said.{IsText};
 ghost use Rattle.gb_records.specs.Standing.{Standing};
 ghost use Rattle.gb_report.specs.declared.report.Outcome.TheVariants.{Failed, NotRun};
 ghost use Rattle.gb_exec.specs.Plans.{AreEndings, AreOfPlan};
@@ -115,8 +113,7 @@ pub(crate) fn take_one<A: Actions, F: Folder, L: TaskListener>(
     // Where what was read of the task is known of it, this is its turn.
     ensures turn { IsTrue F.tells → (kinds : Kinds) (registry_of : Registering) (moment : Moment)
         (planned : Planned) → slice_get build.now.tasks.now index ≡ Some planned
-        → Agrees A.meanings build.now.table.now kinds
-        → TearsAreSeen IsText record_place (F.may_leave folder.old)
+        → IsGranted A.meanings build.now.table.now kinds (F.may_leave folder.old)
         → moment.world.folder ≡ outside (F.contents folder.old)
         → moment.failures ≡ F.failures folder.old
         → Standing (F.contents folder.old).files moment.world.memory

@@ -5,21 +5,20 @@ ghost use Rattle.std.specs.List.{AllZip, flat_map};
 ghost use Rattle.std.specs.Vec.{vec_capacity};
 ghost use Rattle.gb_folder.specs.Calls.{Asks};
 ghost use Rattle.gb_folder.specs.Files.{Bytes};
-ghost use Rattle.gb_history.specs.Places.{record_place};
 ghost use Rattle.gb_exec.specs.Telling.{AllTold};
 ghost use Rattle.gb_meaning.specs.Events.{State};
-ghost use Rattle.gb_meaning.specs.Headline.{Agrees, HasFailed, TearsAreSeen};
+ghost use Rattle.gb_meaning.specs.Headline.{HasFailed};
 ghost use Rattle.gb_meaning.specs.Kinds.{Kinds};
 ghost use Rattle.gb_meaning.specs.Memory.{Memory};
 ghost use Rattle.gb_meaning.specs.Outline.{AreOutlines};
 ghost use Rattle.gb_meaning.specs.Turn.{heard_of};
 ghost use Rattle.gb_plan.specs.Graph.{order};
 ghost use Rattle.gb_printer.specs.Printing.{Prints};
-ghost use Rattle.gb_records.specs.Said.{IsText};
 ghost use Rattle.gb_report.specs.Report.{task_text};
 ghost use Rattle.gb_exec.specs.Plans.{AreOfPlan};
 ghost use Rattle.gb_exec.specs.declared.starts.Ending.TheVariants.{ToCome};
 ghost use Rattle.gb_store.specs.Changes.{ChangesOnly};
+ghost use Rattle.gb_turn.specs.Granted.{IsGranted};
 ghost use Rattle.gb_turn.specs.Turned.{Registering, setting_with};
 ghost use Rattle.gb_exec.specs.Asking.{WereCurrent, in_turns};
 ghost use Rattle.gb_exec.specs.Building.{CanBuild, is_of_turns};
@@ -90,8 +89,7 @@ pub(crate) fn take_turns<A: Actions, F: Folder, L: TaskListener, P: Printer>(
     ensures changes { IsTrue F.tells
         → ChangesOnly (is_of_turns build.now.tasks.now) (F.contents folder.old) (F.contents folder.new) }
     ensures build { IsTrue F.tells → (kinds : Kinds) (registry_of : Registering) (remembered : Memory)
-        (clear : Bool) (seen : List Bytes) → Agrees A.meanings build.now.table.now kinds
-        → TearsAreSeen IsText record_place (F.may_leave folder.old)
+        (clear : Bool) (seen : List Bytes) → IsGranted A.meanings build.now.table.now kinds (F.may_leave folder.old)
         → (IsTrue clear → AreWorth kinds build.now.tasks.now build.now.records.now seen
         (F.contents folder.old) remembered)
         → HasBuilt (setting_with kinds registry_of (F.may_leave folder.old)) clear seen build.now.options

@@ -2,6 +2,7 @@
 use Rattle.std.specs.Prelude.{◌≡◌, false, List, [], ◌∷◌, Ok, map, if◌then◌else◌}
 use Rattle.std.proofs.Common.{refl, sym, ap, ap₂, subst, ◌∙◌}
 use Rattle.gb_action.specs.Files.{Trees}
+use Rattle.gb_action.specs.Meanings.{Meanings}
 use Rattle.gb_folder.specs.Files.{Files, SameTearing, Tearing, is_empty}
 use Rattle.gb_history.specs.Places.{record_place}
 use Rattle.gb_history.specs.Remembered.{Prints, Remembered}
@@ -10,17 +11,24 @@ use Rattle.gb_meaning.specs.Headline.{TearsAreSeen}
 use Rattle.gb_meaning.specs.Kinds.{Kinds}
 use Rattle.gb_meaning.specs.Made.{made_of}
 use Rattle.gb_meaning.specs.Memory.{Entry, Memory, remember}
+use Rattle.gb_plan.specs.Ready.{Rows}
 use Rattle.gb_plan.specs.declared.task.Output.{Output}
 use Rattle.gb_plan.specs.declared.task.TaskDeclaration.{TaskDeclaration as Task}
 use Rattle.gb_records.specs.Said.{IsText}
 use Rattle.gb_records.specs.Standing.{Standing}
 use Rattle.gb_run.specs.Digests.{prints_at}
 use Rattle.gb_label.specs.Reading.{digests_in, recorded_of, records_with}
+use Rattle.gb_turn.specs.Granted.{IsGranted}
 use Rattle.gb_turn.specs.Keeping.{IsRecordOf, run_now}
 
 -- tears that are seen before a call are seen after it
 pub seen_later : (first second : Tearing) → SameTearing first second → TearsAreSeen IsText record_place first → TearsAreSeen IsText record_place second
 seen_later first second same seen path old new left good of_tool may = seen path old new left good of_tool ((same (record_place path) old new left).0 may)
+
+-- and what is granted before it is granted after it
+pub granted_later : {S : Type 0} {meanings : Meanings S} {rows : Rows S} {kinds : Kinds} (first second : Tearing) → SameTearing first second
+    → IsGranted meanings rows kinds first → IsGranted meanings rows kinds second
+granted_later first second same given = record { agrees = given.agrees; tears = seen_later first second same given.tears }
 
 -- the digests of what stands make the records of it
 records_at : (files : Files) (outputs : List Output) → records_with outputs (prints_at outputs files) ≡ map (recorded_of files) outputs

@@ -1,21 +1,18 @@
 //! The turn of a task that may go on from what its last run left.
 ghost use Rattle.std.specs.Prelude.{◌≡◌, ◌||◌, [], ℕ, List, false, true, not, IsTrue};
-ghost use Rattle.std.specs.List.{AllByRecursion, list_any};
+ghost use Rattle.std.specs.List.{AllByRecursion};
 ghost use Rattle.gb_folder.specs.Calls.{Asks, no_change};
-ghost use Rattle.gb_folder.specs.Files.{HasRisen, is_empty, is_own};
-ghost use Rattle.gb_history.specs.Places.{record_place};
+ghost use Rattle.gb_folder.specs.Files.{HasRisen, is_empty};
 ghost use Rattle.gb_run.specs.AskingChanges.{CanGoOn};
-ghost use Rattle.gb_label.specs.Deciding.{HasNamesInOrder};
-ghost use Rattle.gb_meaning.specs.Headline.{Agrees, TearsAreSeen};
 ghost use Rattle.gb_meaning.specs.Kinds.{Kinds};
 ghost use Rattle.gb_meaning.specs.Label.{Moment};
 ghost use Rattle.gb_plan.specs.Graph.{Plan, reads_output_of, some_overlap};
-ghost use Rattle.gb_plan.specs.Ready.{IsReady};
 ghost use Rattle.gb_plan.specs.Task.{is_output_of, output_places};
-ghost use Rattle.gb_records.specs.Said.{IsText};
 ghost use Rattle.gb_report.specs.declared.report.Outcome.TheVariants.{Failed};
 ghost use Rattle.gb_store.specs.Changes.{ChangesOnly};
 ghost use Rattle.gb_store.specs.Faults.{Blames, BlamesOnly};
+ghost use Rattle.gb_turn.specs.Granted.{IsGranted};
+ghost use Rattle.gb_turn.specs.Buildable.{IsBuildable};
 ghost use Rattle.gb_turn.specs.Asking.{HasRead, IsTextAnew, in_turn_with, once};
 ghost use Rattle.gb_turn.specs.Turned.{ComesAt, HasTurned, IsToGoOn, IsToldOf, Registering, is_of_turn};
 ghost use Rattle.gb_turn.specs.Turned.{outcome_of, report_of, setting_with};
@@ -49,10 +46,8 @@ pub fn take_turn_by_changes<A: Actions, F: Folder>(
     last: &Record,
     seen: Seen,
 ) -> TaskReport
-    requires ready { IsReady A.meanings table.now task.now }
+    requires buildable { IsBuildable A.meanings table.now task.now }
     requires able { AllByRecursion (CanGoOn A.meanings table.now) task.now.actions }
-    requires in_order { HasNamesInOrder task.now }
-    requires not_own { list_any (λ output. is_own output.place) task.now.outputs ≡ false }
     requires apart { reads_output_of task.now task.now ≡ false }
     requires outputs_apart { some_overlap (output_places task.now) ≡ false }
     requires path { path ≡ task.now.path }
@@ -78,8 +73,7 @@ pub fn take_turn_by_changes<A: Actions, F: Folder>(
         → ChangesOnly (is_of_turn task.now) (F.contents folder.old) (F.contents folder.new) }
     // Where the task goes on from what its record says, this is its turn.
     ensures turn { IsTrue F.tells → (kinds : Kinds) (registry_of : Registering)
-        (plan : Plan) (moment : Moment) → Agrees A.meanings table.now kinds
-        → TearsAreSeen IsText record_place (F.may_leave folder.old)
+        (plan : Plan) (moment : Moment) → IsGranted A.meanings table.now kinds (F.may_leave folder.old)
         → ComesAt task.now true (F.contents folder.old) (F.failures folder.old) moment
         → AreInputsSeen task.now (F.contents folder.old).files seen.inputs.items
         → AreOutputsSeen task.now (F.contents folder.old).files seen.outputs.items
@@ -109,10 +103,8 @@ fn go_on<A: Actions, F: Folder>(
     seen: Seen,
     lines: &mut Texts,
 ) -> Result<(), Fault>
-    requires ready { IsReady A.meanings table.now task.now }
+    requires buildable { IsBuildable A.meanings table.now task.now }
     requires able { AllByRecursion (CanGoOn A.meanings table.now) task.now.actions }
-    requires in_order { HasNamesInOrder task.now }
-    requires not_own { list_any (λ output. is_own output.place) task.now.outputs ≡ false }
     requires apart { reads_output_of task.now task.now ≡ false }
     requires outputs_apart { some_overlap (output_places task.now) ≡ false }
     requires inputs { AreInputs task.now seen.inputs.items }
@@ -132,8 +124,7 @@ fn go_on<A: Actions, F: Folder>(
     ensures changes { IsTrue F.tells
         → ChangesOnly (is_of_turn task.now) (F.contents folder.old) (F.contents folder.new) }
     ensures turn { IsTrue F.tells → (kinds : Kinds) (registry_of : Registering)
-        (plan : Plan) (moment : Moment) → Agrees A.meanings table.now kinds
-        → TearsAreSeen IsText record_place (F.may_leave folder.old)
+        (plan : Plan) (moment : Moment) → IsGranted A.meanings table.now kinds (F.may_leave folder.old)
         → ComesAt task.now true (F.contents folder.old) (F.failures folder.old) moment
         → AreInputsSeen task.now (F.contents folder.old).files seen.inputs.items
         → AreOutputsSeen task.now (F.contents folder.old).files seen.outputs.items

@@ -1,23 +1,22 @@
 //! A full run of a task.
 ghost use Rattle.std.specs.Prelude.{◌≡◌, ◌||◌, [], ℕ, List, false, not, map, IsTrue, IfOk, IfErr, OnOk};
-ghost use Rattle.std.specs.List.{list_any};
 ghost use Rattle.gb_folder.specs.Calls.{Asks, changes_at, no_change};
-ghost use Rattle.gb_folder.specs.Files.{HasRisen, is_empty, is_own};
-ghost use Rattle.gb_history.specs.Places.{record_place};
+ghost use Rattle.gb_folder.specs.Files.{HasRisen, is_empty};
 ghost use Rattle.gb_label.specs.Deciding.{HasNamesInOrder};
-ghost use Rattle.gb_meaning.specs.Headline.{Agrees, TearsAreSeen};
+ghost use Rattle.gb_meaning.specs.Headline.{Agrees};
 ghost use Rattle.gb_meaning.specs.Kinds.{Kinds};
 ghost use Rattle.gb_meaning.specs.Label.{Moment};
 ghost use Rattle.gb_plan.specs.Graph.{Plan, reads_output_of};
 ghost use Rattle.gb_plan.specs.Ready.{IsReady};
 ghost use Rattle.gb_meaning.specs.Tree.{trees_of};
 ghost use Rattle.gb_plan.specs.Task.{is_output_of, seen_files};
-ghost use Rattle.gb_records.specs.Said.{IsText};
 ghost use Rattle.gb_report.specs.declared.report.Options.{Options};
 ghost use Rattle.gb_report.specs.declared.report.Outcome.TheVariants.{Failed};
 ghost use Rattle.gb_run.specs.Course.{EndsWell, Fails, course_of};
 ghost use Rattle.gb_store.specs.Changes.{ChangesOnly};
 ghost use Rattle.gb_store.specs.Faults.{Blames, BlamesOnly};
+ghost use Rattle.gb_turn.specs.Granted.{IsGranted};
+ghost use Rattle.gb_turn.specs.Buildable.{IsBuildable};
 ghost use Rattle.gb_turn.specs.Asking.{HasRead, IsInFull, IsTextIn, in_turn_with, once};
 ghost use Rattle.gb_turn.specs.Keeping.{IsRecordOf};
 ghost use Rattle.gb_turn.specs.Turned.{ComesAt, HasTurned, IsDue, IsToldOf, Registering, is_of_turn};
@@ -58,9 +57,7 @@ pub fn take_full_turn<A: Actions, F: Folder>(
     inputs: Vec<Reading>,
     was_read: bool,
 ) -> TaskReport
-    requires ready { IsReady A.meanings table.now task.now }
-    requires in_order { HasNamesInOrder task.now }
-    requires not_own { list_any (λ output. is_own output.place) task.now.outputs ≡ false }
+    requires buildable { IsBuildable A.meanings table.now task.now }
     requires apart { reads_output_of task.now task.now ≡ false }
     requires path { path ≡ task.now.path }
     requires inputs { AreInputs task.now inputs.items }
@@ -83,8 +80,7 @@ pub fn take_full_turn<A: Actions, F: Folder>(
         → ChangesOnly (is_of_turn task.now) (F.contents folder.old) (F.contents folder.new) }
     // Where the full run is due, this is the task's turn.
     ensures turn { IsTrue F.tells → (kinds : Kinds) (registry_of : Registering) (options : Options)
-        (plan : Plan) (moment : Moment) → Agrees A.meanings table.now kinds
-        → TearsAreSeen IsText record_place (F.may_leave folder.old)
+        (plan : Plan) (moment : Moment) → IsGranted A.meanings table.now kinds (F.may_leave folder.old)
         → ComesAt task.now was_read (F.contents folder.old) (F.failures folder.old) moment
         → AreInputsSeen task.now (F.contents folder.old).files inputs.items
         → IsDue kinds options task.now moment.world
@@ -122,9 +118,7 @@ fn run_with_record<A: Actions, F: Folder>(
     was_read: bool,
     lines: &mut Texts,
 ) -> Result<(), Fault>
-    requires ready { IsReady A.meanings table.now task.now }
-    requires in_order { HasNamesInOrder task.now }
-    requires not_own { list_any (λ output. is_own output.place) task.now.outputs ≡ false }
+    requires buildable { IsBuildable A.meanings table.now task.now }
     requires apart { reads_output_of task.now task.now ≡ false }
     requires inputs { AreInputs task.now inputs.items }
     requires no_lines { lines.old ≡ [] }
@@ -141,8 +135,7 @@ fn run_with_record<A: Actions, F: Folder>(
     ensures changes { IsTrue F.tells
         → ChangesOnly (is_of_turn task.now) (F.contents folder.old) (F.contents folder.new) }
     ensures turn { IsTrue F.tells → (kinds : Kinds) (registry_of : Registering) (options : Options)
-        (plan : Plan) (moment : Moment) → Agrees A.meanings table.now kinds
-        → TearsAreSeen IsText record_place (F.may_leave folder.old)
+        (plan : Plan) (moment : Moment) → IsGranted A.meanings table.now kinds (F.may_leave folder.old)
         → ComesAt task.now was_read (F.contents folder.old) (F.failures folder.old) moment
         → AreInputsSeen task.now (F.contents folder.old).files inputs.items
         → IsDue kinds options task.now moment.world
@@ -164,9 +157,7 @@ pub(crate) fn run_on<A: Actions, F: Folder>(
     was_read: bool,
     lines: &mut Texts,
 ) -> Result<(), Fault>
-    requires ready { IsReady A.meanings table.now task.now }
-    requires in_order { HasNamesInOrder task.now }
-    requires not_own { list_any (λ output. is_own output.place) task.now.outputs ≡ false }
+    requires buildable { IsBuildable A.meanings table.now task.now }
     requires apart { reads_output_of task.now task.now ≡ false }
     requires named { map (λ tree. tree.0) inputs.trees ≡ seen_files task.now.files }
     requires digests { inputs.prints.items ≡ digests_in inputs.trees }
@@ -179,8 +170,7 @@ pub(crate) fn run_on<A: Actions, F: Folder>(
     ensures changes { IsTrue F.tells
         → ChangesOnly (is_of_turn task.now) (F.contents folder.old) (F.contents folder.new) }
     ensures turn { IsTrue F.tells → (kinds : Kinds) (registry_of : Registering) (options : Options)
-        (plan : Plan) (moment : Moment) → Agrees A.meanings table.now kinds
-        → TearsAreSeen IsText record_place (F.may_leave folder.old)
+        (plan : Plan) (moment : Moment) → IsGranted A.meanings table.now kinds (F.may_leave folder.old)
         → ComesAt task.now was_read (F.contents folder.old) (F.failures folder.old) moment
         → inputs.trees ≡ trees_of task.now (F.contents folder.old).files
         → IsDue kinds options task.now moment.world

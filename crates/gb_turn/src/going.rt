@@ -1,14 +1,13 @@
 //! A run of a task by changes that were decided on what it works on.
 ghost use Rattle.std.specs.Prelude.{◌≡◌, [], ℕ, List, false, true, map, IsTrue, IfOk, IfErr, OnOk};
-ghost use Rattle.std.specs.List.{AllByRecursion, list_any};
+ghost use Rattle.std.specs.List.{AllByRecursion};
 ghost use Rattle.gb_action.specs.Files.{Trees};
 ghost use Rattle.gb_folder.specs.Calls.{Asks, changes_at};
-ghost use Rattle.gb_folder.specs.Files.{Files, IsFolder, are_placed, is_own};
-ghost use Rattle.gb_history.specs.Places.{record_place};
+ghost use Rattle.gb_folder.specs.Files.{Files, IsFolder, are_placed};
 ghost use Rattle.gb_run.specs.AskingChanges.{CanGoOn, GoesOn};
 ghost use Rattle.gb_run.specs.Changing.{Fails};
 ghost use Rattle.gb_label.specs.Deciding.{HasNamesInOrder};
-ghost use Rattle.gb_meaning.specs.Headline.{Agrees, TearsAreSeen};
+ghost use Rattle.gb_meaning.specs.Headline.{Agrees};
 ghost use Rattle.gb_meaning.specs.Kinds.{Kinds};
 ghost use Rattle.gb_meaning.specs.Label.{Moment};
 ghost use Rattle.gb_meaning.specs.Made.{rest_of};
@@ -16,11 +15,12 @@ ghost use Rattle.gb_meaning.specs.Tree.{trees_of};
 ghost use Rattle.gb_plan.specs.Graph.{Plan, reads_output_of, some_overlap};
 ghost use Rattle.gb_plan.specs.Ready.{IsReady};
 ghost use Rattle.gb_plan.specs.Task.{is_output_of, output_places, seen_files, seen_outputs};
-ghost use Rattle.gb_records.specs.Said.{IsText};
 ghost use Rattle.gb_report.specs.declared.report.Options.{Options};
 ghost use Rattle.gb_run.specs.Course.{EndsWell, course_of};
 ghost use Rattle.gb_store.specs.Changes.{ChangesOnly};
 ghost use Rattle.gb_store.specs.Faults.{Blames, BlamesOnly};
+ghost use Rattle.gb_turn.specs.Granted.{IsGranted};
+ghost use Rattle.gb_turn.specs.Buildable.{IsBuildable};
 ghost use Rattle.gb_turn.specs.Asking.{IsTextBy, in_turn_with};
 ghost use Rattle.gb_turn.specs.Keeping.{IsRecordOf};
 ghost use Rattle.gb_turn.specs.Turned.{ComesAt, HasTurned, IsDueByChanges, Registering, is_of_turn};
@@ -54,10 +54,8 @@ pub(crate) fn go_by<A: Actions, F: Folder>(
     changes: ChangeLists,
     lines: &mut Texts,
 ) -> Result<(), Fault>
-    requires ready { IsReady A.meanings table.now task.now }
+    requires buildable { IsBuildable A.meanings table.now task.now }
     requires able { AllByRecursion (CanGoOn A.meanings table.now) task.now.actions }
-    requires in_order { HasNamesInOrder task.now }
-    requires not_own { list_any (λ output. is_own output.place) task.now.outputs ≡ false }
     requires apart { reads_output_of task.now task.now ≡ false }
     requires outputs_apart { some_overlap (output_places task.now) ≡ false }
     requires named { map (λ tree. tree.0) inputs.trees ≡ seen_files task.now.files }
@@ -75,8 +73,7 @@ pub(crate) fn go_by<A: Actions, F: Folder>(
         → ChangesOnly (is_of_turn task.now) (F.contents folder.old) (F.contents folder.new) }
     // Where the run by these changes is due, this is the task's turn.
     ensures turn { IsTrue F.tells → (kinds : Kinds) (registry_of : Registering) (options : Options)
-        (plan : Plan) (moment : Moment) → Agrees A.meanings table.now kinds
-        → TearsAreSeen IsText record_place (F.may_leave folder.old)
+        (plan : Plan) (moment : Moment) → IsGranted A.meanings table.now kinds (F.may_leave folder.old)
         → ComesAt task.now true (F.contents folder.old) (F.failures folder.old) moment
         → inputs.trees ≡ trees_of task.now (F.contents folder.old).files
         → outputs.seen ≡ map (seen_of (F.contents folder.old).files) task.now.outputs

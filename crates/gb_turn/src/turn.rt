@@ -1,24 +1,23 @@
 //! A started task's turn.
 ghost use Rattle.std.specs.Prelude.{◌≡◌, ◌≢◌, ◌||◌, ℕ, List, None, false, not, is_some, IsTrue};
 ghost use Rattle.std.specs.Prelude.{option_copied};
-ghost use Rattle.std.specs.List.{AllByRecursion, list_any};
+ghost use Rattle.std.specs.List.{AllByRecursion};
 ghost use Rattle.gb_action.specs.Changes.{Changes};
+ghost use Rattle.gb_turn.specs.Granted.{IsGranted};
+ghost use Rattle.gb_turn.specs.Buildable.{IsBuildable};
 ghost use Rattle.gb_turn.specs.Case.{IsCaseFor, IsKnown};
 ghost use Rattle.gb_turn.specs.Turns.{IsRunFor, goes_by_changes};
 ghost use Rattle.gb_folder.specs.Calls.{Asks, no_change};
-ghost use Rattle.gb_folder.specs.Files.{HasRisen, is_empty, is_own};
-ghost use Rattle.gb_history.specs.Places.{record_place};
+ghost use Rattle.gb_folder.specs.Files.{HasRisen, is_empty};
 ghost use Rattle.gb_run.specs.AskingChanges.{CanGoOn};
 ghost use Rattle.gb_label.specs.Answered.{WasDecided};
-ghost use Rattle.gb_label.specs.Deciding.{HasNamesInOrder};
 ghost use Rattle.gb_label.specs.Preparing.{IsReadFor, IsSeenFor};
-ghost use Rattle.gb_meaning.specs.Headline.{Agrees, TearsAreSeen};
+ghost use Rattle.gb_meaning.specs.Headline.{Agrees};
 ghost use Rattle.gb_meaning.specs.Kinds.{Kinds};
 ghost use Rattle.gb_meaning.specs.Label.{Moment, early_case, some_outcome};
 ghost use Rattle.gb_plan.specs.Graph.{Plan, needs_in, reads_output_of, some_overlap};
 ghost use Rattle.gb_plan.specs.Ready.{IsReady};
 ghost use Rattle.gb_plan.specs.Task.{is_output_of, output_places};
-ghost use Rattle.gb_records.specs.Said.{IsText};
 ghost use Rattle.gb_report.specs.Outcome.{is_executed, is_started};
 ghost use Rattle.gb_report.specs.declared.report.Options.{Options};
 ghost use Rattle.gb_report.specs.declared.report.Outcome.TheVariants.{Failed};
@@ -61,9 +60,7 @@ pub fn take_turn<A: Actions, F: Folder>(
     last: Option<&Record>,
     has_executed_need: bool,
 ) -> TaskReport
-    requires ready { IsReady A.meanings table.now task.now }
-    requires in_order { HasNamesInOrder task.now }
-    requires not_own { list_any (λ output. is_own output.place) task.now.outputs ≡ false }
+    requires buildable { IsBuildable A.meanings table.now task.now }
     requires apart { reads_output_of task.now task.now ≡ false }
     requires outputs_apart { some_overlap (output_places task.now) ≡ false }
     requires path { path ≡ task.now.path }
@@ -92,8 +89,7 @@ pub fn take_turn<A: Actions, F: Folder>(
         → ChangesOnly (is_of_turn task.now) (F.contents folder.old) (F.contents folder.new) }
     // Where what was read of the task is known of it, this is its turn.
     ensures turn { IsTrue F.tells → (kinds : Kinds) (registry_of : Registering) (plan : Plan)
-        (moment : Moment) → Agrees A.meanings table.now kinds
-        → TearsAreSeen IsText record_place (F.may_leave folder.old)
+        (moment : Moment) → IsGranted A.meanings table.now kinds (F.may_leave folder.old)
         → ComesAt task.now (is_some (option_copied last.entry)) (F.contents folder.old)
         (F.failures folder.old) moment
         → some_outcome is_executed moment (needs_in plan task.now) ≡ has_executed_need
@@ -124,9 +120,7 @@ fn run<A: Actions, F: Folder>(
     decision: Decision,
     seen: Seen,
 ) -> TaskReport
-    requires ready { IsReady A.meanings table.now task.now }
-    requires in_order { HasNamesInOrder task.now }
-    requires not_own { list_any (λ output. is_own output.place) task.now.outputs ≡ false }
+    requires buildable { IsBuildable A.meanings table.now task.now }
     requires apart { reads_output_of task.now task.now ≡ false }
     requires outputs_apart { some_overlap (output_places task.now) ≡ false }
     requires path { path ≡ task.now.path }
@@ -150,8 +144,7 @@ fn run<A: Actions, F: Folder>(
     ensures changes { IsTrue F.tells
         → ChangesOnly (is_of_turn task.now) (F.contents folder.old) (F.contents folder.new) }
     ensures turn { IsTrue F.tells → (kinds : Kinds) (registry_of : Registering)
-        (plan : Plan) (moment : Moment) → Agrees A.meanings table.now kinds
-        → TearsAreSeen IsText record_place (F.may_leave folder.old)
+        (plan : Plan) (moment : Moment) → IsGranted A.meanings table.now kinds (F.may_leave folder.old)
         → ComesAt task.now (is_some (option_copied last.entry)) (F.contents folder.old)
         (F.failures folder.old) moment
         → early_case task.now moment.world.folder ≡ None

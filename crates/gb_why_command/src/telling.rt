@@ -1,7 +1,7 @@
 //! What is told of what is asked for.
 ghost use Rattle.std.specs.Prelude.{◌≡◌, false, IfErr, IfOk, IsTrue};
 ghost use Rattle.std.specs.List.{AllByRecursion};
-ghost use Rattle.gb_exec.specs.Building.{IsBuildable};
+ghost use Rattle.gb_turn.specs.Buildable.{IsBuildable};
 ghost use Rattle.gb_folder.specs.Calls.{Asks, no_change};
 ghost use Rattle.gb_build.specs.Asking.{AreBuildable};
 ghost use Rattle.gb_build.specs.Refusing.{IsUnread};

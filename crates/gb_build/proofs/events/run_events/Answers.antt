@@ -3,7 +3,7 @@ use Rattle.std.proofs.lemmas.List.{take_more}
 use Rattle.std.specs.List.{AllZip}
 use Rattle.gb_folder.proofs.Changes.{SameTearing-chain}
 use Rattle.gb_build.specs.Registering.{registers_in}
-use Rattle.gb_build.proofs.Planning.{tears_alike}
+use Rattle.gb_turn.proofs.Recorded.{granted_later}
 use Rattle.gb_meaning.proofs.Lemmas.Plain.{headline}
 use Rattle.gb_meaning.specs.declared.events.Answer.{Answer}
 use Rattle.gb_meaning.specs.declared.events.Event.{Event}
@@ -57,19 +57,19 @@ loop-event-preserved g c =
           (subst (λ (events : List Event). AllKeepElsewhere registers events (c.loop-event.answers.items ++ c.take.result ∷ []) start.contents next.contents) taken_here
           (keeps_more registers (take index c.args.events.now) c.loop-event.answers.items c.event-item.result c.take.result start.contents here.contents next.contents
           (taken_all index c.args.events.now c.loop-event.answers.items so_far.each c.loop-event-test.true) (so_far.elsewhere tells) (c.take.ensures.keeps tells)));
-      holds = λ tells kinds agrees tears rest others end runs.
+      holds = λ tells kinds granted rest others end runs.
           let setting = setting_by kinds registers first in
           subst (λ (told : List Answer). RunsFrom setting start (take (index + 1) c.args.events.now ++ rest) (told ++ others) end) (sym items)
           (subst (λ (events : List Event). RunsFrom setting start (events ++ rest) (c.loop-event.answers.items ++ c.take.result ∷ [] ++ others) end) taken_here
           (more_ahead setting start end (take index c.args.events.now) c.event-item.result rest c.loop-event.answers.items c.take.result others
-          (so_far.holds tells kinds agrees tears (c.event-item.result ∷ rest) (c.take.result ∷ others) end
+          (so_far.holds tells kinds granted (c.event-item.result ∷ rest) (c.take.result ∷ others) end
           (runs_on setting here next end c.event-item.result c.take.result rest others c.take.ensures.count
           (leads_alike first second so_far.tearing kinds registers here c.event-item.result c.take.result next
-          (c.take.ensures.leads tells kinds agrees (tears_alike first second so_far.tearing tears))) runs))));
+          (c.take.ensures.leads tells kinds (granted_later first second so_far.tearing granted))) runs))));
     }
 
 pub returns-clause-holds : goal.returns-clause-holds
-returns-clause-holds g c = λ tells kinds agrees tears.
+returns-clause-holds g c = λ tells kinds granted.
     let F = g.F.Folder in
     let registers = registers_in (tables_of g.T.Transforms.meanings g.A.Actions.meanings c.args.tables.now) in
     let setting = setting_by kinds registers (F.may_leave c.args.folder.now) in
@@ -78,7 +78,7 @@ returns-clause-holds g c = λ tells kinds agrees tears.
     let end : Shown = shows (F.contents c.loop-event.folder) (F.failures c.loop-event.folder) in
     runs_hold setting start end c.args.events.now c.loop-event.answers.items
     (to_the_end setting start end c.loop-event.event-index c.args.events.now c.loop-event.answers.items c.loop-event-test.false
-    (so_far.holds tells kinds agrees tears [] [] end (runs_nowhere setting end)))
+    (so_far.holds tells kinds granted [] [] end (runs_nowhere setting end)))
 
 pub returns-clause-outlined : goal.returns-clause-outlined
 returns-clause-outlined g c =
@@ -86,12 +86,12 @@ returns-clause-outlined g c =
     c.loop-event.invariant.outlined
 
 pub returns-clause-promise : goal.returns-clause-promise
-returns-clause-promise g c = λ tells kinds agrees tears.
+returns-clause-promise g c = λ tells kinds granted.
     let F = g.F.Folder in
     let registers = registers_in (tables_of g.T.Transforms.meanings g.A.Actions.meanings c.args.tables.now) in
     headline (setting_by kinds registers (F.may_leave c.args.folder.now)) (shows (F.contents c.args.folder.now) (F.failures c.args.folder.now))
     (shows (F.contents c.loop-event.folder) (F.failures c.loop-event.folder)) c.args.events.now c.loop-event.answers.items
-    (returns-clause-holds g c tells kinds agrees tears)
+    (returns-clause-holds g c tells kinds granted)
 
 pub returns-clause-asks : goal.returns-clause-asks
 returns-clause-asks g c =

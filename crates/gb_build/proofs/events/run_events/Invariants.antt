@@ -2,14 +2,13 @@ use Rattle.std.proofs.Common.{◌≡◌, ◌≤◌, ◌++◌, List, IsTrue, leng
 use Rattle.std.specs.List.{AllZip}
 use Rattle.std.specs.Vec.{vec_capacity}
 use Rattle.gb_folder.specs.Files.{SameTearing}
-use Rattle.gb_history.specs.Places.{record_place}
 use Rattle.gb_build.specs.Registering.{registers_in}
 use Rattle.gb_meaning.specs.declared.events.Answer.{Answer}
 use Rattle.gb_meaning.specs.declared.events.Event.{Event}
 use Rattle.gb_meaning.specs.Edits.{Shown}
-use Rattle.gb_meaning.specs.Headline.{Agrees, AllKeepElsewhere, HasFailed, HaveHeardAll, TearsAreSeen, times_blamed_in_all}
+use Rattle.gb_meaning.specs.Headline.{AllKeepElsewhere, HasFailed, HaveHeardAll, times_blamed_in_all}
 use Rattle.gb_meaning.specs.Kinds.{Kinds}
-use Rattle.gb_records.specs.Said.{IsText}
+use Rattle.gb_turn.specs.Granted.{IsGranted}
 use Rattle.gb_registry.specs.Tables.{tables_of}
 use Rattle.gb_build.specs.EventAsked.{EventsAsk}
 use Rattle.gb_build.specs.Answers.{AnswerIsOutlined}
@@ -34,7 +33,7 @@ invariant-loop-event g l =
       outlined : AllZip AnswerIsOutlined (take l.event-index l.events) l.answers.items;
       elsewhere : IsTrue F.tells → AllKeepElsewhere (registers_in tables) (take l.event-index l.events) l.answers.items (F.contents l.fn.folder) (F.contents l.folder);
       -- whatever run goes on from here, these events and it are one run
-      holds : IsTrue F.tells → (kinds : Kinds) → Agrees g.A.Actions.meanings l.tables.actions kinds → TearsAreSeen IsText record_place (F.may_leave l.fn.folder)
+      holds : IsTrue F.tells → (kinds : Kinds) → IsGranted g.A.Actions.meanings l.tables.actions kinds (F.may_leave l.fn.folder)
           → (rest : List Event) (others : List Answer) (end : Shown)
           → RunsFrom (setting_by kinds (registers_in tables) (F.may_leave l.fn.folder)) (shows (F.contents l.folder) (F.failures l.folder)) rest others end
           → RunsFrom (setting_by kinds (registers_in tables) (F.may_leave l.fn.folder)) (shows (F.contents l.fn.folder) (F.failures l.fn.folder))

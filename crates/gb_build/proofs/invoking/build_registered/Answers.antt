@@ -27,7 +27,7 @@ use Rattle.gb_build.proofs.InvocationAsked.{refusal_asks, registered_asks}
 use Rattle.gb_build.proofs.invoking.build_registered.Goals as goal
 
 pub returns-in_err-tasks-clause-leads : goal.returns-in_err-tasks-clause-leads
-returns-in_err-tasks-clause-leads g c = λ tells kinds agrees tears.
+returns-in_err-tasks-clause-leads g c = λ tells kinds granted.
     let F = g.F.Folder in
     let tables = tables_of g.T.Transforms.meanings g.A.Actions.meanings c.args.configured.now.tables.now in
     let old : Shown = record { contents = F.contents c.args.folder.now; failures = F.failures c.args.folder.now } in
@@ -43,7 +43,7 @@ build_requested-requires g c =
     (are_buildable tables c.args.configured.now.registry (scripts_in c.scripts-scripts.result.now) c.scripts-scripts.ensures.read (subst IsRegistry same c.in_ok-tasks.tasks.ordered))
 
 pub returns-clause-leads : goal.returns-clause-leads
-returns-clause-leads g c = λ tells kinds agrees tears.
+returns-clause-leads g c = λ tells kinds granted.
     let F = g.F.Folder in
     let tables = tables_of g.T.Transforms.meanings g.A.Actions.meanings c.args.configured.now.tables.now in
     let declared = registry_in g.T.Transforms.meanings g.A.Actions.meanings c.in_ok-tasks.tasks.workspace in
@@ -51,7 +51,7 @@ returns-clause-leads g c = λ tells kinds agrees tears.
     let old : Shown = record { contents = F.contents c.args.folder.now; failures = F.failures c.args.folder.now } in
     let new : Shown = record { contents = F.contents c.build_requested.new.folder; failures = F.failures c.build_requested.new.folder } in
     subst (λ (registry : Registry). Leads (setting_with kinds (λ files given. Ok registry) (F.may_leave c.args.folder.now)) old (events.Invoke c.args.invocation.now) (answer_of c.build_requested.result) new) same
-    (c.build_requested.ensures.leads tells kinds (λ files given. Ok declared) agrees tears refl)
+    (c.build_requested.ensures.leads tells kinds (λ files given. Ok declared) granted refl)
 
 pub returns-clause-keeps : goal.returns-clause-keeps
 returns-clause-keeps g c = λ tells.

@@ -4,13 +4,14 @@ use Rattle.gb_folder.specs.Files.{Contents, is_own}
 use Rattle.gb_build.specs.Leading.{Leads}
 use Rattle.gb_build.specs.Refusing.{IsNotBegun}
 use Rattle.gb_build.proofs.Leading.{led_holds}
-use Rattle.gb_build.proofs.Planning.{tears_alike}
+use Rattle.gb_turn.specs.Granted.{IsGranted}
+use Rattle.gb_turn.proofs.Recorded.{granted_later}
 use Rattle.gb_build.proofs.Refusing.{not_built}
 use Rattle.gb_meaning.proofs.Lemmas.Plain.{headline}
 use Rattle.gb_meaning.specs.Edits.{Shown}
 use Rattle.gb_meaning.specs.Events.{IsNotBuilt, is_read_first}
 use Rattle.gb_meaning.specs.declared.events.Event.TheVariants as events
-use Rattle.gb_meaning.specs.Headline.{Agrees, KeepsElsewhere, answer_of, times_blamed}
+use Rattle.gb_meaning.specs.Headline.{KeepsElsewhere, answer_of, times_blamed}
 use Rattle.gb_registry.specs.Tables.{tables_of}
 use Rattle.gb_registry.specs.declared.tables.Tables as handed
 use Rattle.gb_report.specs.declared.fault.Fault.{Fault}
@@ -27,7 +28,7 @@ use Rattle.gb_build.proofs.InvocationAsked.{refusal_asks, scripts_before}
 use Rattle.gb_build.proofs.invoking.invoke.Goals as goal
 
 pub returns-in_err-copied-clause-leads : goal.returns-in_err-copied-clause-leads
-returns-in_err-copied-clause-leads g c = λ tells kinds agrees tears.
+returns-in_err-copied-clause-leads g c = λ tells kinds granted.
     let F = g.F.Folder in
     let tables = tables_of g.T.Transforms.meanings g.A.Actions.meanings c.args.tables.now in
     let old : Shown = shows (F.contents c.args.folder.now) (F.failures c.args.folder.now) in
@@ -35,7 +36,7 @@ returns-in_err-copied-clause-leads g c = λ tells kinds agrees tears.
     out_of_memory (setting_of tables kinds (F.may_leave c.args.folder.now)) old old c.args.invocation.now p.0 p.2 refl c.from_residual.result p.1
 
 pub returns-in_err-configured-clause-leads : goal.returns-in_err-configured-clause-leads
-returns-in_err-configured-clause-leads g c = λ tells kinds agrees tears.
+returns-in_err-configured-clause-leads g c = λ tells kinds granted.
     let F = g.F.Folder in
     let tables = tables_of g.T.Transforms.meanings g.A.Actions.meanings c.args.tables.now in
     let may_leave = F.may_leave c.args.folder.now in
@@ -49,7 +50,7 @@ returns-in_err-configured-clause-leads g c = λ tells kinds agrees tears.
     (c.read_registry.ensures.same tells) c.from_residual-in_err-configured.result p.1
 
 pub returns-clause-leads : goal.returns-clause-leads
-returns-clause-leads g c = λ tells kinds agrees tears.
+returns-clause-leads g c = λ tells kinds granted.
     let F = g.F.Folder in
     let same = c.in_ok-configured.ensures.tables in
     let tables = tables_of g.T.Transforms.meanings g.A.Actions.meanings c.args.tables.now in
@@ -68,32 +69,33 @@ returns-clause-leads g c = λ tells kinds agrees tears.
     (subst (λ (given : handed.Tables _ _ _ _ _). Leads (setting_by kinds (always (registry_said (tables_of g.T.Transforms.meanings g.A.Actions.meanings given) source)) second)
     (shows (F.contents c.read_registry.new.folder) later) (events.Invoke c.args.invocation.now) (answer_of c.build_registered.result) new)
     same
-    (c.build_registered.ensures.leads tells kinds (subst (λ (given : handed.Tables _ _ _ _ _). Agrees g.A.Actions.meanings given.actions kinds) (sym same) agrees)
-    (tears_alike first second c.read_registry.ensures.asks.tearing tears))))
+    (c.build_registered.ensures.leads tells kinds
+    (subst (λ (given : handed.Tables _ _ _ _ _). IsGranted g.A.Actions.meanings given.actions kinds second) (sym same)
+    (granted_later first second c.read_registry.ensures.asks.tearing granted)))))
 
 pub returns-in_err-copied-clause-holds : goal.returns-in_err-copied-clause-holds
-returns-in_err-copied-clause-holds g c = λ tells kinds agrees tears.
+returns-in_err-copied-clause-holds g c = λ tells kinds granted.
     let F = g.F.Folder in
     let tables = tables_of g.T.Transforms.meanings g.A.Actions.meanings c.args.tables.now in
     led_holds (setting_of tables kinds (F.may_leave c.args.folder.now)) (shows (F.contents c.args.folder.now) (F.failures c.args.folder.now))
     (shows (F.contents c.args.folder.now) (F.failures c.args.folder.now)) c.args.invocation.now c.from_residual.result (omega arith)
-    (returns-in_err-copied-clause-leads g c tells kinds agrees tears)
+    (returns-in_err-copied-clause-leads g c tells kinds granted)
 
 pub returns-in_err-configured-clause-holds : goal.returns-in_err-configured-clause-holds
-returns-in_err-configured-clause-holds g c = λ tells kinds agrees tears.
+returns-in_err-configured-clause-holds g c = λ tells kinds granted.
     let F = g.F.Folder in
     let tables = tables_of g.T.Transforms.meanings g.A.Actions.meanings c.args.tables.now in
     led_holds (setting_of tables kinds (F.may_leave c.args.folder.now)) (shows (F.contents c.args.folder.now) (F.failures c.args.folder.now))
     (shows (F.contents c.read_registry.new.folder) (F.failures c.read_registry.new.folder)) c.args.invocation.now c.from_residual-in_err-configured.result c.read_registry.ensures.asks.count
-    (returns-in_err-configured-clause-leads g c tells kinds agrees tears)
+    (returns-in_err-configured-clause-leads g c tells kinds granted)
 
 pub returns-clause-holds : goal.returns-clause-holds
-returns-clause-holds g c = λ tells kinds agrees tears.
+returns-clause-holds g c = λ tells kinds granted.
     let F = g.F.Folder in
     let tables = tables_of g.T.Transforms.meanings g.A.Actions.meanings c.args.tables.now in
     led_holds (setting_of tables kinds (F.may_leave c.args.folder.now)) (shows (F.contents c.args.folder.now) (F.failures c.args.folder.now))
     (shows (F.contents c.build_registered.new.folder) (F.failures c.build_registered.new.folder)) c.args.invocation.now c.build_registered.result (omega (arith, c.read_registry.ensures.asks.count, c.build_registered.ensures.count))
-    (returns-clause-leads g c tells kinds agrees tears)
+    (returns-clause-leads g c tells kinds granted)
 
 pub returns-clause-keeps : goal.returns-clause-keeps
 returns-clause-keeps g c = λ tells.
@@ -212,28 +214,28 @@ returns-clause-dry g c = λ tells dry.
 -- ---- The promise
 
 pub returns-in_err-copied-clause-promise : goal.returns-in_err-copied-clause-promise
-returns-in_err-copied-clause-promise g c = λ tells kinds agrees tears.
+returns-in_err-copied-clause-promise g c = λ tells kinds granted.
     let F = g.F.Folder in
     let tables = tables_of g.T.Transforms.meanings g.A.Actions.meanings c.args.tables.now in
     headline (setting_of tables kinds (F.may_leave c.args.folder.now)) (shows (F.contents c.args.folder.now) (F.failures c.args.folder.now))
     (shows (F.contents c.args.folder.now) (F.failures c.args.folder.now)) (events.Invoke c.args.invocation.now ∷ []) (answer_of c.from_residual.result ∷ [])
-    (returns-in_err-copied-clause-holds g c tells kinds agrees tears)
+    (returns-in_err-copied-clause-holds g c tells kinds granted)
 
 pub returns-in_err-configured-clause-promise : goal.returns-in_err-configured-clause-promise
-returns-in_err-configured-clause-promise g c = λ tells kinds agrees tears.
+returns-in_err-configured-clause-promise g c = λ tells kinds granted.
     let F = g.F.Folder in
     let tables = tables_of g.T.Transforms.meanings g.A.Actions.meanings c.args.tables.now in
     headline (setting_of tables kinds (F.may_leave c.args.folder.now)) (shows (F.contents c.args.folder.now) (F.failures c.args.folder.now))
     (shows (F.contents c.read_registry.new.folder) (F.failures c.read_registry.new.folder)) (events.Invoke c.args.invocation.now ∷ []) (answer_of c.from_residual-in_err-configured.result ∷ [])
-    (returns-in_err-configured-clause-holds g c tells kinds agrees tears)
+    (returns-in_err-configured-clause-holds g c tells kinds granted)
 
 pub returns-clause-promise : goal.returns-clause-promise
-returns-clause-promise g c = λ tells kinds agrees tears.
+returns-clause-promise g c = λ tells kinds granted.
     let F = g.F.Folder in
     let tables = tables_of g.T.Transforms.meanings g.A.Actions.meanings c.args.tables.now in
     headline (setting_of tables kinds (F.may_leave c.args.folder.now)) (shows (F.contents c.args.folder.now) (F.failures c.args.folder.now))
     (shows (F.contents c.build_registered.new.folder) (F.failures c.build_registered.new.folder)) (events.Invoke c.args.invocation.now ∷ []) (answer_of c.build_registered.result ∷ [])
-    (returns-clause-holds g c tells kinds agrees tears)
+    (returns-clause-holds g c tells kinds granted)
 
 -- ---- What it asks
 

@@ -13,7 +13,8 @@ use Rattle.gb_exec.specs.Building.{is_of_turns}
 use Rattle.gb_build.proofs.Changed.{elsewhere}
 use Rattle.gb_build.proofs.Holding.{built_leads}
 use Rattle.gb_build.proofs.Leading.{led_holds}
-use Rattle.gb_build.proofs.Planning.{all_declared, can_build, own_places, plan_of, tears_alike}
+use Rattle.gb_build.proofs.Planning.{all_declared, can_build, own_places, plan_of}
+use Rattle.gb_turn.proofs.Recorded.{granted_later}
 use Rattle.gb_build.proofs.Refusing.{by_reading, by_refusal, if_told, refused_leads, told_fails}
 use Rattle.gb_folder.specs.Calls.{Asks, no_change}
 use Rattle.gb_folder.proofs.Asked.{asks_nothing}
@@ -41,7 +42,7 @@ returns-in_err-plan-clause-device g c = λ none.
     c.from_residual.result p.1
 
 pub returns-in_err-plan-clause-leads : goal.returns-in_err-plan-clause-leads
-returns-in_err-plan-clause-leads g c = λ tells kinds registry_of agrees tears scripts.
+returns-in_err-plan-clause-leads g c = λ tells kinds registry_of granted scripts.
     let F = g.F.Folder in
     let failures = F.failures c.args.folder.now in
     let old : Shown = record { contents = F.contents c.args.folder.now; failures = failures } in
@@ -61,7 +62,7 @@ returns-in_err-records-clause-not_begun g c =
     (by_reading (g.Ts.Tasks.registry c.args.tasks.now) c.args.invocation.now c.in_err-records.field-0.0 p.0 (failures c.args.folder.now) (failures c.records_for.new.folder) p.2 c.in_err-records.ensures.unread)
 
 pub returns-in_err-records-clause-leads : goal.returns-in_err-records-clause-leads
-returns-in_err-records-clause-leads g c = λ tells kinds registry_of agrees tears scripts.
+returns-in_err-records-clause-leads g c = λ tells kinds registry_of granted scripts.
     let F = g.F.Folder in
     let old : Shown = record { contents = F.contents c.args.folder.now; failures = F.failures c.args.folder.now } in
     let new : Shown = record { contents = F.contents c.records_for.new.folder; failures = F.failures c.records_for.new.folder } in
@@ -78,7 +79,7 @@ execute-requires-clause-can g c =
     g.A.Actions.meanings c.args.table.now c.requires
 
 pub returns-in_err-report-clause-leads : goal.returns-in_err-report-clause-leads
-returns-in_err-report-clause-leads g c = λ tells kinds registry_of agrees tears scripts.
+returns-in_err-report-clause-leads g c = λ tells kinds registry_of granted scripts.
     let F = g.F.Folder in
     let old : Shown = record { contents = F.contents c.args.folder.now; failures = F.failures c.args.folder.now } in
     let new : Shown = record { contents = F.contents c.execute.new.folder; failures = F.failures c.execute.new.folder } in
@@ -109,7 +110,7 @@ returns-clause-elsewhere g c = λ tells.
     (subst (λ (contents : Contents). ChangesOnly (is_of_turns c.in_ok-plan.plan) contents (F.contents c.execute.new.folder)) (c.records_for.ensures.same tells) (c.execute.ensures.changes tells))
 
 pub returns-clause-leads : goal.returns-clause-leads
-returns-clause-leads g c = λ tells kinds registry_of agrees tears scripts remembered_now is_clear seen_now stands.
+returns-clause-leads g c = λ tells kinds registry_of granted scripts remembered_now is_clear seen_now stands.
     let F = g.F.Folder in
     let registry = g.Ts.Tasks.registry c.args.tasks.now in
     let plan = c.in_ok-plan.plan in
@@ -128,41 +129,41 @@ returns-clause-leads g c = λ tells kinds registry_of agrees tears scripts remem
     c.as_slice-2.result.now
     (λ wet. subst (λ (records : List (Option Remembered)). AllZip (IsReadAt old.contents.files) (order plan) records) (sym c.as_slice-2.ensures.value)
     (subst (λ (tasks : List Planned). AllZip (IsReadAt old.contents.files) (order tasks) c.in_ok-records.records.items) c.as_slice.ensures (c.in_ok-records.ensures.read tells wet)))
-    (λ remembered clear seen worth. c.in_ok-report.ensures.build tells kinds registry_of remembered clear seen agrees
-    (tears_alike (F.may_leave c.args.folder.now) (F.may_leave c.records_for.new.folder) c.records_for.ensures.asks.tearing tears) worth)
+    (λ remembered clear seen worth. c.in_ok-report.ensures.build tells kinds registry_of remembered clear seen
+    (granted_later (F.may_leave c.args.folder.now) (F.may_leave c.records_for.new.folder) c.records_for.ensures.asks.tearing granted) worth)
     remembered_now is_clear seen_now stands
 
 pub returns-in_err-plan-clause-holds : goal.returns-in_err-plan-clause-holds
-returns-in_err-plan-clause-holds g c = λ tells kinds registry_of agrees tears scripts.
+returns-in_err-plan-clause-holds g c = λ tells kinds registry_of granted scripts.
     let F = g.F.Folder in
     let old : Shown = record { contents = F.contents c.args.folder.now; failures = F.failures c.args.folder.now } in
     let new : Shown = record { contents = F.contents c.args.folder.now; failures = F.failures c.args.folder.now } in
     led_holds (setting_with kinds registry_of (F.may_leave c.args.folder.now)) old new c.args.invocation.now c.from_residual.result (omega arith)
-    (returns-in_err-plan-clause-leads g c tells kinds registry_of agrees tears scripts)
+    (returns-in_err-plan-clause-leads g c tells kinds registry_of granted scripts)
 
 pub returns-in_err-records-clause-holds : goal.returns-in_err-records-clause-holds
-returns-in_err-records-clause-holds g c = λ tells kinds registry_of agrees tears scripts.
+returns-in_err-records-clause-holds g c = λ tells kinds registry_of granted scripts.
     let F = g.F.Folder in
     let old : Shown = record { contents = F.contents c.args.folder.now; failures = F.failures c.args.folder.now } in
     let new : Shown = record { contents = F.contents c.records_for.new.folder; failures = F.failures c.records_for.new.folder } in
     led_holds (setting_with kinds registry_of (F.may_leave c.args.folder.now)) old new c.args.invocation.now c.from_residual-in_err-records.result c.records_for.ensures.asks.count
-    (returns-in_err-records-clause-leads g c tells kinds registry_of agrees tears scripts)
+    (returns-in_err-records-clause-leads g c tells kinds registry_of granted scripts)
 
 pub returns-in_err-report-clause-holds : goal.returns-in_err-report-clause-holds
-returns-in_err-report-clause-holds g c = λ tells kinds registry_of agrees tears scripts.
+returns-in_err-report-clause-holds g c = λ tells kinds registry_of granted scripts.
     let F = g.F.Folder in
     let old : Shown = record { contents = F.contents c.args.folder.now; failures = F.failures c.args.folder.now } in
     let new : Shown = record { contents = F.contents c.execute.new.folder; failures = F.failures c.execute.new.folder } in
     led_holds (setting_with kinds registry_of (F.may_leave c.args.folder.now)) old new c.args.invocation.now c.from_residual-in_err-report.result (omega (arith, c.records_for.ensures.asks.count, c.execute.ensures.asks.count))
-    (returns-in_err-report-clause-leads g c tells kinds registry_of agrees tears scripts)
+    (returns-in_err-report-clause-leads g c tells kinds registry_of granted scripts)
 
 pub returns-clause-holds : goal.returns-clause-holds
-returns-clause-holds g c = λ tells kinds registry_of agrees tears scripts.
+returns-clause-holds g c = λ tells kinds registry_of granted scripts.
     let F = g.F.Folder in
     let old : Shown = record { contents = F.contents c.args.folder.now; failures = F.failures c.args.folder.now } in
     let new : Shown = record { contents = F.contents c.execute.new.folder; failures = F.failures c.execute.new.folder } in
     led_holds (setting_with kinds registry_of (F.may_leave c.args.folder.now)) old new c.args.invocation.now (Ok c.in_ok-report.report) (omega (arith, c.records_for.ensures.asks.count, c.execute.ensures.asks.count))
-    (returns-clause-leads g c tells kinds registry_of agrees tears scripts)
+    (returns-clause-leads g c tells kinds registry_of granted scripts)
 
 -- ---- What it asks
 

@@ -51,7 +51,7 @@ returns-then-options-clause-device g c =
     (dry_blames c.args.plan.now (F.failures c.args.folder.now))
 
 pub returns-then-options-clause-build : goal.returns-then-options-clause-build
-returns-then-options-clause-build g c = λ tells kinds registry_of remembered clear seen agrees tears worth.
+returns-then-options-clause-build g c = λ tells kinds registry_of remembered clear seen granted worth.
     let F = g.F.Folder in
     let start = c.args.folder.now in
     let old : State = record { contents = F.contents start; remembered = remembered; failures = F.failures start } in

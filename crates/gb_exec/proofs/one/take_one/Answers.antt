@@ -45,7 +45,7 @@ returns-then-not-does_start-clause-outline g c = λ moment planned is endings.
     (λ starts. not_false (sym (c.does_start.ensures.starts.1 (by_number.0 starts)) ∙ c.if-not-does_start.true))
 
 pub returns-then-not-does_start-clause-turn : goal.returns-then-not-does_start-clause-turn
-returns-then-not-does_start-clause-turn g c = λ tells kinds registry_of moment planned is agrees seen folder failures stands endings known.
+returns-then-not-does_start-clause-turn g c = λ tells kinds registry_of moment planned is granted folder failures stands endings known.
     let F = g.F.Folder in
     let tasks = c.args.build.now.tasks.now in
     let got = slice_get-get_or tasks c.args.index c.index-build-index.result c.requires.index in
@@ -128,7 +128,7 @@ returns-clause-outline g c = λ moment planned is endings.
     (by_number.1 (c.does_start.ensures.starts.0 c.if-not-does_start.false)) need report.ensures.alone report.ensures.answer)
 
 pub returns-clause-turn : goal.returns-clause-turn
-returns-clause-turn g c = λ tells kinds registry_of moment planned is agrees seen folder failures stands endings known.
+returns-clause-turn g c = λ tells kinds registry_of moment planned is granted folder failures stands endings known.
     let F = g.F.Folder in
     let build = c.args.build.now in
     let tasks = build.tasks.now in
@@ -150,7 +150,7 @@ returns-clause-turn g c = λ tells kinds registry_of moment planned is agrees se
     (by_number.1 (c.does_start.ensures.starts.0 (not_not c.does_start.result c.if-not-does_start.false)))
     (let known_so : IsKnown kinds task.task moment.world (option_copied c.as_ref-last.result) =
     subst (IsKnown kinds task.task moment.world) (sym last) (subst (λ (p : Planned). IsKnown kinds p.task moment.world (slice_index_or build.records.now index None)) (sym same) known) in
-    c.take_turn-report.ensures.turn tells kinds registry_of tasks moment agrees seen
+    c.take_turn-report.ensures.turn tells kinds registry_of tasks moment granted
     (record { folder = folder; failures = failures; records = stands; read = read_so kinds task.task moment.world (option_copied c.as_ref-last.result) known_so })
     need known_so))
   where

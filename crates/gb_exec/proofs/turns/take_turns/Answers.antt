@@ -30,10 +30,11 @@ use Rattle.gb_exec.specs.declared.starts.Ending.TheVariants.{ToCome}
 use Rattle.gb_store.specs.Changes.{ChangesOnly}
 use Rattle.gb_store.proofs.Machine.{changes_none}
 use Rattle.gb_turn.proofs.Parts.{differs_outside}
-use Rattle.gb_turn.proofs.Recorded.{seen_later}
+use Rattle.gb_turn.proofs.Recorded.{granted_later}
 use Rattle.gb_turn.specs.Current.{IsToldCurrent}
 use Rattle.gb_exec.specs.Asking.{WereCurrent}
-use Rattle.gb_exec.specs.Building.{IsBuildable, is_of_turns}
+use Rattle.gb_exec.specs.Building.{is_of_turns}
+use Rattle.gb_turn.specs.Buildable.{IsBuildable}
 use Rattle.gb_exec.proofs.Asking.{current_more, none_current, turn_current, turns_places}
 use Rattle.gb_meaning.specs.Headline.{HasFailed}
 use Rattle.gb_exec.specs.Failing.{times_blamed}
@@ -88,7 +89,7 @@ loop-path-init g c =
       current = none_current F.failures F.may_leave F.asked start c.args.build.now.options tasks c.args.build.now.records.now c.args.reports.now.items none;
       device = subst (λ (rs : List TaskReport). HasFailed (times_blamed rs) (F.failures start) (F.failures start)) (sym none) (inl (omega arith));
       changes = λ tells. changes_none (is_of_turns []) (F.contents start) (F.contents start) refl;
-      build = λ tells kinds registry_of remembered clear seen agrees tears worth.
+      build = λ tells kinds registry_of remembered clear seen granted worth.
           let old : State = record { contents = F.contents start; remembered = remembered; failures = F.failures start } in
           subst (λ (rs : List TaskReport). IsUnderway kinds registry_of (F.may_leave start) clear seen c.args.build.now.options tasks old [] tasks rs
           (record { contents = F.contents start; failures = F.failures start })) (sym none)
@@ -178,10 +179,10 @@ loop-path-preserved g c =
       changes = λ tells.
           subst (λ (ps : List Planned). ChangesOnly (is_of_turns ps) (F.contents start) (F.contents next)) (sym take_is)
           (changes_more (take i tasks) planned (F.contents start) (F.contents now) (F.contents next) (inv.changes tells) (c.take_one-taken.ensures.changes tells planned is));
-      build = λ tells kinds registry_of remembered clear seen agrees tears worth.
+      build = λ tells kinds registry_of remembered clear seen granted worth.
           let old : State = record { contents = F.contents start; remembered = remembered; failures = F.failures start } in
           let u = subst (λ (ps : List Planned). IsUnderway kinds registry_of (F.may_leave start) clear seen build.options tasks old (take i tasks) ps reports
-          (record { contents = F.contents now; failures = F.failures now })) (drop_at tasks i planned is) (inv.build tells kinds registry_of remembered clear seen agrees tears worth) in
+          (record { contents = F.contents now; failures = F.failures now })) (drop_at tasks i planned is) (inv.build tells kinds registry_of remembered clear seen granted worth) in
           let changes = c.take_one-taken.ensures.changes tells planned is in
           subst (λ (ps : List Planned). IsUnderway kinds registry_of (F.may_leave start) clear seen build.options tasks old ps (drop (i + 1) tasks) c.push_reserved.new.reports.items
           (record { contents = F.contents next; failures = F.failures next })) (sym take_is)
@@ -192,7 +193,7 @@ loop-path-preserved g c =
           (g.met.F.Folder.sound next) (differs_outside planned.task (F.contents now).files (F.contents next).files changes.elsewhere) changes.odd c.requires.can.sound.outputs_apart
           (F.may_leave now) inv.asks.tearing (once_behind (take i tasks) (drop (i + 1) tasks) planned (subst (λ (ps : List Planned). no_repeats (order ps) ≡ true) (whole_at tasks i planned is) c.requires.can.once))
           (λ given still.
-          c.take_one-taken.ensures.turn tells kinds registry_of u.moment planned is agrees (seen_later (F.may_leave start) (F.may_leave now) inv.asks.tearing tears) u.folder u.failures still.standing
+          c.take_one-taken.ensures.turn tells kinds registry_of u.moment planned is (granted_later (F.may_leave start) (F.may_leave now) inv.asks.tearing granted) u.folder u.failures still.standing
           (subst (λ (os : List (Path × Outcome)). AreEndings tasks os c.loop-path.starts.endings) (sym u.outcomes) inv.endings)
           (knows c.what_is_read_is_known.ensures kinds tasks build.records.now seen u.seen_now (F.contents start) remembered u.moment.world i planned is (worth given.0) is_path still.same.0
           (subst (λ (folder : Contents). IsFolder folder.files) (sym u.folder) (folder_where (λ place. not (is_own place)) (F.contents now).files (g.met.F.Folder.sound now)))
@@ -221,7 +222,7 @@ returns-clause-outline g c =
     subst (λ (ps : List Planned). AreOutlines c.args.build.now.options tasks [] ps c.loop-path.reports.items) (take_all i tasks all) inv.outline
 
 pub returns-clause-build : goal.returns-clause-build
-returns-clause-build g c = λ tells kinds registry_of remembered clear seen agrees tears worth.
+returns-clause-build g c = λ tells kinds registry_of remembered clear seen granted worth.
     let F = g.F.Folder in
     let tasks = c.args.build.now.tasks.now in
     let i = c.loop-path.index in
@@ -238,4 +239,4 @@ returns-clause-build g c = λ tells kinds registry_of remembered clear seen agre
     (record { contents = F.contents c.loop-path.folder; failures = F.failures c.loop-path.folder })) (take_all i tasks all)
     (subst (λ (ps : List Planned). IsUnderway kinds registry_of (F.may_leave start) clear seen c.args.build.now.options tasks old (take i tasks) ps c.loop-path.reports.items
     (record { contents = F.contents c.loop-path.folder; failures = F.failures c.loop-path.folder })) (drop_all i tasks all)
-    (inv.build tells kinds registry_of remembered clear seen agrees tears worth)))
+    (inv.build tells kinds registry_of remembered clear seen granted worth)))

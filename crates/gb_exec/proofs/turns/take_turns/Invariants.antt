@@ -4,19 +4,18 @@ use Rattle.std.specs.Vec.{vec_capacity}
 use Rattle.std.specs.Vec.Iter.{into_iter_items}
 use Rattle.gb_folder.specs.Calls.{Asks}
 use Rattle.gb_folder.specs.Files.{Bytes}
-use Rattle.gb_history.specs.Places.{record_place}
 use Rattle.gb_exec.specs.Telling.{AllTold}
-use Rattle.gb_meaning.specs.Headline.{Agrees, HasFailed, TearsAreSeen}
+use Rattle.gb_meaning.specs.Headline.{HasFailed}
 use Rattle.gb_meaning.specs.Kinds.{Kinds}
 use Rattle.gb_meaning.specs.Memory.{Memory}
 use Rattle.gb_meaning.specs.Outline.{AreOutlines}
 use Rattle.gb_meaning.specs.Turn.{heard_of}
 use Rattle.gb_plan.specs.Graph.{order}
 use Rattle.gb_printer.specs.Printing.{Prints}
-use Rattle.gb_records.specs.Said.{IsText}
 use Rattle.gb_report.specs.Report.{task_text}
 use Rattle.gb_exec.specs.Plans.{AreEndings, AreOfPlan}
 use Rattle.gb_store.specs.Changes.{ChangesOnly}
+use Rattle.gb_turn.specs.Granted.{IsGranted}
 use Rattle.gb_turn.specs.Turned.{Registering}
 use Rattle.gb_exec.specs.Asking.{WereCurrent, in_turns}
 use Rattle.gb_exec.specs.Building.{is_of_turns}
@@ -52,8 +51,8 @@ invariant-loop-path g l =
       current : WereCurrent F.failures F.may_leave F.asked start l.build.options tasks l.build.records.now l.reports.items;
       device : HasFailed (times_blamed l.reports.items) (F.failures start) (F.failures l.folder);
       changes : IsTrue F.tells → ChangesOnly (is_of_turns done) (F.contents start) (F.contents l.folder);
-      build : IsTrue F.tells → (kinds : Kinds) (registry_of : Registering) (remembered : Memory) (clear : Bool) (seen : List Bytes) → Agrees g.A.Actions.meanings l.build.table.now kinds
-          → TearsAreSeen IsText record_place (F.may_leave start) → (IsTrue clear → AreWorth kinds tasks l.build.records.now seen (F.contents start) remembered)
+      build : IsTrue F.tells → (kinds : Kinds) (registry_of : Registering) (remembered : Memory) (clear : Bool) (seen : List Bytes) → IsGranted g.A.Actions.meanings l.build.table.now kinds (F.may_leave start)
+          → (IsTrue clear → AreWorth kinds tasks l.build.records.now seen (F.contents start) remembered)
           → IsUnderway kinds registry_of (F.may_leave start) clear seen l.build.options tasks
           (record { contents = F.contents start; remembered = remembered; failures = F.failures start }) done (drop l.index tasks) l.reports.items
           (record { contents = F.contents l.folder; failures = F.failures l.folder });

@@ -12,14 +12,14 @@ use Rattle.gb_turn.specs.Turned.{HasTurned, report_of, setting_with}
 use Rattle.gb_turn.specs.declared.anew.Anew.TheVariants as anew
 use Rattle.gb_turn.proofs.ByChanges.{reading_failed}
 use Rattle.gb_turn.proofs.Later.{comes_later, due_since, turned_before}
-use Rattle.gb_turn.proofs.Recorded.{seen_later}
+use Rattle.gb_turn.proofs.Recorded.{granted_later}
 use Rattle.gb_folder.proofs.Asked.{asks_reading, asks_then}
 use Rattle.gb_turn.specs.Asking.{HasRead}
 use Rattle.gb_turn.proofs.Asking.{anew_read, asks_once, full_anew, going_anew, text_in_turn}
 use Rattle.gb_turn.proofs.changes.go_on.Goals as goal
 
 pub returns-in_err-inputs-clause-turn : goal.returns-in_err-inputs-clause-turn
-returns-in_err-inputs-clause-turn g c = λ tells kinds registry_of plan moment agrees seen at read stood goes.
+returns-in_err-inputs-clause-turn g c = λ tells kinds registry_of plan moment given at read stood goes.
     let F = g.F.Folder in
     let task = c.args.task.now in
     let start = c.args.folder.now in
@@ -27,13 +27,13 @@ returns-in_err-inputs-clause-turn g c = λ tells kinds registry_of plan moment a
     let p = err_from_is_err_and c.from_residual.result c.from_residual.ensures.1 in
     at_err (λ (r : Result (Unit {0}) Fault). HasTurned (setting_with kinds registry_of (F.may_leave start)) c.args.options plan task moment (report_of task r c.args.lines.now) (F.contents start) (F.failures now) (F.contents now))
     c.from_residual.result p.0 c.in_err-inputs.field-0.0 p.1 p.2
-    (reading_failed kinds registry_of (F.may_leave start) c.args.options plan task true moment (F.contents start) (F.failures start) _ c.requires.not_own c.requires.apart at
+    (reading_failed kinds registry_of (F.may_leave start) c.args.options plan task true moment (F.contents start) (F.failures start) _ c.requires.buildable.not_own c.requires.apart at
     (due_since kinds c.args.options task moment.world c.args.last.now goes)
     c.in_err-inputs.field-0.0 c.args.lines.now (F.failures now) (F.contents now) c.requires.no_lines (c.settle_anew.ensures.same tells) (c.in_err-inputs.ensures.err tells read stood)
     (λ place e. c.settle_anew.ensures.blamed place (c.in_err-inputs.was ∙ ap Err e)))
 
 pub returns-in-ByChanges-clause-turn : goal.returns-in-ByChanges-clause-turn
-returns-in-ByChanges-clause-turn g c = λ tells kinds registry_of plan moment agrees seen at read stood goes.
+returns-in-ByChanges-clause-turn g c = λ tells kinds registry_of plan moment given at read stood goes.
     let F = g.F.Folder in
     let task = c.args.task.now in
     let start = c.args.folder.now in
@@ -47,12 +47,12 @@ returns-in-ByChanges-clause-turn g c = λ tells kinds registry_of plan moment ag
     turned_before kinds registry_of (F.may_leave start) (F.may_leave then) c.settle_anew.ensures.asks.tearing c.args.options plan task moment (F.failures then)
     (subst (λ (n : ℕ). n ≤ F.failures then) (sym at.failures) c.settle_anew.ensures.asks.count) report (F.contents start) (F.failures now) (F.contents now) c.go_by.ensures.asks.count
     (subst (λ (folder : Contents). HasTurned (setting_with kinds registry_of (F.may_leave then)) c.args.options plan task later report folder (F.failures now) (F.contents now)) same
-    (c.go_by.ensures.turn tells kinds registry_of c.args.options plan later agrees (seen_later _ _ c.settle_anew.ensures.asks.tearing seen) came
+    (c.go_by.ensures.turn tells kinds registry_of c.args.options plan later (granted_later _ _ c.settle_anew.ensures.asks.tearing given) came
     (before.0 ∙ ap (λ (folder : Contents). trees_of task folder.files) (sym same))
     (before.1 ∙ ap (λ (folder : Contents). map (seen_of folder.files) task.outputs) (sym same)) before.2))
 
 pub returns-in-InFull-clause-turn : goal.returns-in-InFull-clause-turn
-returns-in-InFull-clause-turn g c = λ tells kinds registry_of plan moment agrees seen at read stood goes.
+returns-in-InFull-clause-turn g c = λ tells kinds registry_of plan moment given at read stood goes.
     let F = g.F.Folder in
     absurd
     (subst (IsAsBefore kinds c.args.options c.args.task.now (F.contents c.args.folder.now).files moment.world) c.in-InFull.is

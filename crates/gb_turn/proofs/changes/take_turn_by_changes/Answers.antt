@@ -9,7 +9,7 @@ pub returns-clause-outcome : goal.returns-clause-outcome
 returns-clause-outcome g c = (c.go_on-ended.result, c.outcome_of.ensures)
 
 pub returns-clause-turn : goal.returns-clause-turn
-returns-clause-turn g c = λ tells kinds registry_of plan moment agrees seen at read stood due.
+returns-clause-turn g c = λ tells kinds registry_of plan moment given at read stood due.
     let F = g.F.Folder in
     let task = c.args.task.now in
     let start = c.args.folder.now in
@@ -17,4 +17,4 @@ returns-clause-turn g c = λ tells kinds registry_of plan moment agrees seen at 
     let acts : not c.is_empty-has_actions.result ≡ not (is_empty task.actions) = search rules in
     subst (λ (report : TaskReport). HasTurned (setting_with kinds registry_of (F.may_leave start)) c.args.options plan task moment report (F.contents start) (F.failures now) (F.contents now))
     (sym (same_report _ _ _ _ _ _ _ _ c.requires.path c.outcome_of.ensures acts refl))
-    (c.go_on-ended.ensures.turn tells kinds registry_of plan moment agrees seen at read stood due)
+    (c.go_on-ended.ensures.turn tells kinds registry_of plan moment given at read stood due)

@@ -31,28 +31,28 @@ all_added-requires g c =
     as_many c.args.task.now.files c.args.inputs.trees c.args.inputs.prints.items c.requires.digests c.requires.named ∙ ap length (sym c.as_slice.ensures.value)
 
 pub returns-in_err-changes-clause-turn : goal.returns-in_err-changes-clause-turn
-returns-in_err-changes-clause-turn g c = λ tells kinds registry_of options plan moment agrees seen at are_trees due.
+returns-in_err-changes-clause-turn g c = λ tells kinds registry_of options plan moment given at are_trees due.
     let F = g.F.Folder in
     let task = c.args.task.now in
     let start = c.args.folder.now in
     let p = err_from_is_err_and c.from_residual.result c.from_residual.ensures.1 in
     at_err (λ (r : Result (Unit {0}) Fault). HasTurned (setting_with kinds registry_of (F.may_leave start)) options plan task moment (report_of task r c.args.lines.now) (F.contents start) (F.failures start) (F.contents start))
     c.from_residual.result p.0 faults.OutOfMemory p.1 p.2
-    (reading_failed kinds registry_of (F.may_leave start) options plan task c.args.was_read moment (F.contents start) (F.failures start) c.requires.not_own c.requires.apart at due
+    (reading_failed kinds registry_of (F.may_leave start) options plan task c.args.was_read moment (F.contents start) (F.failures start) c.requires.buildable.not_own c.requires.apart at due
     faults.OutOfMemory c.args.lines.now (F.failures start) (F.contents start) c.requires.no_lines refl (inl refl) (λ place e. absurd (let d = e in (cc))))
 
 pub returns-in_err-clear-clause-turn : goal.returns-in_err-clear-clause-turn
-returns-in_err-clear-clause-turn g c = λ tells kinds registry_of options plan moment agrees seen at are_trees due.
+returns-in_err-clear-clause-turn g c = λ tells kinds registry_of options plan moment given at are_trees due.
     let F = g.F.Folder in
     let task = c.args.task.now in
     let start = c.args.folder.now in
     let now = c.clear.new.folder in
     let memory = moment.world.memory in
-    let cleared = c.clear.ensures.cleared tells seen memory at.records (none_read (recalled memory task.path) c.args.was_read at.read) in
+    let cleared = c.clear.ensures.cleared tells given.tears memory at.records (none_read (recalled memory task.path) c.args.was_read at.read) in
     let p = err_from_is_err_and c.from_residual-in_err-clear.result c.from_residual-in_err-clear.ensures.1 in
     at_err (λ (r : Result (Unit {0}) Fault). HasTurned (setting_with kinds registry_of (F.may_leave start)) options plan task moment (report_of task r c.args.lines.now) (F.contents start) (F.failures now) (F.contents now))
     c.from_residual-in_err-clear.result p.0 c.in_err-clear.field-0.0 p.1 p.2
-    (clearing_failed kinds registry_of (F.may_leave start) options plan task c.args.was_read moment (F.contents start) (F.failures start) c.requires.not_own c.requires.apart at due
+    (clearing_failed kinds registry_of (F.may_leave start) options plan task c.args.was_read moment (F.contents start) (F.failures start) c.requires.buildable.not_own c.requires.apart at due
     (F.may_leave start) c.in_err-clear.field-0.0 c.args.lines.now (F.failures start) (F.failures now) (F.contents start) (F.contents now) c.requires.no_lines refl
     (search rules) (omega arith) c.clear.ensures.asks.count
     (subst (λ (r : Result (Unit {0}) Fault). HasCleared task c.args.was_read memory (F.may_leave start) (F.failures start) (F.contents start) r (F.failures now) (F.contents now)) c.in_err-clear.was cleared)
@@ -68,25 +68,25 @@ returns-in_err-run-clause-changes g c = λ tells.
     (outputs_in_turn task (F.contents c.clear.new.folder) (F.contents c.make_anew.new.folder) (c.make_anew.ensures.changes tells))
 
 pub returns-in_err-run-clause-turn : goal.returns-in_err-run-clause-turn
-returns-in_err-run-clause-turn g c = λ tells kinds registry_of options plan moment agrees seen at are_trees due.
+returns-in_err-run-clause-turn g c = λ tells kinds registry_of options plan moment given at are_trees due.
     let F = g.F.Folder in
     let task = c.args.task.now in
     let start = c.args.folder.now in
     let then = c.clear.new.folder in
     let now = c.make_anew.new.folder in
     let memory = moment.world.memory in
-    let cleared = c.clear.ensures.cleared tells seen memory at.records (none_read (recalled memory task.path) c.args.was_read at.read) in
+    let cleared = c.clear.ensures.cleared tells given.tears memory at.records (none_read (recalled memory task.path) c.args.was_read at.read) in
     let is_cleared : IsCleared task memory (F.contents start) (F.contents then) =
     subst (λ (r : Result (Unit {0}) Fault). HasCleared task c.args.was_read memory (F.may_leave start) (F.failures start) (F.contents start) r (F.failures then) (F.contents then)) c.in_ok-clear.was cleared in
     let p = err_from_is_err_and c.from_residual-in_err-run.result c.from_residual-in_err-run.ensures.1 in
     at_err (λ (r : Result (Unit {0}) Fault). HasTurned (setting_with kinds registry_of (F.may_leave start)) options plan task moment (report_of task r c.make_anew.new.lines) (F.contents start) (F.failures now) (F.contents now))
     c.from_residual-in_err-run.result p.0 c.in_err-run.field-0.0 p.1 p.2
-    (running_failed kinds registry_of (F.may_leave start) options plan task c.args.was_read moment (F.contents start) (F.failures start) c.requires.not_own c.requires.apart at due
+    (running_failed kinds registry_of (F.may_leave start) options plan task c.args.was_read moment (F.contents start) (F.failures start) c.requires.buildable.not_own c.requires.apart at due
     (F.may_leave then) c.make_anew.new.lines (F.failures then) (F.contents then) (F.contents now) c.args.inputs.trees c.in_ok-changes.changes
     c.clear.ensures.asks.tearing c.clear.ensures.asks.count is_cleared
     are_trees (c.in_ok-changes.ensures (F.contents start).files (c.as_slice.ensures.value ∙ c.requires.digests ∙ ap digests_in are_trees)) (c.make_anew.ensures.changes tells)
     (returns-in_err-run-clause-changes g c tells) c.in_err-run.field-0.0 (F.failures now) c.make_anew.ensures.asks.count
-    (λ place e. c.make_anew.ensures.blamed place (c.in_err-run.was ∙ ap Err e)) (c.in_err-run.ensures.err tells kinds agrees))
+    (λ place e. c.make_anew.ensures.blamed place (c.in_err-run.was ∙ ap Err e)) (c.in_err-run.ensures.err tells kinds given.agrees))
 
 pub returns-clause-changes : goal.returns-clause-changes
 returns-clause-changes g c = λ tells.
@@ -99,7 +99,7 @@ returns-clause-changes g c = λ tells.
     (record_in_turn task (F.contents c.make_anew.new.folder) (F.contents c.remember.new.folder) (c.remember.ensures.changes tells))
 
 pub returns-clause-turn : goal.returns-clause-turn
-returns-clause-turn g c = λ tells kinds registry_of options plan moment agrees seen at are_trees due.
+returns-clause-turn g c = λ tells kinds registry_of options plan moment given at are_trees due.
     let F = g.F.Folder in
     let task = c.args.task.now in
     let start = c.args.folder.now in
@@ -107,7 +107,7 @@ returns-clause-turn g c = λ tells kinds registry_of options plan moment agrees 
     let ran = c.make_anew.new.folder in
     let now = c.remember.new.folder in
     let memory = moment.world.memory in
-    let cleared = c.clear.ensures.cleared tells seen memory at.records (none_read (recalled memory task.path) c.args.was_read at.read) in
+    let cleared = c.clear.ensures.cleared tells given.tears memory at.records (none_read (recalled memory task.path) c.args.was_read at.read) in
     let is_cleared : IsCleared task memory (F.contents start) (F.contents then) =
     subst (λ (r : Result (Unit {0}) Fault). HasCleared task c.args.was_read memory (F.may_leave start) (F.failures start) (F.contents start) r (F.failures then) (F.contents then)) c.in_ok-clear.was cleared in
     let changed : ChangesOnly (is_of_turn task) (F.contents start) (F.contents ran) =
@@ -115,12 +115,12 @@ returns-clause-turn g c = λ tells kinds registry_of options plan moment agrees 
     (c.clear.ensures.changes tells)
     (outputs_in_turn task (F.contents then) (F.contents ran) (c.make_anew.ensures.changes tells)) in
     let told = c.in_ok-changes.ensures (F.contents start).files (c.as_slice.ensures.value ∙ c.requires.digests ∙ ap digests_in are_trees) in
-    let ended = c.in_ok-run.ensures.ok tells kinds agrees in
+    let ended = c.in_ok-run.ensures.ok tells kinds given.agrees in
     let stands : c.in_ok-run.run' ≡ run_now task c.args.inputs.prints.items (F.contents ran).files =
-    record_stands kinds task c.args.inputs.trees c.args.inputs.prints.items (F.contents ran).files c.in_ok-run.run' (c.in_ok-run.ensures.made kinds agrees) c.requires.digests
+    record_stands kinds task c.args.inputs.trees c.args.inputs.prints.items (F.contents ran).files c.in_ok-run.run' (c.in_ok-run.ensures.made kinds given.agrees) c.requires.digests
     (λ held makes. made_stands kinds task c.args.inputs.trees c.in_ok-changes.changes is_cleared.taken.files c.make_anew.new.lines (F.contents ran).files held is_cleared.is_folder.in_order
     (subst (λ (rest : Files). EndsWell (course_of kinds task c.args.inputs.trees c.in_ok-changes.changes rest) c.make_anew.new.lines (F.contents ran).files) is_cleared.emptied ended) makes) in
-    remembering kinds registry_of (F.may_leave start) options plan task c.args.was_read moment (F.contents start) (F.failures start) c.requires.not_own c.requires.apart at due
+    remembering kinds registry_of (F.may_leave start) options plan task c.args.was_read moment (F.contents start) (F.failures start) c.requires.buildable.not_own c.requires.apart at due
     (F.may_leave then) c.make_anew.new.lines (F.failures then) (F.contents then) (F.contents ran) c.args.inputs.trees c.in_ok-changes.changes
     c.clear.ensures.asks.tearing c.clear.ensures.asks.count is_cleared
     are_trees told (c.make_anew.ensures.changes tells) changed
@@ -132,7 +132,7 @@ returns-clause-turn g c = λ tells kinds registry_of options plan moment agrees 
     c.remember.result
     (subst (λ (run : Remembered). IfErr c.remember.result (IsUnwritten task.path (Some (record_text task.path run)) (F.contents ran).files (F.failures ran) (F.failures now))) stands (c.remember.ensures.err tells))
     c.remember.ensures.outputs
-    (λ m entry stood of. c.remember.ensures.stands tells (seen_later _ _ (SameTearing-chain _ _ _ c.clear.ensures.asks.tearing c.make_anew.ensures.asks.tearing) seen) m entry stood
+    (λ m entry stood of. c.remember.ensures.stands tells (seen_later _ _ (SameTearing-chain _ _ _ c.clear.ensures.asks.tearing c.make_anew.ensures.asks.tearing) given.tears) m entry stood
     (subst (λ (run : Remembered). IsSaidOf run entry) (sym stands) of))
 
 pub returns-in_err-clear-clause-asks : goal.returns-in_err-clear-clause-asks

@@ -8,7 +8,7 @@ use Rattle.gb_report.specs.declared.fault.Fault.{Fault}
 use Rattle.gb_store.proofs.Machine.{at_err}
 use Rattle.gb_turn.specs.Turned.{HasTurned, report_of, setting_with}
 use Rattle.gb_turn.proofs.Later.{comes_later, turned_before}
-use Rattle.gb_turn.proofs.Recorded.{seen_later}
+use Rattle.gb_turn.proofs.Recorded.{granted_later}
 use Rattle.gb_turn.proofs.Whole.{reading_failed}
 use Rattle.gb_folder.proofs.Asked.{asks_reading, asks_then}
 use Rattle.gb_turn.specs.Asking.{HasRead}
@@ -16,7 +16,7 @@ use Rattle.gb_turn.proofs.Asking.{asks_once, full_is_one, run_read, text_in_turn
 use Rattle.gb_turn.proofs.full.run_with_record.Goals as goal
 
 pub returns-in_err-inputs-clause-turn : goal.returns-in_err-inputs-clause-turn
-returns-in_err-inputs-clause-turn g c = λ tells kinds registry_of options plan moment agrees seen at read due.
+returns-in_err-inputs-clause-turn g c = λ tells kinds registry_of options plan moment given at read due.
     let F = g.F.Folder in
     let task = c.args.task.now in
     let start = c.args.folder.now in
@@ -24,12 +24,12 @@ returns-in_err-inputs-clause-turn g c = λ tells kinds registry_of options plan 
     let p = err_from_is_err_and c.from_residual.result c.from_residual.ensures.1 in
     at_err (λ (r : Result (Unit {0}) Fault). HasTurned (setting_with kinds registry_of (F.may_leave start)) options plan task moment (report_of task r c.args.lines.now) (F.contents start) (F.failures now) (F.contents now))
     c.from_residual.result p.0 c.in_err-inputs.field-0.0 p.1 p.2
-    (reading_failed kinds registry_of (F.may_leave start) options plan task c.args.was_read moment (F.contents start) (F.failures start) c.requires.not_own c.requires.apart at due
+    (reading_failed kinds registry_of (F.may_leave start) options plan task c.args.was_read moment (F.contents start) (F.failures start) c.requires.buildable.not_own c.requires.apart at due
     c.in_err-inputs.field-0.0 c.args.lines.now (F.failures now) (F.contents now) c.requires.no_lines (c.complete_inputs.ensures.same tells) (c.in_err-inputs.ensures.err tells read)
     (λ place e. ap (λ b. b || is_output_of task place) (c.complete_inputs.ensures.blamed place (c.in_err-inputs.was ∙ ap Err e))))
 
 pub returns-clause-turn : goal.returns-clause-turn
-returns-clause-turn g c = λ tells kinds registry_of options plan moment agrees seen at read due.
+returns-clause-turn g c = λ tells kinds registry_of options plan moment given at read due.
     let F = g.F.Folder in
     let task = c.args.task.now in
     let start = c.args.folder.now in
@@ -41,7 +41,7 @@ returns-clause-turn g c = λ tells kinds registry_of options plan moment agrees 
     turned_before kinds registry_of (F.may_leave start) (F.may_leave then) c.complete_inputs.ensures.asks.tearing options plan task moment (F.failures then)
     (subst (λ (n : ℕ). n ≤ F.failures then) (sym at.failures) c.complete_inputs.ensures.asks.count) (report_of task c.run_on.result c.run_on.new.lines) (F.contents start) (F.failures now) (F.contents now) c.run_on.ensures.asks.count
     (subst (λ (folder : Contents). HasTurned (setting_with kinds registry_of (F.may_leave then)) options plan task later (report_of task c.run_on.result c.run_on.new.lines) folder (F.failures now) (F.contents now)) same
-    (c.run_on.ensures.turn tells kinds registry_of options plan later agrees (seen_later _ _ c.complete_inputs.ensures.asks.tearing seen) came
+    (c.run_on.ensures.turn tells kinds registry_of options plan later (granted_later _ _ c.complete_inputs.ensures.asks.tearing given) came
     (c.in_ok-inputs.ensures.trees tells read ∙ ap (λ (folder : Contents). trees_of task folder.files) (sym same)) due))
 
 pub returns-in_err-inputs-clause-asks : goal.returns-in_err-inputs-clause-asks

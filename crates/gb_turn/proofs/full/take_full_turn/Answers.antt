@@ -9,7 +9,7 @@ pub returns-clause-outcome : goal.returns-clause-outcome
 returns-clause-outcome g c = (c.run_with_record-ended.result, c.outcome_of.ensures)
 
 pub returns-clause-turn : goal.returns-clause-turn
-returns-clause-turn g c = λ tells kinds registry_of options plan moment agrees seen at read due.
+returns-clause-turn g c = λ tells kinds registry_of options plan moment given at read due.
     let F = g.F.Folder in
     let task = c.args.task.now in
     let start = c.args.folder.now in
@@ -17,4 +17,4 @@ returns-clause-turn g c = λ tells kinds registry_of options plan moment agrees 
     let acts : not c.is_empty-has_actions.result ≡ not (is_empty task.actions) = search rules in
     subst (λ (report : TaskReport). HasTurned (setting_with kinds registry_of (F.may_leave start)) options plan task moment report (F.contents start) (F.failures now) (F.contents now))
     (sym (same_report _ _ _ _ _ _ _ _ c.requires.path c.outcome_of.ensures acts refl))
-    (c.run_with_record-ended.ensures.turn tells kinds registry_of options plan moment agrees seen at read due)
+    (c.run_with_record-ended.ensures.turn tells kinds registry_of options plan moment given at read due)

@@ -32,17 +32,17 @@ returns-in_err-forget-clause-changes g c = λ tells.
     record_in_turn c.args.task.now (F.contents c.args.folder.now) (F.contents c.forget.new.folder) (c.forget.ensures.changes tells)
 
 pub returns-in_err-forget-clause-turn : goal.returns-in_err-forget-clause-turn
-returns-in_err-forget-clause-turn g c = λ tells kinds registry_of options plan moment agrees seen at are_trees are_outputs due.
+returns-in_err-forget-clause-turn g c = λ tells kinds registry_of options plan moment given at are_trees are_outputs due.
     let F = g.F.Folder in
     let task = c.args.task.now in
     let start = c.args.folder.now in
     let now = c.forget.new.folder in
     let memory = moment.world.memory in
-    let records = c.forget.ensures.stands tells seen memory at.records (none_read (recalled memory task.path) true at.read) in
+    let records = c.forget.ensures.stands tells given.tears memory at.records (none_read (recalled memory task.path) true at.read) in
     let p = err_from_is_err_and c.from_residual.result c.from_residual.ensures.1 in
     at_err (λ (r : Result (Unit {0}) Fault). HasTurned (setting_with kinds registry_of (F.may_leave start)) options plan task moment (report_of task r c.args.lines.now) (F.contents start) (F.failures now) (F.contents now))
     c.from_residual.result p.0 c.in_err-forget.field-0.0 p.1 p.2
-    (forgetting_failed kinds registry_of (F.may_leave start) options plan task true moment (F.contents start) (F.failures start) c.args.changes c.requires.not_own c.requires.apart at due
+    (forgetting_failed kinds registry_of (F.may_leave start) options plan task true moment (F.contents start) (F.failures start) c.args.changes c.requires.buildable.not_own c.requires.apart at due
     c.in_err-forget.field-0.0 c.args.lines.now (F.failures start) (F.failures now) (F.contents start) (F.contents now) c.requires.no_lines refl
     (omega arith) c.forget.ensures.asks.count refl (c.in_err-forget.ensures.err tells) (c.forget.ensures.changes tells)
     (subst (λ (r : Result (Unit {0}) Fault). IsForgotten task.path memory r (F.contents now).files) c.in_err-forget.was records))
@@ -56,30 +56,30 @@ returns-in_err-run-clause-changes g c = λ tells.
     (outputs_in_turn task (F.contents c.forget.new.folder) (F.contents c.make_by_changes.new.folder) (c.make_by_changes.ensures.changes tells))
 
 pub returns-in_err-run-clause-turn : goal.returns-in_err-run-clause-turn
-returns-in_err-run-clause-turn g c = λ tells kinds registry_of options plan moment agrees seen at are_trees are_outputs due.
+returns-in_err-run-clause-turn g c = λ tells kinds registry_of options plan moment given at are_trees are_outputs due.
     let F = g.F.Folder in
     let task = c.args.task.now in
     let start = c.args.folder.now in
     let then = c.forget.new.folder in
     let now = c.make_by_changes.new.folder in
     let memory = moment.world.memory in
-    let records = c.forget.ensures.stands tells seen memory at.records (none_read (recalled memory task.path) true at.read) in
+    let records = c.forget.ensures.stands tells given.tears memory at.records (none_read (recalled memory task.path) true at.read) in
     let forgotten : Standing (F.contents then).files (forget memory task.path) =
     subst (λ (r : Result (Unit {0}) Fault). IsForgotten task.path memory r (F.contents then).files) c.in_ok-forget.was records in
     let gone : ChangesOnly (is_at (record_place task.path)) (F.contents start) (F.contents then) = c.forget.ensures.changes tells in
-    let goes = goes_on kinds registry_of (F.may_leave start) options plan task true moment (F.contents start) (F.failures start) c.args.changes c.requires.not_own c.requires.apart at due
-    c.requires.in_order c.as_str-path.ensures.path c.requires.outputs_apart (F.contents then) gone c.args.inputs.trees c.args.outputs.seen are_trees are_outputs in
+    let goes = goes_on kinds registry_of (F.may_leave start) options plan task true moment (F.contents start) (F.failures start) c.args.changes c.requires.buildable.not_own c.requires.apart at due
+    c.requires.buildable.in_order c.as_str-path.ensures.path c.requires.outputs_apart (F.contents then) gone c.args.inputs.trees c.args.outputs.seen are_trees are_outputs in
     let p = err_from_is_err_and c.from_residual-in_err-run.result c.from_residual-in_err-run.ensures.1 in
     at_err (λ (r : Result (Unit {0}) Fault). HasTurned (setting_with kinds registry_of (F.may_leave start)) options plan task moment (report_of task r c.make_by_changes.new.lines) (F.contents start) (F.failures now) (F.contents now))
     c.from_residual-in_err-run.result p.0 c.in_err-run.field-0.0 p.1 p.2
-    (running_failed kinds registry_of (F.may_leave start) options plan task true moment (F.contents start) (F.failures start) c.args.changes c.requires.not_own c.requires.apart at due
+    (running_failed kinds registry_of (F.may_leave start) options plan task true moment (F.contents start) (F.failures start) c.args.changes c.requires.buildable.not_own c.requires.apart at due
     (F.may_leave then) c.make_by_changes.new.lines (F.failures then) (F.contents then) (F.contents now) c.args.inputs.trees
     c.forget.ensures.asks.tearing c.forget.ensures.asks.count gone forgotten
     are_trees (c.make_by_changes.ensures.changes tells)
     (returns-in_err-run-clause-changes g c tells) c.in_err-run.field-0.0 (F.failures now) c.make_by_changes.ensures.asks.count
     (λ place e. c.make_by_changes.ensures.blamed place (c.in_err-run.was ∙ ap Err e))
-    (all_fitting g.A.Actions.meanings kinds c.args.table.now task task.actions g.A.Actions.own_output agrees c.requires.ready)
-    (c.in_err-run.ensures.err tells kinds agrees _ goes))
+    (all_fitting g.A.Actions.meanings kinds c.args.table.now task task.actions g.A.Actions.own_output given.agrees c.requires.buildable.ready)
+    (c.in_err-run.ensures.err tells kinds given.agrees _ goes))
 
 pub returns-clause-changes : goal.returns-clause-changes
 returns-clause-changes g c = λ tells.
@@ -92,7 +92,7 @@ returns-clause-changes g c = λ tells.
     (record_in_turn task (F.contents c.make_by_changes.new.folder) (F.contents c.remember.new.folder) (c.remember.ensures.changes tells))
 
 pub returns-clause-turn : goal.returns-clause-turn
-returns-clause-turn g c = λ tells kinds registry_of options plan moment agrees seen at are_trees are_outputs due.
+returns-clause-turn g c = λ tells kinds registry_of options plan moment given at are_trees are_outputs due.
     let F = g.F.Folder in
     let task = c.args.task.now in
     let start = c.args.folder.now in
@@ -100,23 +100,23 @@ returns-clause-turn g c = λ tells kinds registry_of options plan moment agrees 
     let ran = c.make_by_changes.new.folder in
     let now = c.remember.new.folder in
     let memory = moment.world.memory in
-    let records = c.forget.ensures.stands tells seen memory at.records (none_read (recalled memory task.path) true at.read) in
+    let records = c.forget.ensures.stands tells given.tears memory at.records (none_read (recalled memory task.path) true at.read) in
     let forgotten : Standing (F.contents then).files (forget memory task.path) =
     subst (λ (r : Result (Unit {0}) Fault). IsForgotten task.path memory r (F.contents then).files) c.in_ok-forget.was records in
     let gone : ChangesOnly (is_at (record_place task.path)) (F.contents start) (F.contents then) = c.forget.ensures.changes tells in
-    let goes = goes_on kinds registry_of (F.may_leave start) options plan task true moment (F.contents start) (F.failures start) c.args.changes c.requires.not_own c.requires.apart at due
-    c.requires.in_order c.as_str-path.ensures.path c.requires.outputs_apart (F.contents then) gone c.args.inputs.trees c.args.outputs.seen are_trees are_outputs in
+    let goes = goes_on kinds registry_of (F.may_leave start) options plan task true moment (F.contents start) (F.failures start) c.args.changes c.requires.buildable.not_own c.requires.apart at due
+    c.requires.buildable.in_order c.as_str-path.ensures.path c.requires.outputs_apart (F.contents then) gone c.args.inputs.trees c.args.outputs.seen are_trees are_outputs in
     let changed : ChangesOnly (is_of_turn task) (F.contents start) (F.contents ran) =
     changes_chain (is_of_turn task) (F.contents start) (F.contents then) (F.contents ran)
     (record_in_turn task (F.contents start) (F.contents then) gone)
     (outputs_in_turn task (F.contents then) (F.contents ran) (c.make_by_changes.ensures.changes tells)) in
-    let ended = c.in_ok-run.ensures.ok tells kinds agrees _ goes in
+    let ended = c.in_ok-run.ensures.ok tells kinds given.agrees _ goes in
     let stands : c.in_ok-run.run' ≡ run_now task c.args.inputs.prints.items (F.contents ran).files =
     record_stands kinds task c.args.inputs.trees c.args.inputs.prints.items (F.contents ran).files c.in_ok-run.run'
-    (c.in_ok-run.ensures.made kinds agrees _ (F.contents then).files (g.met.F.Folder.sound then) (g.met.F.Folder.placed then) goes) c.requires.digests
+    (c.in_ok-run.ensures.made kinds given.agrees _ (F.contents then).files (g.met.F.Folder.sound then) (g.met.F.Folder.placed then) goes) c.requires.digests
     (λ held makes. made_stands kinds task c.args.inputs.trees c.args.changes (F.contents then).files c.make_by_changes.new.lines (F.contents ran).files held
     (g.met.F.Folder.sound then).in_order ended makes) in
-    remembering kinds registry_of (F.may_leave start) options plan task true moment (F.contents start) (F.failures start) c.args.changes c.requires.not_own c.requires.apart at due
+    remembering kinds registry_of (F.may_leave start) options plan task true moment (F.contents start) (F.failures start) c.args.changes c.requires.buildable.not_own c.requires.apart at due
     (F.may_leave then) c.make_by_changes.new.lines (F.failures then) (F.contents then) (F.contents ran) c.args.inputs.trees
     c.forget.ensures.asks.tearing c.forget.ensures.asks.count gone forgotten
     are_trees (c.make_by_changes.ensures.changes tells) changed
@@ -128,7 +128,7 @@ returns-clause-turn g c = λ tells kinds registry_of options plan moment agrees 
     c.remember.result
     (subst (λ (run : Remembered). IfErr c.remember.result (IsUnwritten task.path (Some (record_text task.path run)) (F.contents ran).files (F.failures ran) (F.failures now))) stands (c.remember.ensures.err tells))
     c.remember.ensures.outputs
-    (λ m entry stood of. c.remember.ensures.stands tells (seen_later _ _ (SameTearing-chain _ _ _ c.forget.ensures.asks.tearing c.make_by_changes.ensures.asks.tearing) seen) m entry stood
+    (λ m entry stood of. c.remember.ensures.stands tells (seen_later _ _ (SameTearing-chain _ _ _ c.forget.ensures.asks.tearing c.make_by_changes.ensures.asks.tearing) given.tears) m entry stood
     (subst (λ (run : Remembered). IsSaidOf run entry) (sym stands) of))
 
 pub returns-in_err-forget-clause-asks : goal.returns-in_err-forget-clause-asks

@@ -22,27 +22,27 @@ pub take_full_turn-requires-clause-inputs : goal.take_full_turn-requires-clause-
 take_full_turn-requires-clause-inputs g c = inputs_read c.args.task.now c.args.seen c.args.decision c.requires.due c.requires.read
 
 pub returns-then-goes_by_changes-clause-turn : goal.returns-then-goes_by_changes-clause-turn
-returns-then-goes_by_changes-clause-turn g c = λ tells kinds registry_of plan moment agrees seen at case case_for runs stands known.
+returns-then-goes_by_changes-clause-turn g c = λ tells kinds registry_of plan moment given at case case_for runs stands known.
     let F = g.F.Folder in
     let task = c.args.task.now in
     let files = (F.contents c.args.folder.now).files in
     let changes = c.goes_by_changes.ensures.decided c.if-goes_by_changes.true in
-    c.take_turn_by_changes.ensures.turn tells kinds registry_of plan moment agrees seen
+    c.take_turn_by_changes.ensures.turn tells kinds registry_of plan moment given
     (subst (λ (o : Option (Bor Record)). ComesAt task (is_some (option_copied o)) (F.contents c.args.folder.now) (F.failures c.args.folder.now) moment) c.in-Some.is at)
     (inputs_stand task files c.args.seen c.args.decision c.requires.due stands) (outputs_stand task files c.args.seen c.args.decision changes.0 changes.1 stands)
-    (due_to_go_on kinds c.args.options task moment.world c.args.decision changes.0 _ changes.1 case case_for (c.goes_by_changes.ensures.agreed kinds agrees ∙ c.if-goes_by_changes.true)
+    (due_to_go_on kinds c.args.options task moment.world c.args.decision changes.0 _ changes.1 case case_for (c.goes_by_changes.ensures.agreed kinds given.agrees ∙ c.if-goes_by_changes.true)
     (subst (λ (o : Option (Bor Record)). IsKnown kinds task moment.world (option_copied o)) c.in-Some.is known))
 
 pub returns-clause-turn : goal.returns-clause-turn
-returns-clause-turn g c = λ tells kinds registry_of plan moment agrees seen at case case_for runs stands known.
+returns-clause-turn g c = λ tells kinds registry_of plan moment given at case case_for runs stands known.
     let F = g.F.Folder in
     let task = c.args.task.now in
-    c.take_full_turn.ensures.turn tells kinds registry_of c.args.options plan moment agrees seen
+    c.take_full_turn.ensures.turn tells kinds registry_of c.args.options plan moment given
     (subst (λ (b : Bool). ComesAt task b (F.contents c.args.folder.now) (F.failures c.args.folder.now) moment) (copied_some c.args.last ∙ sym c.is_some.ensures) at)
     (inputs_stand task (F.contents c.args.folder.now).files c.args.seen c.args.decision c.requires.due stands)
     (elim c.match-last.branch [
       | in-Some+else-goes_by_changes w ↦
-          due_in_full kinds c.args.options task moment.world c.args.decision case runs (w.goes_by_changes.ensures.agreed kinds agrees ∙ w.if-goes_by_changes.false)
+          due_in_full kinds c.args.options task moment.world c.args.decision case runs (w.goes_by_changes.ensures.agreed kinds given.agrees ∙ w.if-goes_by_changes.false)
       | in_default w ↦ due_anew kinds c.args.options task moment.world c.args.decision case runs (none_known kinds task moment.world c.args.last w.in_default.not-Some known)
     ])
 

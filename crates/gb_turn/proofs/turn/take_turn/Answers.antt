@@ -6,7 +6,7 @@ use Rattle.gb_turn.specs.Turned.{ComesAt, HasTurned, setting_with}
 use Rattle.gb_turn.proofs.Answered.{cleared_not_current, run_not_current}
 use Rattle.gb_turn.proofs.Answering.{cleared_answers, run_answers, told_answers}
 use Rattle.gb_turn.proofs.Later.{cleared_started, comes_later, copied_some, run_started, told_turned, turned_before}
-use Rattle.gb_turn.proofs.Recorded.{seen_later}
+use Rattle.gb_turn.proofs.Recorded.{granted_later, seen_later}
 use Rattle.gb_folder.proofs.Asked.{asks_reading, asks_then}
 use Rattle.gb_turn.specs.Asking.{HasRead}
 use Rattle.gb_turn.proofs.Asking.{asks_once, source_read, taken_in_turn}
@@ -27,7 +27,7 @@ pub returns-in-Due-clause-answer : goal.returns-in-Due-clause-answer
 returns-in-Due-clause-answer g c = run_answers c.args.options c.args.task.now c.run.result c.run.ensures.outcome
 
 pub returns-in-Told-clause-turn : goal.returns-in-Told-clause-turn
-returns-in-Told-clause-turn g c = λ tells kinds registry_of plan moment agrees seen at needed known.
+returns-in-Told-clause-turn g c = λ tells kinds registry_of plan moment given at needed known.
     let F = g.F.Folder in
     let start = c.args.folder.now in
     let now = c.settle.new.folder in
@@ -35,7 +35,7 @@ returns-in-Told-clause-turn g c = λ tells kinds registry_of plan moment agrees 
     (c.settle.ensures.same tells) (c.in-Told.ensures.settled tells kinds registry_of plan moment at.folder at.failures needed known)
 
 pub returns-in-Sourceless-clause-turn : goal.returns-in-Sourceless-clause-turn
-returns-in-Sourceless-clause-turn g c = λ tells kinds registry_of plan moment agrees seen at needed known.
+returns-in-Sourceless-clause-turn g c = λ tells kinds registry_of plan moment given at needed known.
     let F = g.F.Folder in
     let task = c.args.task.now in
     let start = c.args.folder.now in
@@ -48,7 +48,7 @@ returns-in-Sourceless-clause-turn g c = λ tells kinds registry_of plan moment a
     turned_before kinds registry_of (F.may_leave start) (F.may_leave then) c.settle.ensures.asks.tearing c.args.options plan task moment (F.failures then)
     (subst (λ (n : ℕ). n ≤ F.failures then) (sym at.failures) c.settle.ensures.asks.count) c.take_turn_without_source.result (F.contents start) (F.failures now) (F.contents now) c.take_turn_without_source.ensures.asks.count
     (subst (λ (folder : Contents). HasTurned (setting_with kinds registry_of (F.may_leave then)) c.args.options plan task later c.take_turn_without_source.result folder (F.failures now) (F.contents now)) same
-    (c.take_turn_without_source.ensures.turn tells kinds registry_of c.args.options plan later (seen_later _ _ c.settle.ensures.asks.tearing seen) came
+    (c.take_turn_without_source.ensures.turn tells kinds registry_of c.args.options plan later (seen_later _ _ c.settle.ensures.asks.tearing given.tears) came
     (c.in-Sourceless.ensures.settled tells kinds registry_of plan moment at.folder at.failures needed known)))
 
 pub run-requires-clause-due : goal.run-requires-clause-due
@@ -58,7 +58,7 @@ pub run-requires-clause-read : goal.run-requires-clause-read
 run-requires-clause-read g c = c.in-Due.ensures.of_task.2
 
 pub returns-in-Due-clause-turn : goal.returns-in-Due-clause-turn
-returns-in-Due-clause-turn g c = λ tells kinds registry_of plan moment agrees seen at needed known.
+returns-in-Due-clause-turn g c = λ tells kinds registry_of plan moment given at needed known.
     let F = g.F.Folder in
     let task = c.args.task.now in
     let start = c.args.folder.now in
@@ -71,7 +71,7 @@ returns-in-Due-clause-turn g c = λ tells kinds registry_of plan moment agrees s
     turned_before kinds registry_of (F.may_leave start) (F.may_leave then) c.settle.ensures.asks.tearing c.args.options plan task moment (F.failures then)
     (subst (λ (n : ℕ). n ≤ F.failures then) (sym at.failures) c.settle.ensures.asks.count) c.run.result (F.contents start) (F.failures now) (F.contents now) (c.run.ensures.asks start c.settle.ensures.asks c.in-Due.ensures.answered.0 c.in-Due.ensures.answered.1).count
     (subst (λ (folder : Contents). HasTurned (setting_with kinds registry_of (F.may_leave then)) c.args.options plan task later c.run.result folder (F.failures now) (F.contents now)) same
-    (c.run.ensures.turn tells kinds registry_of plan later agrees (seen_later _ _ c.settle.ensures.asks.tearing seen) came due.0 due.1 due.2
+    (c.run.ensures.turn tells kinds registry_of plan later (granted_later _ _ c.settle.ensures.asks.tearing given) came due.0 due.1 due.2
     (subst (λ (folder : Contents). IsSeenFor task folder.files c.in-Due.seen c.in-Due.decision) (sym same) due.3) known))
 
 pub returns-in-Told-clause-started : goal.returns-in-Told-clause-started

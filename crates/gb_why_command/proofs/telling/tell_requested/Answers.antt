@@ -1,7 +1,7 @@
 use Rattle.std.proofs.Common.{List, IfErr, false, inl, inr, sym, subst}
 use Rattle.std.proofs.lemmas.Result.{err_from_is_err_and}
 use Rattle.std.specs.List.{AllByRecursion}
-use Rattle.gb_exec.specs.Building.{IsBuildable}
+use Rattle.gb_turn.specs.Buildable.{IsBuildable}
 use Rattle.gb_graph.specs.Answer.{IsRefusalOf}
 use Rattle.gb_build.proofs.Planning.{can_build}
 use Rattle.gb_build.specs.Refusing.{IsUnread}
