@@ -6,7 +6,7 @@
 macro_rules! builtin_actions {
     ($alloc:expr) => {{
         let alloc = $alloc;
-        let (print_line, write_text, fail, concat, add_file) = crate::boxes::five(
+        let (print_line, write_text, fail, concat, add_file) = gb_answer::boxes::five(
             alloc,
             gb_kinds::texts::print_line,
             gb_kinds::texts::write_text,
@@ -14,7 +14,7 @@ macro_rules! builtin_actions {
             gb_kinds::files::concat,
             gb_kinds::files::add_file,
         )?;
-        let (copy_files, replace_tokens, keep_lines, sums, word_index) = crate::boxes::five(
+        let (copy_files, replace_tokens, keep_lines, sums, word_index) = gb_answer::boxes::five(
             alloc,
             gb_kinds::files::copy_files,
             gb_kinds::files::replace_tokens,
@@ -22,7 +22,7 @@ macro_rules! builtin_actions {
             gb_kinds::files::sums,
             gb_kinds::files::word_index,
         )?;
-        crate::in_memory!(gb_kinds::table::action_table(
+        gb_answer::in_memory!(gb_kinds::table::action_table(
             alloc,
             print_line,
             write_text,
@@ -43,7 +43,7 @@ macro_rules! builtin_actions {
 macro_rules! builtin_functions {
     ($alloc:expr) => {{
         let alloc = $alloc;
-        let (upper, append, non_empty, split, join) = crate::boxes::five(
+        let (upper, append, non_empty, split, join) = gb_answer::boxes::five(
             alloc,
             gb_kinds::functions::upper,
             gb_kinds::functions::append,
@@ -51,7 +51,7 @@ macro_rules! builtin_functions {
             gb_kinds::functions::split,
             gb_kinds::functions::join,
         )?;
-        let (child, output, concat, is_true, equals) = crate::boxes::five(
+        let (child, output, concat, is_true, equals) = gb_answer::boxes::five(
             alloc,
             gb_kinds::functions::child,
             gb_kinds::functions::output,
@@ -59,7 +59,7 @@ macro_rules! builtin_functions {
             gb_kinds::functions::is_true,
             gb_kinds::functions::equals,
         )?;
-        crate::in_memory!(gb_kinds::function_table::function_table(
+        gb_answer::in_memory!(gb_kinds::function_table::function_table(
             alloc,
             upper,
             append,

@@ -11,11 +11,11 @@
 
 pub mod building;
 mod dry;
-pub mod heard_laws;
+mod heard_laws;
 pub mod listener;
 mod one;
 mod plans;
-pub mod start_laws;
+mod start_laws;
 mod starts;
 pub mod telling;
 mod turns;
