@@ -31,7 +31,7 @@ ROOTS = [
     ("gb_meaning", "Kinds"),
     ("gb_records", "Said"),
     ("gb_history", "Places"),
-    ("gb_invocation", "Scripts"),
+    ("gb_build", "Registering"),
     ("gb_registry", "Tables"),
 ]
 faults = []
