@@ -29,7 +29,7 @@ pub use Rattle.gb_printer.specs.Printing.{Prints, parts_text}
 pub use Rattle.gb_records.specs.Said.{IsText}
 pub use Rattle.gb_registry.specs.Configure.{configure_faults}
 pub use Rattle.gb_registry.specs.Tables.{tables_of}
-pub use Rattle.gb_turn.specs.Granted.{IsGranted}
+pub use Rattle.gb_records.specs.Granted.{IsGranted}
 pub use Rattle.gb_report.specs.Fault.{fault_number, fault_text}
 pub use Rattle.gb_report.specs.Report.{report_text}
 pub use Rattle.gb_report.specs.declared.fault.Fault.{Fault}

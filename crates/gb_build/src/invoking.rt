@@ -13,7 +13,7 @@ ghost use Rattle.gb_meaning.specs.Kinds.{Kinds};
 ghost use Rattle.gb_meaning.specs.Outline.{IsOutlined};
 ghost use Rattle.gb_printer.specs.Printing.{Prints, parts_text};
 ghost use Rattle.gb_registry.specs.Tables.{tables_of};
-ghost use Rattle.gb_turn.specs.Granted.{IsGranted};
+ghost use Rattle.gb_records.specs.Granted.{IsGranted};
 ghost use Rattle.gb_turn.specs.Turned.{setting_with};
 ghost use Rattle.gb_declare.specs.Registered.{registry_said};
 ghost use Rattle.gb_build.specs.InvocationAsked.{InvocationAsks};

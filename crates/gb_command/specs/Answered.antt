@@ -16,7 +16,7 @@ use Rattle.gb_plan.specs.Ready.{Rows}
 use Rattle.gb_registry.specs.Tables.{Tables}
 use Rattle.gb_report.specs.declared.fault.Fault.{Fault}
 use Rattle.gb_report.specs.declared.report.Report.{Report}
-use Rattle.gb_turn.specs.Granted.{IsGranted}
+use Rattle.gb_records.specs.Granted.{IsGranted}
 use Rattle.gb_words.specs.Faults.{IsFirstFault}
 use Rattle.gb_words.specs.Words.{IsAsked, words_faults}
 

@@ -16,7 +16,7 @@ pub use Rattle.gb_printer.specs.Printing.{Prints, parts_text}
 pub use Rattle.gb_records.specs.Said.{IsText}
 pub use Rattle.gb_store.specs.Changes.{ChangesOnly}
 pub use Rattle.gb_turn.specs.Buildable.{IsBuildable}
-pub use Rattle.gb_turn.specs.Granted.{IsGranted}
+pub use Rattle.gb_records.specs.Granted.{IsGranted}
 pub use Rattle.gb_turn.specs.Turned.{Registering, setting_with}
 pub use Rattle.gb_report.specs.declared.report.Heard.{Heard}
 pub use Rattle.gb_report.specs.declared.report.Options.{Options}

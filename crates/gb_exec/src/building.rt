@@ -10,7 +10,7 @@ ghost use Rattle.gb_meaning.specs.Outline.{Outlines};
 ghost use Rattle.gb_plan.specs.Graph.{order};
 ghost use Rattle.gb_printer.specs.Printing.{Prints, parts_text};
 ghost use Rattle.gb_store.specs.Changes.{ChangesOnly};
-ghost use Rattle.gb_turn.specs.Granted.{IsGranted};
+ghost use Rattle.gb_records.specs.Granted.{IsGranted};
 ghost use Rattle.gb_turn.specs.Turned.{Registering, setting_with};
 ghost use Rattle.gb_exec.specs.Asking.{WereCurrent, in_build};
 ghost use Rattle.gb_exec.specs.Building.{CanBuild, is_of_turns};

@@ -1,7 +1,7 @@
 //! The turn of one task of a plan.
 ghost use Rattle.std.specs.Prelude.{◌≡◌, ◌<◌, [], ◌∷◌, ℕ, List, None, Some, false, map, length};
 ghost use Rattle.std.specs.Prelude.{slice_get, slice_index_or, IsTrue};
-ghost use Rattle.gb_turn.specs.Granted.{IsGranted};
+ghost use Rattle.gb_records.specs.Granted.{IsGranted};
 ghost use Rattle.gb_turn.specs.Case.{IsKnown};
 ghost use Rattle.gb_folder.specs.Calls.{Asks, changes_at};
 ghost use Rattle.gb_folder.specs.Files.{HasRisen};

@@ -18,7 +18,7 @@ ghost use Rattle.gb_report.specs.Report.{task_text};
 ghost use Rattle.gb_exec.specs.Plans.{AreOfPlan};
 ghost use Rattle.gb_exec.specs.declared.starts.Ending.TheVariants.{ToCome};
 ghost use Rattle.gb_store.specs.Changes.{ChangesOnly};
-ghost use Rattle.gb_turn.specs.Granted.{IsGranted};
+ghost use Rattle.gb_records.specs.Granted.{IsGranted};
 ghost use Rattle.gb_turn.specs.Turned.{Registering, setting_with};
 ghost use Rattle.gb_exec.specs.Asking.{WereCurrent, in_turns};
 ghost use Rattle.gb_exec.specs.Building.{CanBuild, is_of_turns};

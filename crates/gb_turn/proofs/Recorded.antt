@@ -18,7 +18,7 @@ use Rattle.gb_records.specs.Said.{IsText}
 use Rattle.gb_records.specs.Standing.{Standing}
 use Rattle.gb_run.specs.Digests.{prints_at}
 use Rattle.gb_label.specs.Reading.{digests_in, recorded_of, records_with}
-use Rattle.gb_turn.specs.Granted.{IsGranted}
+use Rattle.gb_records.specs.Granted.{IsGranted}
 use Rattle.gb_turn.specs.Keeping.{IsRecordOf, run_now}
 
 -- tears that are seen before a call are seen after it

@@ -8,7 +8,6 @@ pub mod Turned
 pub mod Settled
 pub mod Anew
 pub mod Buildable
-pub mod Granted
 pub mod Asking
 pub mod Truth
 pub mod Current

@@ -11,7 +11,7 @@ ghost use Rattle.gb_plan.specs.Task.{is_output_of, output_places};
 ghost use Rattle.gb_report.specs.declared.report.Outcome.TheVariants.{Failed};
 ghost use Rattle.gb_store.specs.Changes.{ChangesOnly};
 ghost use Rattle.gb_store.specs.Faults.{Blames, BlamesOnly};
-ghost use Rattle.gb_turn.specs.Granted.{IsGranted};
+ghost use Rattle.gb_records.specs.Granted.{IsGranted};
 ghost use Rattle.gb_turn.specs.Buildable.{IsBuildable};
 ghost use Rattle.gb_turn.specs.Asking.{HasRead, IsTextAnew, in_turn_with, once};
 ghost use Rattle.gb_turn.specs.Turned.{ComesAt, HasTurned, IsToGoOn, IsToldOf, Registering, is_of_turn};

@@ -15,7 +15,7 @@ ghost use Rattle.gb_report.specs.declared.report.Outcome.TheVariants.{Failed};
 ghost use Rattle.gb_run.specs.Course.{EndsWell, Fails, course_of};
 ghost use Rattle.gb_store.specs.Changes.{ChangesOnly};
 ghost use Rattle.gb_store.specs.Faults.{Blames, BlamesOnly};
-ghost use Rattle.gb_turn.specs.Granted.{IsGranted};
+ghost use Rattle.gb_records.specs.Granted.{IsGranted};
 ghost use Rattle.gb_turn.specs.Buildable.{IsBuildable};
 ghost use Rattle.gb_turn.specs.Asking.{HasRead, IsInFull, IsTextIn, in_turn_with, once};
 ghost use Rattle.gb_turn.specs.Keeping.{IsRecordOf};

@@ -19,7 +19,7 @@ ghost use Rattle.gb_report.specs.declared.report.Options.{Options};
 ghost use Rattle.gb_run.specs.Course.{EndsWell, course_of};
 ghost use Rattle.gb_store.specs.Changes.{ChangesOnly};
 ghost use Rattle.gb_store.specs.Faults.{Blames, BlamesOnly};
-ghost use Rattle.gb_turn.specs.Granted.{IsGranted};
+ghost use Rattle.gb_records.specs.Granted.{IsGranted};
 ghost use Rattle.gb_turn.specs.Buildable.{IsBuildable};
 ghost use Rattle.gb_turn.specs.Asking.{IsTextBy, in_turn_with};
 ghost use Rattle.gb_turn.specs.Keeping.{IsRecordOf};

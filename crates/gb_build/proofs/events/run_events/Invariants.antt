@@ -8,7 +8,7 @@ use Rattle.gb_meaning.specs.declared.events.Event.{Event}
 use Rattle.gb_meaning.specs.Edits.{Shown}
 use Rattle.gb_meaning.specs.Headline.{AllKeepElsewhere, HasFailed, HaveHeardAll, times_blamed_in_all}
 use Rattle.gb_meaning.specs.Kinds.{Kinds}
-use Rattle.gb_turn.specs.Granted.{IsGranted}
+use Rattle.gb_records.specs.Granted.{IsGranted}
 use Rattle.gb_registry.specs.Tables.{tables_of}
 use Rattle.gb_build.specs.EventAsked.{EventsAsk}
 use Rattle.gb_build.specs.Answers.{AnswerIsOutlined}

@@ -4,7 +4,7 @@ use Rattle.gb_folder.specs.Files.{Contents, is_own}
 use Rattle.gb_build.specs.Leading.{Leads}
 use Rattle.gb_build.specs.Refusing.{IsNotBegun}
 use Rattle.gb_build.proofs.Leading.{led_holds}
-use Rattle.gb_turn.specs.Granted.{IsGranted}
+use Rattle.gb_records.specs.Granted.{IsGranted}
 use Rattle.gb_turn.proofs.Recorded.{granted_later}
 use Rattle.gb_build.proofs.Refusing.{not_built}
 use Rattle.gb_meaning.proofs.Lemmas.Plain.{headline}

@@ -15,7 +15,7 @@ use Rattle.gb_printer.specs.Printing.{Prints}
 use Rattle.gb_report.specs.Report.{task_text}
 use Rattle.gb_exec.specs.Plans.{AreEndings, AreOfPlan}
 use Rattle.gb_store.specs.Changes.{ChangesOnly}
-use Rattle.gb_turn.specs.Granted.{IsGranted}
+use Rattle.gb_records.specs.Granted.{IsGranted}
 use Rattle.gb_turn.specs.Turned.{Registering}
 use Rattle.gb_exec.specs.Asking.{WereCurrent, in_turns}
 use Rattle.gb_exec.specs.Building.{is_of_turns}
