@@ -9,9 +9,9 @@ ghost use Rattle.gb_meaning.specs.Headline.{AllKeepElsewhere, EventKeeps, Events
 ghost use Rattle.gb_meaning.specs.Headline.{HasFailed, answer_of, times_blamed};
 ghost use Rattle.gb_meaning.specs.Headline.{times_blamed_in_all};
 ghost use Rattle.gb_meaning.specs.Kinds.{Kinds};
+ghost use Rattle.gb_records.specs.Granted.{IsGranted};
 ghost use Rattle.gb_registry.specs.Tables.{tables_of};
 ghost use Rattle.gb_build.specs.EventAsked.{EventAsks, EventsAsk};
-ghost use Rattle.gb_records.specs.Granted.{IsGranted};
 ghost use Rattle.gb_build.specs.Answers.{AnswerIsOutlined, edit_answer};
 
 use crate::edits::{lose, put, remove};
