@@ -29,8 +29,7 @@ ROOTS = [
     ("gb_meaning", "Every"),
     ("gb_meaning", "Headline"),
     ("gb_meaning", "Kinds"),
-    ("gb_records", "Said"),
-    ("gb_history", "Places"),
+    ("gb_records", "Granted"),
     ("gb_build", "Registering"),
     ("gb_registry", "Tables"),
 ]

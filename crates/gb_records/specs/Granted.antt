@@ -10,7 +10,7 @@ use Rattle.gb_records.specs.Said.{IsText}
 
 -- The kinds say of each action of the table what its meaning does, and a record that a stopped write left is
 -- seen for what it is.
-pub record IsGranted {S : Type 0} (meanings : Meanings S) (rows : Rows S) (kinds : Kinds) (may_leave : Tearing)
-    : Type 0 where
+pub record IsGranted {S : Type 0} (meanings : Meanings S) (rows : Rows S) (kinds : Kinds)
+    (may_leave : Tearing) : Type 0 where
   pub agrees : Agrees meanings rows kinds
   pub tears : TearsAreSeen IsText record_place may_leave
