@@ -37,10 +37,11 @@ use Rattle.gb_records.specs.Standing.{Standing}
 use Rattle.gb_report.specs.declared.report.Options.{Options}
 use Rattle.gb_run.specs.AskingChanges.{GoesOn, request_of, seen_of}
 use Rattle.gb_run.proofs.Looks.{find_kept, same_place}
+use Rattle.gb_run.proofs.Owned.{narrowed}
 use Rattle.gb_store.specs.Changes.{ChangesOnly, is_at}
 use Rattle.gb_turn.proofs.Outside.{kept}
 use Rattle.gb_turn.proofs.Own.{is_kept, kept_at}
-use Rattle.gb_turn.proofs.Parts.{from_same, narrowed}
+use Rattle.gb_turn.proofs.Part.{from_same}
 use Rattle.gb_turn.proofs.Taken.{taken_kept}
 
 -- ---- properties by name

@@ -23,7 +23,7 @@ use Rattle.gb_turn.specs.Turned.{report_of}
 
 -- ---- the case before any record is looked at
 
-abbrev cased : Bool → Bool → List Fault → Bool → Option Early
+abbrev pub cased : Bool → Bool → List Fault → Bool → Option Early
 cased runs idle hindrances dry =
     if not runs then Some Skips
     else if idle then Some HasNoActions
@@ -87,7 +87,7 @@ pub take_whole : {X : Type 0} (xs : List X) → take (length xs) xs ≡ xs
 take_whole [] = refl
 take_whole (x ∷ xs) = ap (λ ys. x ∷ ys) (take_whole xs)
 
-same_fault : (one other : Fault) → outcomes.Failed one ≡ outcomes.Failed other → one ≡ other
+pub same_fault : (one other : Fault) → outcomes.Failed one ≡ outcomes.Failed other → one ≡ other
 same_fault one other e = cc
 
 -- the lines that these actions print in the run of the task on these files
