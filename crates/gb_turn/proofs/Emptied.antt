@@ -28,6 +28,7 @@ use Rattle.gb_report.specs.declared.report.Options.{Options}
 use Rattle.gb_report.specs.declared.report.Outcome.TheVariants as outcomes
 use Rattle.gb_report.specs.declared.report.TaskReport.{TaskReport}
 use Rattle.gb_run.specs.Emptying.{CannotEmpty}
+use Rattle.gb_run.proofs.Placed.{none_after}
 use Rattle.gb_run.proofs.CutEmptying.{cut_emptyings_invent_nothing, torn_places_are_of_the_emptying}
 use Rattle.gb_store.specs.Changes.{ChangesOnly}
 use Rattle.gb_store.specs.Faults.{IsOfMachine}
@@ -57,7 +58,7 @@ dry : (task : Task) (folder : Contents) → early_case task folder ≡ Some HasN
 dry task folder case = record {
   runs = runs_if task.runs (is_empty task.actions) there (has_no_source task folder.files) case;
   acts = acts_if task.runs (is_empty task.actions) there (has_no_source task folder.files) case;
-  listed = behind (input_faults task folder) (listing_faults task folder) (free_if task.runs (is_empty task.actions) there (has_no_source task folder.files) case);
+  listed = none_after (input_faults task folder) (listing_faults task folder) (free_if task.runs (is_empty task.actions) there (has_no_source task folder.files) case);
 }
   where
     there : List Fault
@@ -77,10 +78,6 @@ dry task folder case = record {
     free_if true true hindrances b e = not_true (ap is_dry e)
     free_if true false [] b e = refl
     free_if true false (f ∷ fs) b e = not_true (ap is_dry e)
-
-    behind : (xs ys : List Fault) → xs ++ ys ≡ [] → ys ≡ []
-    behind [] ys e = e
-    behind (x ∷ xs) ys e = not_false (sym (ap is_empty e))
 
 -- what is told
 abbrev pub told_of : Task → Result (Unit {0}) Fault → TaskReport

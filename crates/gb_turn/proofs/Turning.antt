@@ -19,6 +19,7 @@ use Rattle.gb_report.specs.declared.fault.Fault.TheVariants as faults
 use Rattle.gb_report.specs.declared.report.Options.{Options}
 use Rattle.gb_report.specs.declared.report.Outcome.TheVariants as outcomes
 use Rattle.gb_meaning.proofs.Common.{none_some}
+use Rattle.gb_run.proofs.Placed.{none_after, none_before}
 use Rattle.gb_turn.specs.Turned.{report_of}
 
 -- ---- the case before any record is looked at
@@ -43,8 +44,8 @@ pub goes : (task : Task) (folder : Contents) → early_case task folder ≡ None
 goes task folder none = record {
   runs = runs_if task.runs (is_empty task.actions) faults_there (has_no_source task folder.files) none;
   acts = acts_if task.runs (is_empty task.actions) faults_there (has_no_source task folder.files) none;
-  readable = front (input_faults task folder) (listing_faults task folder) (free_if task.runs (is_empty task.actions) faults_there (has_no_source task folder.files) none);
-  listed = behind (input_faults task folder) (listing_faults task folder) (free_if task.runs (is_empty task.actions) faults_there (has_no_source task folder.files) none);
+  readable = none_before (input_faults task folder) (listing_faults task folder) (free_if task.runs (is_empty task.actions) faults_there (has_no_source task folder.files) none);
+  listed = none_after (input_faults task folder) (listing_faults task folder) (free_if task.runs (is_empty task.actions) faults_there (has_no_source task folder.files) none);
   source = source_if task.runs (is_empty task.actions) faults_there (has_no_source task folder.files) none;
 }
   where
@@ -72,14 +73,6 @@ goes task folder none = record {
     source_if true false [] true e = none_some (sym e)
     source_if true false [] false e = refl
     source_if true false (f ∷ fs) dry e = none_some (sym e)
-
-    front : (xs ys : List Fault) → xs ++ ys ≡ [] → xs ≡ []
-    front [] ys e = refl
-    front (x ∷ xs) ys e = not_false (sym (ap is_empty e))
-
-    behind : (xs ys : List Fault) → xs ++ ys ≡ [] → ys ≡ []
-    behind [] ys e = e
-    behind (x ∷ xs) ys e = not_false (sym (ap is_empty e))
 
 -- ---- how it ended
 
