@@ -1,10 +1,8 @@
 -- An invocation passes to what scripts register elsewhere, if here they register the same.
 use Rattle.std.specs.Prelude.{ℕ, ◌≡◌, ◌≤◌, Bool, IsTrue, List, Err, Ok, Result}
 use Rattle.std.proofs.Common.{refl, sym, subst, inl, inr}
-use Rattle.sha2.specs.Sha256.{sha256}
 use Rattle.gb_folder.specs.Files.{Contents, Files, SameTearing, Tearing}
 use Rattle.gb_folder.proofs.Changes.{HasRisen-before}
-use Rattle.gb_history.specs.Places.{record_place}
 use Rattle.gb_meaning.specs.declared.events.Answer.TheVariants as answers
 use Rattle.gb_meaning.specs.declared.events.Event.TheVariants as events
 use Rattle.gb_meaning.specs.declared.events.Invocation.{Invocation}
@@ -22,23 +20,11 @@ use Rattle.gb_build.proofs.Earlier.{builds_since}
 use Rattle.gb_build.proofs.Leading.{nothing_leads}
 use Rattle.gb_plan.specs.Graph.{Plan, Registry}
 use Rattle.gb_plan.specs.declared.task.TaskDeclaration.{TaskDeclaration as Task}
-use Rattle.gb_records.specs.Said.{IsText, text_of}
 use Rattle.gb_report.specs.declared.fault.Fault.{Fault}
 use Rattle.gb_report.specs.declared.fault.Fault.TheVariants as faults
 use Rattle.gb_report.specs.declared.report.Options.{Options}
 use Rattle.gb_report.specs.declared.report.Report.{Report}
-
--- what an invocation is about, where scripts register so
-abbrev pub setting_by : Kinds → Registering → Tearing → Setting
-setting_by kinds registers may_leave = record {
-  kinds = kinds;
-  registers = registers;
-  digest = sha256;
-  says = IsText;
-  record_place = record_place;
-  record_text = text_of;
-  may_leave = may_leave;
-}
+use Rattle.gb_turn.specs.Turned.{setting_by}
 
 -- scripts that register these tasks in every folder
 abbrev pub always : Registry → Registering

@@ -1,14 +1,12 @@
 -- What an invocation is about, where the scripts of a folder say what is registered.
 use Rattle.std.specs.Prelude.{◌≡◌, Ok, Err}
-use Rattle.sha2.specs.Sha256.{sha256}
 use Rattle.gb_folder.specs.Files.{Tearing}
-use Rattle.gb_history.specs.Places.{record_place}
 use Rattle.gb_meaning.specs.Events.{Setting}
 use Rattle.gb_meaning.specs.Headline.{Registering}
 use Rattle.gb_meaning.specs.Kinds.{Kinds}
-use Rattle.gb_records.specs.Said.{IsText, text_of}
 use Rattle.gb_registry.specs.Source.{Source}
 use Rattle.gb_registry.specs.Tables.{Tables}
+use Rattle.gb_turn.specs.Turned.{setting_by}
 use Rattle.gb_build.specs.Scripts.{FolderSays}
 use Rattle.gb_declare.specs.Registered.{registry_said}
 
@@ -20,12 +18,4 @@ registers_in tables files given (Err fault) = FolderSays tables files given (Err
 
 -- what an invocation is about, with records as they stand in a folder
 abbrev pub setting_of : {M F Z S A : Type 0} → Tables M F Z S A → Kinds → Tearing → Setting
-setting_of tables kinds may_leave = record {
-  kinds = kinds;
-  registers = registers_in tables;
-  digest = sha256;
-  says = IsText;
-  record_place = record_place;
-  record_text = text_of;
-  may_leave = may_leave;
-}
+setting_of tables kinds may_leave = setting_by kinds (registers_in tables) may_leave

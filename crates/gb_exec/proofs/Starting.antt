@@ -11,7 +11,7 @@ use Rattle.gb_report.specs.Outcome.{is_executed, is_failed, is_started}
 use Rattle.gb_plan.specs.declared.plan.Planned.{Planned}
 use Rattle.gb_plan.specs.Task.{Path, has_path}
 use Rattle.gb_plan.specs.Graph.{no_repeats, order, needs_in, is_scheduled_in, Reached, start, step}
-use Rattle.gb_plan.proofs.Tests.{not_true, in_filter, into_filter, any_map}
+use Rattle.gb_plan.proofs.Tests.{not_true, left_of, right_of, in_filter, into_filter, any_map}
 use Rattle.gb_meaning.specs.Label.{Moment, some_outcome}
 use Rattle.gb_meaning.specs.Turn as meant
 use Rattle.gb_exec.specs.declared.starts.Ending.{Ending}
@@ -76,18 +76,9 @@ module _ (plan : List Planned) (progress : Progress) (moment : Moment) (some_pla
         let ended = endings.ended found.0 entry found.2 in (
           found.0,
           ended.0,
-          ap (has_path paths) (sym ended.1) ∙ first (has_path paths entry.0) (test entry.1) found.3,
-          ap ends ended.2 ∙ sym (agree entry.1) ∙ second (has_path paths entry.0) (test entry.1) found.3,
+          ap (has_path paths) (sym ended.1) ∙ left_of (has_path paths entry.0) (test entry.1) found.3,
+          ap ends ended.2 ∙ sym (agree entry.1) ∙ right_of (has_path paths entry.0) (test entry.1) found.3,
         )
-      where
-        first : (a b : Bool) → (a && b) ≡ true → a ≡ true
-        first true b e = refl
-        first false b e = e
-
-        second : (a b : Bool) → (a && b) ≡ true → b ≡ true
-        second true b e = e
-        second false b e = not_true e
-
     module _ (none_to_come : ends ToCome ≡ false) where
       came : (number : ℕ) → ends (ending_in progress.endings number) ≡ true → (entry : Path × Outcome) × (slice_get moment.outcomes number ≡ Some entry)
       came number h = elim (cases_order number (length moment.outcomes)) [

@@ -1,7 +1,6 @@
 //! A task that is compared with its record.
 ghost use Rattle.std.specs.Prelude.{◌≡◌, ◌≢◌, [], map, false, true, IfErr, IfOk, IsTrue, OnErr, OnOk, Some};
 ghost use Rattle.std.specs.List.{list_any};
-ghost use Rattle.gb_turn.specs.Turns.{goes_by_changes};
 ghost use Rattle.gb_folder.specs.Calls.{Asks, no_change};
 ghost use Rattle.gb_folder.specs.Files.{is_own};
 ghost use Rattle.gb_foretell.specs.Explained.{IsExplained};
@@ -30,8 +29,8 @@ use gb_plan::task::TaskDeclaration;
 use gb_reason::explain::explain;
 use gb_report::fault::Fault;
 use gb_report::report::Options;
-use gb_run::asking_changes::has_one_writer;
 use gb_tree::kept::Reading;
+use gb_turn::turn::goes_by_changes;
 use std::alloc::{AllocError, Global};
 
 /// What a task comes to by this record, its inputs and its outputs as they stand.
@@ -150,20 +149,4 @@ fn due<A: Actions>(
     let reasons = explain(alloc, Some(run), present)?;
     let by_changes = goes_by_changes::<A>(table, task, decision);
     Ok(Coming::Runs(by_changes, reasons))
-}
-
-/// Whether a run goes on by changes: where that was decided, and one action writes that can answer them.
-fn goes_by_changes<A: Actions>(
-    table: &ActionTable<A::Stored>,
-    task: &TaskDeclaration,
-    decision: &Decision,
-) -> bool
-    requires { IsReady A.meanings table.now task.now }
-    ensures { (kinds : Kinds) → Agrees A.meanings table.now kinds
-        → goes_by_changes kinds task.now decision.now ≡ result }
-{
-    match decision {
-        Decision::Incremental(_) => has_one_writer::<A>(table, task),
-        Decision::UpToDate | Decision::Full => false,
-    }
 }

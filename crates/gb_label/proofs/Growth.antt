@@ -12,6 +12,8 @@ use Rattle.gb_plan.specs.declared.task.Output.{Output}
 use Rattle.gb_plan.specs.declared.task.TaskDeclaration.{TaskDeclaration as Task}
 use Rattle.gb_report.specs.declared.fault.Fault.{Fault}
 use Rattle.gb_report.specs.declared.fault.Fault.TheVariants as faults
+use Rattle.gb_run.proofs.AtOutputs.{all_append}
+use Rattle.gb_run.proofs.Placed.{none_after}
 use Rattle.gb_tree.specs.Tree.{Entries, entries_from, odd_roots, output_entries, output_faults, output_listing_faults, too_large, too_many}
 use Rattle.gb_tree.specs.declared.fault.TreeFault.{TreeFault}
 use Rattle.gb_tree.specs.declared.fault.TreeFault.TheVariants as trees
@@ -20,10 +22,6 @@ use Rattle.gb_label.specs.Deciding.{IsGrown}
 
 abbrev Grown : TreeFault → Type 0
 Grown fault = IsGrown (told_of_tree fault)
-
-both : {X : Type 0} (P : X → Type 0) (xs ys : List X) → AllByRecursion P xs → AllByRecursion P ys → AllByRecursion P (xs ++ ys)
-both P [] ys a b = b
-both P (x ∷ xs) ys a b = (a.0, both P xs ys a.1 b)
 
 told : (fs : List TreeFault) → AllByRecursion Grown fs → AllByRecursion IsGrown (map told_of_tree fs)
 told [] all = tt
@@ -47,20 +45,20 @@ many name entries = by _
 one : (folder : Contents) (output : Output) → is_odd_under folder output.place ≡ false → AllByRecursion IsGrown (print_faults folder output)
 one folder output none =
     told (output_faults output.name output.place folder)
-    (both Grown (output_listing_faults output.name output.place folder) _ (listing (is_own output.place)) (large folder.files _))
+    (all_append Grown (output_listing_faults output.name output.place folder) _ (listing (is_own output.place)) (large folder.files _))
   where
     odd : odd_roots folder (output.place ∷ []) ≡ []
     odd = ap (λ b. map trees.BadFileName (cond b (output.place ∷ []) [])) none
 
     listing : (own : Bool) → AllByRecursion Grown (if own then [] else odd_roots folder (output.place ∷ []) ++ too_many output.name (entries_from output.place (places_under folder.files output.place)))
     listing true = tt
-    listing false = both Grown (odd_roots folder (output.place ∷ [])) _ (subst (AllByRecursion Grown) (sym odd) tt) (many output.name _)
+    listing false = all_append Grown (odd_roots folder (output.place ∷ [])) _ (subst (AllByRecursion Grown) (sym odd) tt) (many output.name _)
 
 -- the first output has nothing odd, nor have the others
-parts : (folder : Contents) (output : Output) (outputs : List Output)
+pub odd_parts : (folder : Contents) (output : Output) (outputs : List Output)
     → map told_of_tree (odd_roots folder (map (λ (o : Output). o.place) (output ∷ outputs))) ≡ []
     → (is_odd_under folder output.place ≡ false) × (map told_of_tree (odd_roots folder (map (λ (o : Output). o.place) outputs)) ≡ [])
-parts folder output outputs none = by (is_odd_under folder output.place) refl none
+odd_parts folder output outputs none = by (is_odd_under folder output.place) refl none
   where
     places : List Place
     places = map (λ (o : Output). o.place) outputs
@@ -75,8 +73,8 @@ all : (folder : Contents) (outputs : List Output) → map told_of_tree (odd_root
     → AllByRecursion IsGrown (flat_map (print_faults folder) outputs)
 all folder [] none = tt
 all folder (output ∷ outputs) none =
-    let p = parts folder output outputs none in
-    both IsGrown (print_faults folder output) _ (one folder output p.0) (all folder outputs p.1)
+    let p = odd_parts folder output outputs none in
+    all_append IsGrown (print_faults folder output) _ (one folder output p.0) (all folder outputs p.1)
 
 abbrev odd_told : Contents → List Output → List Fault
 odd_told folder outputs = map told_of_tree (odd_roots folder (map (λ output. output.place) outputs))
@@ -85,10 +83,6 @@ odd_told folder outputs = map told_of_tree (odd_roots folder (map (λ output. ou
 split : (fs gs : List Fault) (fault : Fault) → AllByRecursion IsGrown fs → first_of (fs ++ gs) ≡ Some fault → IsGrown fault ⊎ (first_of gs ≡ Some fault)
 split [] gs fault grown first = inr first
 split (f ∷ fs) gs fault grown first = inl (subst IsGrown (some_same first) grown.0)
-
-behind : (fs gs : List Fault) → fs ++ gs ≡ [] → gs ≡ []
-behind [] gs none = none
-behind (f ∷ fs) gs none = not_false (sym (ap is_empty none))
 
 module _ (folder : Contents) (output : Output) (outputs : List Output) where
   -- what hinders listing outputs, by whether something odd stands at the first
@@ -148,7 +142,7 @@ first_told folder (output ∷ outputs) fault own first =
 pub none_told : (folder : Contents) (outputs : List Output) → Foreign outputs → flat_map (print_faults folder) outputs ≡ [] → odd_told folder outputs ≡ []
 none_told folder [] own none = refl
 none_told folder (output ∷ outputs) own none =
-    by (none_told folder outputs (apart (is_own output.place) _ own).1 (behind (print_faults folder output) (flat_map (print_faults folder) outputs) none))
+    by (none_told folder outputs (apart (is_own output.place) _ own).1 (none_after (print_faults folder output) (flat_map (print_faults folder) outputs) none))
     (is_odd_under folder output.place) refl
   where
     by : odd_told folder outputs ≡ [] → (b : Bool) → is_odd_under folder output.place ≡ b → odd_told folder (output ∷ outputs) ≡ []

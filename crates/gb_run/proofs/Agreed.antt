@@ -12,11 +12,11 @@ use Rattle.gb_plan.specs.declared.task.TaskDeclaration.{TaskDeclaration}
 use Rattle.gb_meaning.specs.Headline.{Agrees, AgreesAt}
 use Rattle.gb_meaning.specs.Kinds.{Kinds, kind_of}
 
-some_same : {A : Type 0} (x y : A) → Some x ≡ Some y → x ≡ y
+pub some_same : {A : Type 0} (x y : A) → Some x ≡ Some y → x ≡ y
 some_same x y e = cc
 
 module _ {S : Type 0} (meanings : Meanings S) (kinds : Kinds) where
-  agrees_found : (rows : Rows S) (name : List ℕ) (stored : S) → Agrees meanings rows kinds → find byte_order name rows ≡ Some stored → AgreesAt meanings kinds (name, stored)
+  pub agrees_found : (rows : Rows S) (name : List ℕ) (stored : S) → Agrees meanings rows kinds → find byte_order name rows ≡ Some stored → AgreesAt meanings kinds (name, stored)
   agrees_found [] name stored all found = absurd (cc)
   agrees_found (row ∷ rows) name stored all found =
       elim (byte_order name row.0) as (λ o. byte_order name row.0 ≡ o → cond (is_eq o) (Some row.1) (find byte_order name rows) ≡ Some stored → AgreesAt meanings kinds (name, stored)) [

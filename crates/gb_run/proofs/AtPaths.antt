@@ -19,10 +19,11 @@ use Rattle.gb_tree.specs.Tree.{path_from}
 use Rattle.gb_tree.proofs.InOrder.{at_root, past_root}
 use Rattle.gb_plan.specs.declared.task.Output.{Output}
 use Rattle.gb_meaning.specs.Made.{output_named, placed, placed_in, put_over}
-use Rattle.gb_meaning.proofs.Lemmas.Files.{at-with}
+use Rattle.gb_meaning.proofs.Lemmas.Files.{at-with, same_place}
 use Rattle.gb_run.specs.Named.{named, put, removed, removed_in}
 use Rattle.gb_run.specs.Steps.{Step, put_steps}
-use Rattle.gb_run.proofs.Looks.{at_others, at_put, same_place, steps_append, ties}
+use Rattle.gb_run.proofs.AtOutputs.{all_append}
+use Rattle.gb_run.proofs.Looks.{at_others, at_put, steps_append, ties}
 
 -- ---- paths beneath a place
 
@@ -137,10 +138,6 @@ module _ (outputs : List Output) (output : Output) (is : output_named outputs ta
       by true e = absurd (other file.path (sym (same_place q (beneath output.place file.path) e)))
       by false e = refl
 
-  all_append : (q : Place) (xs ys : List Step) → AllByRecursion (λ (s : Step). s.0 ≢ q) xs → AllByRecursion (λ (s : Step). s.0 ≢ q) ys → AllByRecursion (λ (s : Step). s.0 ≢ q) (xs ++ ys)
-  all_append q [] ys a b = b
-  all_append q (x ∷ xs) ys a b = (a.0, all_append q xs ys a.1 b)
-
   removed_apart : (removes : List OutputPath) → RemovesTarget removes → (q : Place) → IsElsewhere q → AllByRecursion (λ (s : Step). s.0 ≢ q) (removed outputs removes)
   removed_apart [] all q other = tt
   removed_apart (path ∷ removes) all q other =
@@ -152,7 +149,7 @@ module _ (outputs : List Output) (output : Output) (is : output_named outputs ta
       subst (λ (fs : List (Place × Bytes)). AllByRecursion (λ (s : Step). s.0 ≢ q) (put (fs ++ placed outputs written))) (sym (one_placed file all.0)) (other file.path, put_apart written all.1 q other)
 
   pub named_apart : (reply : Reply) → WritesTarget reply.writes → RemovesTarget reply.removes → (q : Place) → IsElsewhere q → AllByRecursion (λ (s : Step). s.0 ≢ q) (named outputs reply.removes reply.writes)
-  named_apart reply writes removes q other = all_append q (removed outputs reply.removes) (put (placed outputs reply.writes)) (removed_apart reply.removes removes q other) (put_apart reply.writes writes q other)
+  named_apart reply writes removes q other = all_append (λ (s : Step). s.0 ≢ q) (removed outputs reply.removes) (put (placed outputs reply.writes)) (removed_apart reply.removes removes q other) (put_apart reply.writes writes q other)
 
   pub named_elsewhere : (held : List Step) (reply : Reply) → WritesTarget reply.writes → RemovesTarget reply.removes → (q : Place) → IsElsewhere q
       → find byte_order q (put_steps held (named outputs reply.removes reply.writes)) ≡ find byte_order q held

@@ -36,7 +36,7 @@ at_last held (f ∷ files) q =
     at_last (with_file held f.0 f.1) files q ∙ ap (or_else (last_at files q)) (at-with held f.0 f.1 q)
     ∙ three (last_at files q) (eq_by_cmp byte_order q f.0) f.1 (file_at held q)
 
-or_none : (o : Option Bytes) → or_else o None ≡ o
+pub or_none : (o : Option Bytes) → or_else o None ≡ o
 or_none None = refl
 or_none (Some b) = refl
 

@@ -4,8 +4,7 @@ use Rattle.std.specs.List.{AllByRecursion, filter, list_any}
 use Rattle.std.specs.Ordering.{eq_by_cmp, is_lt}
 use Rattle.std.specs.Cmp.Lexicographic.{nat_list_cmp_total}
 use Rattle.std.specs.FinMap.Entries.{below_all, find, is_sorted}
-use Rattle.std.specs.declared.cmp.Ordering.{Ordering}
-use Rattle.std.specs.declared.cmp.Ordering.TheVariants.{Less, Equal, Greater}
+use Rattle.std.specs.declared.cmp.Ordering.TheVariants.{Less}
 use Rattle.std.proofs.Common.{refl, sym, ap, subst, ◌∙◌, inl, inr}
 use mathlib.Core.Bool.{true≢false}
 use Rattle.gb_core.specs.Lists.{byte_order, first_of}
@@ -22,14 +21,17 @@ use Rattle.gb_plan.proofs.Tests.{neither, none_left, none_right}
 use Rattle.gb_store.proofs.Emptied.{free_at}
 use Rattle.gb_meaning.specs.Made.{blocked_in, placed, put_over, rest_of, step_faults}
 use Rattle.gb_meaning.specs.Run.{has_room, step_by, unless_hindered}
-use Rattle.gb_meaning.proofs.Lemmas.Files.{at-put_over, or_else, sorted-put_over}
+use Rattle.gb_meaning.proofs.Lemmas.Files.{at-put_over, left_of, or_else, right_of, same_place, sorted-put_over}
 use Rattle.gb_run.specs.Placing.{count_faults}
+use Rattle.gb_run.proofs.Agreed.{some_same}
+use Rattle.gb_run.proofs.Digested.{is_less}
 use Rattle.gb_run.proofs.Placed.{free_files_of, none_before}
+use Rattle.gb_run.proofs.Writer.{heads}
 use Rattle.gb_run.specs.Steps.{LeadTo, Step, after_steps, in_turn}
 use Rattle.gb_run.specs.Stepping.{HasRoom, IsFree}
 use Rattle.gb_run.proofs.Following.{no_some}
-use Rattle.gb_run.proofs.Leading.{all_found, some_same, sorted_after}
-use Rattle.gb_run.proofs.Looks.{at_in_turn, at_left, find_kept, kept, left_of, none_below, right_of, same_place, sorted_kept}
+use Rattle.gb_run.proofs.Leading.{all_found, sorted_after}
+use Rattle.gb_run.proofs.Looks.{at_in_turn, at_left, find_kept, kept, none_below, sorted_kept}
 use Rattle.gb_run.proofs.SteppedOn.{after-append}
 
 -- ---- lists
@@ -59,16 +61,8 @@ each_none : {X : Type 0} (t : X → Bool) (xs : List X) → list_any t xs ≡ fa
 each_none t [] e = tt
 each_none t (x ∷ xs) e = (none_left (t x) (list_any t xs) e, each_none t xs (none_right (t x) (list_any t xs) e))
 
-heads : {X : Type 0} (x y : X) (xs ys : List X) → x ∷ xs ≡ y ∷ ys → x ≡ y
-heads x y xs ys e = cc
-
 tails : {X : Type 0} (x y : X) (xs ys : List X) → x ∷ xs ≡ y ∷ ys → xs ≡ ys
 tails x y xs ys e = cc
-
-is_less : (o : Ordering) → is_lt o ≡ true → o ≡ Less
-is_less Less w = refl
-is_less Equal w = absurd (true≢false (sym w))
-is_less Greater w = absurd (true≢false (sym w))
 
 -- ---- blocked places
 

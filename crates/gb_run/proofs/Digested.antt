@@ -46,7 +46,7 @@ where_digests test (file ∷ files) =
 abbrev pub from_root : Place → Files → Files
 from_root root files = map (λ (file : Place × Bytes). (path_from root file.0, file.1)) files
 
-is_less : (o : Ordering) → is_lt o ≡ true → o ≡ Less
+pub is_less : (o : Ordering) → is_lt o ≡ true → o ≡ Less
 is_less Less e = refl
 is_less Equal e = absurd (cc)
 is_less Greater e = absurd (cc)

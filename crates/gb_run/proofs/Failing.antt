@@ -25,7 +25,7 @@ use Rattle.gb_meaning.specs.Made.{act, made_of, placed, put_over, rest_of, step_
 use Rattle.gb_meaning.specs.Tree.{has_no_source, trees_of}
 use Rattle.gb_meaning.specs.Turn.{IsWritten}
 use Rattle.gb_meaning.proofs.Lemmas.Ending.{ended_is_made}
-use Rattle.gb_meaning.proofs.Lemmas.Files.{at-put_over, or_else, sorted-put_over}
+use Rattle.gb_meaning.proofs.Lemmas.Files.{at-put_over, or_else, same_place, sorted-put_over}
 use Rattle.gb_meaning.proofs.Lemmas.Making.{made_of_is_right}
 use Rattle.gb_run.specs.Asking.{made_by}
 use Rattle.gb_run.specs.Course.{Course, files_at_hand, free_files, lines_by, run_along}
@@ -36,7 +36,7 @@ use Rattle.gb_run.specs.AskingChanges.{IsFitting, writers}
 use Rattle.gb_run.specs.Changing.{AreAtHand, FailsByItself, FailsByMachine, Moment, ended_files, files_then}
 use Rattle.gb_run.specs.ChangeLaws.{FailedRunsInventNothing, FailedRunsKeepRightFiles, FailedRunsPrintFronts, TornPlacesAreOfTheRun}
 use Rattle.gb_run.specs.Steps.{LeadTo, Step, after_steps}
-use Rattle.gb_run.proofs.Looks.{at_left, same_place}
+use Rattle.gb_run.proofs.Looks.{at_left}
 use Rattle.gb_run.proofs.Writer.{IsOfWriter, none_made, writer_made, writer_of}
 
 -- ---- lists

@@ -1,13 +1,10 @@
 -- What is stored for the actions of a ready task writes and goes on as the kinds say.
-use Rattle.std.specs.Prelude.{ℕ, ◌≡◌, ◌&&◌, ◌||◌, Bool, true, false, cond, if◌then◌else◌, List, [], ◌∷◌, Option, Some, None, is_some, bytes_eq}
+use Rattle.std.specs.Prelude.{ℕ, ◌≡◌, ◌&&◌, ◌||◌, Bool, true, false, if◌then◌else◌, List, [], ◌∷◌, Option, Some, None, is_some, bytes_eq}
 use Rattle.std.specs.List.{AllByRecursion, list_all}
 use Rattle.std.specs.FinMap.Entries.{find}
-use Rattle.std.specs.Ordering.{is_eq}
-use Rattle.std.specs.declared.cmp.Ordering.TheVariants.{Less, Equal, Greater}
 use Rattle.std.proofs.Common.{refl, sym, ap, subst, ◌∙◌}
 use mathlib.Core.Bool.{true≢false}
 use Rattle.gb_core.specs.Lists.{byte_order}
-use Rattle.gb_core.proofs.Found.{tied_same}
 use Rattle.gb_action.specs.Meanings.{Meanings, WritesItsOutput, shape_of}
 use Rattle.gb_action.specs.Shapes.{args_fit, has_output, has_source, is_form, target}
 use Rattle.gb_action.specs.declared.output.Form.{Form}
@@ -23,9 +20,7 @@ use Rattle.gb_meaning.specs.Headline.{Agrees, AgreesAt}
 use Rattle.gb_meaning.specs.Kinds.{Kind, Kinds, kind_of}
 use Rattle.gb_meaning.specs.Made.{output_named}
 use Rattle.gb_run.specs.AskingChanges.{IsFitting}
-
-some_same : {A : Type 0} (x y : A) → Some x ≡ Some y → x ≡ y
-some_same x y e = cc
+use Rattle.gb_run.proofs.Agreed.{agrees_found, some_same}
 
 -- ---- a call that fits has its output
 
@@ -51,20 +46,9 @@ has_target shape outputs fits writes = by shape.out refl writes
     by (Some form) is e = names_output form outputs (ap (λ o. has_output o (seen_outputs outputs)) (sym is) ∙ fits)
 
 module _ {S : Type 0} (meanings : Meanings S) (kinds : Kinds) where
-  agrees_found : (rows : Rows S) (name : List ℕ) (stored : S) → Agrees meanings rows kinds → find byte_order name rows ≡ Some stored → AgreesAt meanings kinds (name, stored)
-  agrees_found [] name stored all found = absurd (cc)
-  agrees_found (row ∷ rows) name stored all found =
-      elim (byte_order name row.0) as (λ o. byte_order name row.0 ≡ o → cond (is_eq o) (Some row.1) (find byte_order name rows) ≡ Some stored → AgreesAt meanings kinds (name, stored)) [
-        | Less ↦ λ _ later. agrees_found rows name stored all.1 later
-        | Equal ↦ λ tied here.
-            subst (λ (key : List ℕ). AgreesAt meanings kinds (key, stored)) (sym (tied_same name row.0 tied))
-            (subst (λ (s : S). AgreesAt meanings kinds (row.0, s)) (some_same row.1 stored here) all.0)
-        | Greater ↦ λ _ later. agrees_found rows name stored all.1 later
-      ] refl found
-
   module _ (rows : Rows S) (task : Task) (action : Action) (ready : IsReadyAction meanings rows task action) (agrees : Agrees meanings rows kinds) where
     stored_agrees : AgreesAt meanings kinds (action.kind, ready.stored)
-    stored_agrees = agrees_found rows action.kind ready.stored agrees ready.found
+    stored_agrees = agrees_found meanings kinds rows action.kind ready.stored agrees ready.found
 
     kind_is : {T : Type 0} (f : Kind → T) → f (kind_of action) ≡ f (record { name = action.kind; version = meanings.version ready.stored })
     kind_is f = ap (λ version. f (record { name = action.kind; version = version })) (sym ready.version)

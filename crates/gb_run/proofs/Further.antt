@@ -20,10 +20,7 @@ use Rattle.gb_run.specs.AskingChanges.{GoesOn, IsFitting, writers}
 use Rattle.gb_run.specs.Changing.{Fails}
 use Rattle.gb_run.specs.Turn.{Ends, IsItsTurn, Stops}
 use Rattle.gb_run.proofs.Going.{IsGoing, begins, ends_well, fails_reading, fails_writing, reads_on, stands_old, writes_on}
-use Rattle.gb_run.proofs.Writer.{writer_of}
-
-heads : {X : Type 0} (x y : X) (xs ys : List X) → x ∷ xs ≡ y ∷ ys → x ≡ y
-heads x y xs ys e = cc
+use Rattle.gb_run.proofs.Writer.{heads, writer_of}
 
 -- one action writes, so some action does
 pub some_writes : (kinds : Kinds) (actions : List Action) (w : Action) (ws : List Action) → writers kinds actions ≡ w ∷ ws → list_any (λ (a : Action). kinds.writes (kind_of a)) actions ≡ true

@@ -20,6 +20,7 @@ use Rattle.gb_meaning.specs.Run.{step_by, unless_hindered}
 use Rattle.gb_run.specs.Asking.{made_by, printed_by}
 use Rattle.gb_run.specs.Course.{Course, EndsWell, course_of, files_at_hand, free_files, lines_by, run_along}
 use Rattle.gb_run.proofs.Endings.{more_fault, more_held, stops_done, stops_fault, with_none}
+use Rattle.gb_run.proofs.Room.{or_none}
 use Rattle.gb_run.specs.AskingChanges.{writers}
 use Rattle.gb_run.specs.Changing.{AreAtHand, Fails, FailsByItself, FailsByMachine, IsStopped, Moment, ended_files}
 use Rattle.gb_run.specs.Steps.{LeadTo, after_steps}
@@ -27,6 +28,10 @@ use Rattle.gb_run.specs.Turn.{Ends, Stops}
 
 abbrev pub course_in : Kinds → Task → Trees → List Changes → Files → Course
 course_in kinds task trees changes old = course_of kinds task trees changes (rest_of task old)
+
+pub none_full : (outputs : List Output) → full_outputs outputs [] ≡ []
+none_full [] = refl
+none_full (output ∷ outputs) = none_full outputs
 
 module _ (kinds : Kinds) (task : Task) (trees : Trees) (changes : List Changes) (old : Files) where
   abbrev course : Course
@@ -44,10 +49,6 @@ module _ (kinds : Kinds) (task : Task) (trees : Trees) (changes : List Changes) 
     pub few : full_outputs task.outputs (run_along course done).held ≡ []
     pub none_held : any_writes done ≡ false → (run_along course done).held ≡ []
     pub printed : lines ≡ lines_by course done
-
-  none_full : (outputs : List Output) → full_outputs outputs [] ≡ []
-  none_full [] = refl
-  none_full (output ∷ outputs) = none_full outputs
 
   pub begins : IsGoing task.actions old []
   begins = record { done = []; all = refl; no_fault = refl; stands = refl; few = none_full task.outputs; none_held = λ _. refl; printed = refl }
@@ -69,10 +70,6 @@ module _ (kinds : Kinds) (task : Task) (trees : Trees) (changes : List Changes) 
   lines_more (first ∷ done) action =
       ap (λ ls. printed_by kinds task first trees changes ++ ls) (lines_more done action)
       ∙ sym (append_assoc (printed_by kinds task first trees changes) (lines_by (course_of kinds task trees changes (rest_of task old)) done) (printed_by kinds task action trees changes))
-
-  or_none : (b : Bool) → (b || false) ≡ b
-  or_none true = refl
-  or_none false = refl
 
   -- where one action writes, none before it does
   pub two_writers : (xs : List Action) (a b : Action) (ys : List Action) → any_writes xs ≡ true → writers kinds xs ++ a ∷ ys ≡ b ∷ [] → ⊥

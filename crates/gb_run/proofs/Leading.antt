@@ -1,5 +1,5 @@
 -- The reply of a task's writer to changes leads from what stands to what it makes.
-use Rattle.std.specs.Prelude.{ℕ, ◌≡◌, ◌≢◌, ◌⊎◌, ◌++◌, ◌&&◌, ◌||◌, Bool, true, false, not, cond, List, [], ◌∷◌, Option, Some, None, is_some, option_map, unwrap_or, bytes_eq, if◌then◌else◌}
+use Rattle.std.specs.Prelude.{ℕ, ◌≡◌, ◌≢◌, ◌⊎◌, ◌&&◌, ◌||◌, Bool, true, false, not, cond, List, [], ◌∷◌, Option, Some, None, is_some, option_map, unwrap_or, bytes_eq, if◌then◌else◌}
 use Rattle.std.specs.List.{AllByRecursion, filter, flat_map}
 use Rattle.std.specs.Option.{option_or}
 use Rattle.std.specs.Ordering.{eq_by_cmp, is_lt}
@@ -25,19 +25,19 @@ use Rattle.gb_plan.specs.declared.task.TaskDeclaration.{TaskDeclaration as Task}
 use Rattle.gb_plan.proofs.Tests.{itself, or_true}
 use Rattle.gb_meaning.specs.Kinds.{Kinds, kind_of}
 use Rattle.gb_meaning.specs.Made.{file_faults, fault_if, output_named, placed, put_over, rest_of, step_faults}
-use Rattle.gb_meaning.proofs.Lemmas.Files.{at-put_over, at-where, or_else, same_files, sorted-put_over, sorted-where}
+use Rattle.gb_meaning.proofs.Lemmas.Files.{at-put_over, at-where, left_of, or_else, right_of, same_files, same_place, sorted-put_over, sorted-where}
 use Rattle.gb_run.specs.AskingChanges.{IsFitting}
 use Rattle.gb_run.specs.ChangeLaws.{IsReplied, RepliesAreMade, RepliesLeadOn}
 use Rattle.gb_run.specs.Named.{files_left, held_after, named, put, standing, steps_of}
 use Rattle.gb_run.specs.Steps.{LeadTo, Step, after_steps, in_turn, put_steps}
+use Rattle.gb_run.proofs.Agreed.{some_same}
+use Rattle.gb_run.proofs.AtOutputs.{all_append}
 use Rattle.gb_run.proofs.AtPaths.{Elsewhere, Here, IsElsewhere, RemovesTarget, Where, WritesTarget, at_named, at_placed, named_elsewhere, placed_elsewhere, whether}
 use Rattle.gb_run.proofs.Following.{at_target, follows, no_some, or_none, seen_target, stood_elsewhere, unseen, unwritten}
-use Rattle.gb_run.proofs.Looks.{at_in_turn, both_of, left_of, none_again, right_of, same_place, sorted_steps}
+use Rattle.gb_run.proofs.Looks.{at_in_turn, both_of, none_again, sorted_steps}
+use Rattle.gb_run.proofs.Placed.{none_after, none_before}
 use Rattle.gb_run.proofs.Seen.{all_back}
 use Rattle.gb_run.proofs.Writer.{fits_writer, writes_target}
-
-pub some_same : {X : Type 0} (x y : X) → Some x ≡ Some y → x ≡ y
-some_same x y is = cc
 
 -- ---- steps by place
 
@@ -63,10 +63,6 @@ all_filter P t (x ∷ xs) all = by (all_filter P t xs all.1) (t x)
     by : AllByRecursion P (filter t xs) → (b : Bool) → AllByRecursion P (cond b (x ∷ filter t xs) (filter t xs))
     by again true = (all.0, again)
     by again false = again
-
-all_append : {X : Type 0} (P : X → Type 0) (xs ys : List X) → AllByRecursion P xs → AllByRecursion P ys → AllByRecursion P (xs ++ ys)
-all_append P [] ys a b = b
-all_append P (x ∷ xs) ys a b = (a.0, all_append P xs ys a.1 b)
 
 pub all_in_turn : (P : Step → Type 0) (steps : List Step) → AllByRecursion P steps → AllByRecursion P (in_turn steps)
 all_in_turn P steps all =
@@ -144,14 +140,6 @@ named_removes P (path ∷ removes) each = (
 
 -- ---- files without a fault stand at places
 
-none_first : {X : Type 0} (xs ys : List X) → xs ++ ys ≡ [] → xs ≡ []
-none_first [] ys e = refl
-none_first (x ∷ xs) ys e = absurd (cc)
-
-none_later : {X : Type 0} (xs ys : List X) → xs ++ ys ≡ [] → ys ≡ []
-none_later [] ys e = e
-none_later (x ∷ xs) ys e = absurd (cc)
-
 is_good : (b : Bool) (fault : _) → fault_if (not b) fault ≡ [] → b ≡ true
 is_good true fault e = refl
 is_good false fault e = absurd (cc)
@@ -161,8 +149,8 @@ placed_files all [] e = refl
 placed_files all (file ∷ files) e =
     both_of (is_place file.0) (are_placed files)
     (is_good (is_place file.0) (faults.BadPlace file.0)
-    (none_first (fault_if (not (is_place file.0)) (faults.BadPlace file.0)) _ (none_first _ _ (none_first (file_faults all file) (flat_map (file_faults all) files) e))))
-    (placed_files all files (none_later (file_faults all file) (flat_map (file_faults all) files) e))
+    (none_before (fault_if (not (is_place file.0)) (faults.BadPlace file.0)) _ (none_before _ _ (none_before (file_faults all file) (flat_map (file_faults all) files) e))))
+    (placed_files all files (none_after (file_faults all file) (flat_map (file_faults all) files) e))
 
 -- at no place stands no file
 nowhere : (files : Files) (q : Place) → are_placed files ≡ true → is_place q ≡ false → file_at files q ≡ None
@@ -383,7 +371,7 @@ module _ (kinds : Kinds) (task : Task) (trees : Trees) (changes : List Changes) 
 
   module _ (none : step_faults task.outputs [] (placed task.outputs written) ≡ []) where
     good_made : are_placed made ≡ true
-    good_made = placed_files made made (none_first (flat_map (file_faults made) made) _ none)
+    good_made = placed_files made made (none_before (flat_map (file_faults made) made) _ none)
 
     after_at : (q : Place) → file_at (after_steps files (in_turn steps)) q ≡ file_at goal_files q
     after_at q = at_in_turn files steps q steps_sorted ∙ by (whether task.outputs output found.1 q)

@@ -1,5 +1,5 @@
 -- What stands at a place once steps are done.
-use Rattle.std.specs.Prelude.{◌≡◌, ◌≢◌, ◌++◌, ◌&&◌, Bool, true, false, not, cond, T, List, [], ◌∷◌, Option, Some, None, is_some, unwrap_or, option_and_then, bytes_eq}
+use Rattle.std.specs.Prelude.{◌≡◌, ◌≢◌, ◌++◌, ◌&&◌, Bool, true, false, not, cond, List, [], ◌∷◌, Option, Some, None, is_some, unwrap_or, option_and_then, bytes_eq}
 use Rattle.std.specs.List.{AllByRecursion, filter}
 use Rattle.std.specs.Cmp.{unsigned_ties}
 use Rattle.std.specs.Cmp.Lexicographic.{lists_ties, nat_list_cmp_total}
@@ -11,39 +11,15 @@ use Rattle.std.proofs.Common.{refl, sym, ap, ◌∙◌}
 use mathlib.Core.Bool.{true≢false}
 use Rattle.gb_core.specs.Lists.{byte_order}
 use Rattle.gb_core.specs.Place.{is_place}
-use Rattle.gb_core.proofs.Found.{tied_same}
 use Rattle.gb_folder.specs.Files.{Place, Bytes, Files, file_at, with_left}
 use Rattle.gb_folder.proofs.Changes.{file_at-with_file, file_at-without}
+use Rattle.gb_meaning.proofs.Lemmas.Files.{T_of, left_of, of_T, right_of, same_place}
 use Rattle.gb_run.specs.Steps.{Step, after_steps, in_turn, put_steps}
 
 -- ---- tests
 
 pub ties : (a b : Place) → bytes_eq a b ≡ eq_by_cmp byte_order a b
 ties a b = lists_ties nat_cmp unsigned_ties a b
-
-equal_of : (r : Ordering) → is_eq r ≡ true → r ≡ Equal
-equal_of Less e = absurd (true≢false (sym e))
-equal_of Equal e = refl
-equal_of Greater e = absurd (true≢false (sym e))
-
-pub same_place : (p q : Place) → eq_by_cmp byte_order p q ≡ true → p ≡ q
-same_place p q e = tied_same p q (equal_of (byte_order p q) e)
-
-pub T_of : (b : Bool) → b ≡ true → T b
-T_of true e = tt
-T_of false e = absurd (true≢false (sym e))
-
-pub of_T : (b : Bool) → T b → b ≡ true
-of_T true t = refl
-of_T false t = absurd t
-
-pub left_of : (a b : Bool) → (a && b) ≡ true → a ≡ true
-left_of true b e = refl
-left_of false b e = e
-
-pub right_of : (a b : Bool) → (a && b) ≡ true → b ≡ true
-right_of true b e = e
-right_of false b e = absurd (true≢false (sym e))
 
 pub both_of : (a b : Bool) → a ≡ true → b ≡ true → (a && b) ≡ true
 both_of a b e f = ap (λ x. x && b) e ∙ f

@@ -30,7 +30,7 @@ use Rattle.gb_run.proofs.Seen.{all_back, placed_all, under_all, whole}
 -- ---- the files at outputs alone
 
 -- of the files that pass a test, those that pass a narrower one
-narrowed : (inner wide : Place → Bool) → ((q : Place) → inner q ≡ true → wide q ≡ true) → (files : Files) → files_where inner (files_where wide files) ≡ files_where inner files
+pub narrowed : (inner wide : Place → Bool) → ((q : Place) → inner q ≡ true → wide q ≡ true) → (files : Files) → files_where inner (files_where wide files) ≡ files_where inner files
 narrowed inner wide within [] = refl
 narrowed inner wide within (f ∷ files) =
     let rest = narrowed inner wide within files in

@@ -22,7 +22,7 @@ or_shift true true c = refl
 or_shift true false c = refl
 or_shift false b c = refl
 
-or_none : (b : Bool) → (b || false) ≡ b
+pub or_none : (b : Bool) → (b || false) ≡ b
 or_none true = refl
 or_none false = refl
 

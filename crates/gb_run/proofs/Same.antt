@@ -12,7 +12,8 @@ use Rattle.gb_run.specs.Placing.{faults_beside}
 use Rattle.gb_run.specs.Named.{held_after, steps_of}
 use Rattle.gb_run.specs.Steps.{Step, in_turn}
 use Rattle.gb_run.specs.ChangeTexts.{shown_steps}
-use Rattle.gb_run.proofs.Small.{is_at, steps_at_outputs}
+use Rattle.gb_run.proofs.AtOutputs.{is_at}
+use Rattle.gb_run.proofs.Small.{steps_at_outputs}
 
 pub same_held : (o p : List Output) (s t : List OutputFiles) (r q : List OutputPath) (w v : List Written) → o ≡ p → s ≡ t → r ≡ q → w ≡ v
     → faults_beside o [] (held_after o s r w) ≡ faults_beside p [] (held_after p t q v)

@@ -18,11 +18,12 @@ use Rattle.gb_plan.proofs.Places.{beneath_under}
 use Rattle.gb_plan.proofs.Tests.{none_left, none_right, turned}
 use Rattle.gb_plan.specs.declared.task.Output.{Output}
 use Rattle.gb_meaning.specs.Made.{output_named}
+use Rattle.gb_meaning.proofs.Lemmas.Files.{left_of, right_of, same_place}
 use Rattle.gb_run.specs.AskingChanges.{seen_of}
 use Rattle.gb_run.specs.Named.{put, standing}
 use Rattle.gb_run.specs.Steps.{Step, put_steps}
 use Rattle.gb_run.proofs.AtPaths.{tied_beneath}
-use Rattle.gb_run.proofs.Looks.{at_put, left_of, right_of, same_place, steps_append, ties}
+use Rattle.gb_run.proofs.Looks.{at_put, steps_append, ties}
 
 -- a place under a root is beneath it at its path
 pub whole : (root p : Place) → is_under p root ≡ true → is_place p ≡ true → beneath root (path_from root p) ≡ p

@@ -1,12 +1,12 @@
 -- Steps of a reply: none puts a file that is too large, and all are at outputs.
 use Rattle.std.specs.Prelude.{◌≡◌, ◌≤◌, ◌++◌, Bool, true, false, cond, List, [], ◌∷◌, length, Option, Some, None, unwrap_or}
-use Rattle.std.specs.List.{AllByRecursion, list_any}
+use Rattle.std.specs.List.{AllByRecursion}
 use Rattle.std.specs.Option.{option_or}
 use Rattle.std.specs.Ordering.{eq_by_cmp}
 use Rattle.std.specs.FinMap.Entries.{find, is_sorted, put as put_at}
 use Rattle.std.proofs.Common.{refl, sym, ap, subst, ◌∙◌}
 use Rattle.gb_core.specs.Lists.{byte_order}
-use Rattle.gb_core.specs.Place.{beneath, is_under}
+use Rattle.gb_core.specs.Place.{beneath}
 use Rattle.gb_folder.specs.Files.{Place, Bytes, Files, file_at}
 use Rattle.gb_folder.specs.Limits.{max_file}
 use Rattle.gb_action.specs.declared.output.OutputFiles.{OutputFiles}
@@ -15,14 +15,17 @@ use Rattle.gb_action.specs.declared.reply.Written.{Written}
 use Rattle.gb_plan.specs.declared.task.Output.{Output}
 use Rattle.gb_plan.proofs.Places.{beneath_under}
 use Rattle.gb_meaning.specs.Made.{output_named, placed, placed_in}
+use Rattle.gb_meaning.proofs.Lemmas.Files.{same_place}
 use Rattle.gb_run.specs.Placing.{faults_beside}
+use Rattle.gb_run.proofs.Agreed.{some_same}
+use Rattle.gb_run.proofs.AtOutputs.{all_append, is_at}
 use Rattle.gb_run.proofs.Placed.{small_taken}
 use Rattle.gb_run.specs.Named.{held_after, named, put, removed, removed_in, standing, steps_of}
 use Rattle.gb_run.specs.Stepping.{IsSmall}
 use Rattle.gb_run.specs.Steps.{Step, in_turn, put_steps}
 use Rattle.gb_run.proofs.Following.{no_some, under_named}
-use Rattle.gb_run.proofs.Leading.{all_found, all_in_turn, at_files, some_same}
-use Rattle.gb_run.proofs.Looks.{at_put, same_place, sorted_steps}
+use Rattle.gb_run.proofs.Leading.{all_found, all_in_turn, at_files}
+use Rattle.gb_run.proofs.Looks.{at_put, sorted_steps}
 
 -- steps put over others count before them
 last_or : (held : List Step) (xs : List Step) (base : List Step) (q : Place) → find byte_order q base ≡ None
@@ -71,15 +74,8 @@ small_steps outputs seen removes writes none =
 
 -- ---- at outputs
 
-abbrev pub is_at : List Output → Place → Bool
-is_at outputs place = list_any (λ (o : Output). is_under place o.place) outputs
-
 abbrev AtOutputs : List Output → List Step → Type 0
 AtOutputs outputs steps = AllByRecursion (λ (s : Step). is_at outputs s.0 ≡ true) steps
-
-both : (outputs : List Output) (xs ys : List Step) → AtOutputs outputs xs → AtOutputs outputs ys → AtOutputs outputs (xs ++ ys)
-both outputs [] ys a b = b
-both outputs (x ∷ xs) ys a b = (a.0, both outputs xs ys a.1 b)
 
 put_apart : (xs ys : List (Place × Bytes)) → put (xs ++ ys) ≡ put xs ++ put ys
 put_apart [] ys = refl
@@ -87,7 +83,7 @@ put_apart (x ∷ xs) ys = ap (λ ss. (x.0, Some x.1) ∷ ss) (put_apart xs ys)
 
 removed_at : (outputs : List Output) (removes : List OutputPath) → AtOutputs outputs (removed outputs removes)
 removed_at outputs [] = tt
-removed_at outputs (path ∷ removes) = both outputs (removed_in (output_named outputs path.output) path) (removed outputs removes) (by (output_named outputs path.output) refl) (removed_at outputs removes)
+removed_at outputs (path ∷ removes) = all_append (λ (s : Step). is_at outputs s.0 ≡ true) (removed_in (output_named outputs path.output) path) (removed outputs removes) (by (output_named outputs path.output) refl) (removed_at outputs removes)
   where
     by : (o : Option Output) → output_named outputs path.output ≡ o → AtOutputs outputs (removed_in o path)
     by None e = tt
@@ -97,7 +93,7 @@ written_at : (outputs : List Output) (writes : List Written) → AtOutputs outpu
 written_at outputs [] = tt
 written_at outputs (file ∷ writes) =
     subst (AtOutputs outputs) (sym (put_apart (placed_in (output_named outputs file.output) file) (placed outputs writes)))
-    (both outputs (put (placed_in (output_named outputs file.output) file)) (put (placed outputs writes)) (by (output_named outputs file.output) refl) (written_at outputs writes))
+    (all_append (λ (s : Step). is_at outputs s.0 ≡ true) (put (placed_in (output_named outputs file.output) file)) (put (placed outputs writes)) (by (output_named outputs file.output) refl) (written_at outputs writes))
   where
     by : (o : Option Output) → output_named outputs file.output ≡ o → AtOutputs outputs (put (placed_in o file))
     by None e = tt
@@ -118,4 +114,4 @@ steps_at_outputs outputs removes writes =
     all_in_turn (λ (s : Step). is_at outputs s.0 ≡ true) (steps_of outputs removes writes)
     (all_found (λ (s : Step). is_at outputs s.0 ≡ true) (steps_of outputs removes writes) (sorted_steps [] (named outputs removes writes) refl)
     (λ q v e. named_at (λ (s : Step). is_at outputs s.0 ≡ true) [] (named outputs removes writes) q v (λ w is. no_some None w refl is) (λ p w h u. h)
-    (both outputs (removed outputs removes) (put (placed outputs writes)) (removed_at outputs removes) (written_at outputs writes)) e))
+    (all_append (λ (s : Step). is_at outputs s.0 ≡ true) (removed outputs removes) (put (placed outputs writes)) (removed_at outputs removes) (written_at outputs writes)) e))

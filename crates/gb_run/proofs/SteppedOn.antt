@@ -15,6 +15,7 @@ use Rattle.gb_run.specs.Steps.{Step, after_steps, folder_after}
 use Rattle.gb_run.specs.Stepping.{HasRoom, IsCutShort, IsFree, IsShutOut}
 use Rattle.gb_run.specs.ChangeTexts.{shown_steps}
 use Rattle.gb_run.proofs.Turned.{shown-append}
+use Rattle.gb_run.proofs.Written.{all_parts}
 
 -- ---- one removal
 
@@ -102,10 +103,6 @@ changes_after test (s ∷ steps) old all =
     changes_chain test old (folder_after old (s ∷ [])) (folder_after old (s ∷ steps))
     (changes_left test old (folder_after old (s ∷ [])) s.0 s.1 refl all.0)
     (changes_after test steps (folder_after old (s ∷ [])) all.1)
-
-all_parts : {X : Type 0} (P : X → Type 0) (front : List X) (x : X) (behind : List X) → AllByRecursion P (front ++ x ∷ behind) → AllByRecursion P front × P x
-all_parts P [] x behind all = (tt, all.0)
-all_parts P (y ∷ front) x behind all = let rest = all_parts P front x behind all.1 in ((all.0, rest.0), rest.1)
 
 -- so it is where they are cut short
 pub changes_cut : (test : Place → Bool) (may_leave : Tearing) (steps : List Step) (old new : Contents) (fault : Fault) → AllByRecursion (λ (s : Step). test s.0 ≡ true) steps

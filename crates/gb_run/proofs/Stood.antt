@@ -1,5 +1,5 @@
 -- What a run made is what stands at the outputs, beside a rest with no file there.
-use Rattle.std.specs.Prelude.{◌≡◌, Bool, true, false, not, cond, ◌||◌, List, [], ◌∷◌, Option, Some, None, Result, Ok}
+use Rattle.std.specs.Prelude.{◌≡◌, Bool, true, false, not, cond, ◌||◌, List, [], ◌∷◌, Some, None}
 use Rattle.std.specs.List.{list_any}
 use Rattle.std.specs.Ordering.{eq_by_cmp}
 use Rattle.std.specs.FinMap.Entries.{is_sorted}
@@ -21,14 +21,9 @@ use Rattle.gb_meaning.proofs.Lemmas.Making.{made_of_is_right}
 use Rattle.gb_run.specs.Course.{whole_run, course_of}
 use Rattle.gb_run.specs.Digests.{prints_at}
 use Rattle.gb_run.specs.Laws.{MadeStands}
+use Rattle.gb_run.proofs.Beside.{or_none}
 use Rattle.gb_run.proofs.Digested.{files_from_is, from_root}
-
-ok_same : {T E : Type 0} (r : Result T E) (x y : T) → r ≡ Ok x → r ≡ Ok y → x ≡ y
-ok_same r x y e f = cc
-
-or_none : (o : Option Bytes) → or_else o None ≡ o
-or_none None = refl
-or_none (Some b) = refl
+use Rattle.gb_run.proofs.Writer.{ok_same}
 
 -- where no file of these passes, none stands at a place that does
 none_at : (test : Place → Bool) (files : Files) (q : Place) → list_any (λ (file : Place × Bytes). test file.0) files ≡ false → test q ≡ true → file_at files q ≡ None

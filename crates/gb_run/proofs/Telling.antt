@@ -35,10 +35,12 @@ use Rattle.gb_run.specs.Named.{held_after, steps_of}
 use Rattle.gb_run.specs.Steps.{LeadTo, after_steps, in_turn}
 use Rattle.gb_run.specs.Turn.{IsItsTurn, Makes}
 use Rattle.gb_run.proofs.Further.{some_writes, the_one}
-use Rattle.gb_run.proofs.Going.{two_writers}
+use Rattle.gb_run.proofs.Going.{none_full, two_writers}
 use Rattle.gb_run.proofs.Leading.{held_is_made, leads}
 use Rattle.gb_run.proofs.Owned.{no_rest, owned_again, owned_seen}
-use Rattle.gb_run.proofs.Turning.{none_later, none_mapped, ok_value}
+use Rattle.gb_run.proofs.Placed.{none_after}
+use Rattle.gb_run.proofs.Room.{or_none}
+use Rattle.gb_run.proofs.Turning.{none_mapped, ok_value}
 use Rattle.gb_run.proofs.Writer.{writer_of}
 
 -- ---- the action that writes
@@ -81,7 +83,7 @@ module _ (kinds : Kinds) (task : Task) (action : Action) (trees : Trees) (change
     more = put_over [] (placed task.outputs made.0);
     put = put_freely task.outputs [] (made_by kinds task action trees) made.0 made.1 none_made;
     few = none_mapped (λ (output : Output). faults.TooManyFiles output.name) (full_outputs task.outputs (put_over [] (placed task.outputs made.0)))
-        (none_later (flat_map (file_faults (put_over [] (placed task.outputs made.0))) (put_over [] (placed task.outputs made.0))) _ none_made);
+        (none_after (flat_map (file_faults (put_over [] (placed task.outputs made.0))) (put_over [] (placed task.outputs made.0))) _ none_made);
     prints = is ∙ ap digests_of (lead.reached ∙ ap (λ (rest : Files). put_over rest (put_over [] (placed task.outputs made.0))) (no_rest task files) ∙ sym (over_by_place [] (placed task.outputs made.0) refl));
   }
     where
@@ -109,10 +111,6 @@ module _ (kinds : Kinds) (task : Task) (trees : Trees) (changes : List Changes) 
     pub before : list_any (λ (a : Action). kinds.writes (kind_of a)) done ≡ false → (held ≡ []) × (digests ≡ digests_of (output_files task files))
     pub after : list_any (λ (a : Action). kinds.writes (kind_of a)) done ≡ true → digests ≡ digests_of held
 
-  none_full : (outputs : List Output) → full_outputs outputs [] ≡ []
-  none_full [] = refl
-  none_full (output ∷ outputs) = none_full outputs
-
   pub tells_none : (left : List Action) (digests : Files) → left ≡ task.actions → digests ≡ digests_of (output_files task files) → IsTelling left digests
   tells_none left digests all is = record {
     done = [];
@@ -123,10 +121,6 @@ module _ (kinds : Kinds) (task : Task) (trees : Trees) (changes : List Changes) 
     before = λ _. (refl, is);
     after = λ e. absurd (true≢false (sym e));
   }
-
-  or_none : (b : Bool) → (b || false) ≡ b
-  or_none true = refl
-  or_none false = refl
 
   module _ (seen : List OutputFiles) (old : Trees) (goes_on : GoesOn kinds task old trees changes seen files) (fitting : AllByRecursion (IsFitting kinds task) task.actions) where
     one : (w : Action) × (writers kinds task.actions ≡ w ∷ [])

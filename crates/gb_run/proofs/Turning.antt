@@ -1,5 +1,5 @@
 -- The turn of the action that writes: it ends, or stops.
-use Rattle.std.specs.Prelude.{ℕ, ◌≡◌, ◌⊎◌, ◌++◌, true, List, [], ◌∷◌, map, Some, Result, Ok, Err, IsOk, IsTrue}
+use Rattle.std.specs.Prelude.{ℕ, ◌≡◌, ◌⊎◌, true, List, [], ◌∷◌, map, Some, Result, Ok, Err, IsOk, IsTrue}
 use Rattle.std.specs.List.{flat_map}
 use Rattle.std.proofs.Common.{refl, sym, ap, subst, ◌∙◌, inl, inr}
 use mathlib.Core.Bool.{true≢false}
@@ -38,6 +38,7 @@ use Rattle.gb_run.specs.Turn.{Ends, IsItsTurn, Stops}
 use Rattle.gb_run.proofs.Blocked.{step_free, step_shut_out}
 use Rattle.gb_run.proofs.Leading.{held_is_made, leads}
 use Rattle.gb_run.proofs.Looks.{sorted_steps}
+use Rattle.gb_run.proofs.Placed.{none_after}
 use Rattle.gb_run.proofs.Small.{steps_at_outputs}
 
 pub ok_value : {T E : Type 0} (r : Result T E) → IsOk r → (value : T) × (r ≡ Ok value)
@@ -47,10 +48,6 @@ ok_value (Err y) e = absurd (true≢false (sym e))
 pub none_mapped : {X Y : Type 0} (f : X → Y) (xs : List X) → map f xs ≡ [] → xs ≡ []
 none_mapped f [] e = refl
 none_mapped f (x ∷ xs) e = absurd (let q = e in (cc))
-
-pub none_later : {X : Type 0} (xs ys : List X) → xs ++ ys ≡ [] → ys ≡ []
-none_later [] ys e = e
-none_later (x ∷ xs) ys e = absurd (let q = e in (cc))
 
 module _ (kinds : Kinds) (task : Task) (action : Action) (trees : Trees) (old : Files) (may_leave : Tearing) (before : ℕ) (fault : Fault) (after : ℕ) where
   abbrev StopsWith : Files → Type 0
@@ -130,7 +127,7 @@ module _ (kinds : Kinds) (task : Task) (action : Action) (trees : Trees) (change
       step = ap (step_by task.outputs (rest_of task files) []) made.1
           ∙ step_free task files folder made.0 (steps_of task.outputs reply.removes reply.writes) steps_sorted (steps_at_outputs task.outputs reply.removes reply.writes) none_made lead room;
       few = none_mapped (λ (output : Output). faults.TooManyFiles output.name) (full_outputs task.outputs (put_over [] (placed task.outputs made.0)))
-          (none_later (flat_map (file_faults (put_over [] (placed task.outputs made.0))) (put_over [] (placed task.outputs made.0))) _ none_made);
+          (none_after (flat_map (file_faults (put_over [] (placed task.outputs made.0))) (put_over [] (placed task.outputs made.0))) _ none_made);
       files = is ∙ lead.reached;
     }
 

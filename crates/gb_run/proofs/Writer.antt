@@ -16,9 +16,9 @@ use Rattle.gb_plan.specs.declared.task.TaskDeclaration.{TaskDeclaration as Task}
 use Rattle.gb_meaning.specs.Kinds.{Kinds, kind_of}
 use Rattle.gb_meaning.specs.Label.{has_one_writer}
 use Rattle.gb_meaning.specs.Made.{act, placed, put_over, put_result, step_faults}
+use Rattle.gb_meaning.proofs.Lemmas.Files.{left_of, right_of}
 use Rattle.gb_run.specs.AskingChanges.{IsFitting, KeepsToOwn, writers}
 use Rattle.gb_run.proofs.AtPaths.{WritesTarget}
-use Rattle.gb_run.proofs.Looks.{left_of, right_of}
 
 no_cons : {X A : Type 0} (x : X) (xs : List X) → x ∷ xs ≡ [] → A
 no_cons x xs e = absurd (let q = e in (cc))
@@ -29,7 +29,10 @@ no_nil x xs e = absurd (let q = e in (cc))
 no_err : {T E A : Type 0} (r : Result T E) (x : E) (y : T) → r ≡ Err x → r ≡ Ok y → A
 no_err r x y e f = absurd (cc)
 
-ok_same : {T E : Type 0} (r : Result T E) (x y : T) → r ≡ Ok x → r ≡ Ok y → x ≡ y
+pub heads : {X : Type 0} (x y : X) (xs ys : List X) → x ∷ xs ≡ y ∷ ys → x ≡ y
+heads x y xs ys e = cc
+
+pub ok_same : {T E : Type 0} (r : Result T E) (x y : T) → r ≡ Ok x → r ≡ Ok y → x ≡ y
 ok_same r x y e f = cc
 
 never : (b : Bool) → (b && false) ≡ true → ⊥

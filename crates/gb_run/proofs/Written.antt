@@ -102,7 +102,7 @@ changes_with_all test (file ∷ files) old all =
     (changes_with test old (with_all old (file ∷ [])) file.0 file.1 refl all.0)
     (changes_with_all test files (with_all old (file ∷ [])) all.1)
 
-all_parts : {X : Type 0} (P : X → Type 0) (front : List X) (x : X) (behind : List X) → AllByRecursion P (front ++ x ∷ behind) → AllByRecursion P front × P x
+pub all_parts : {X : Type 0} (P : X → Type 0) (front : List X) (x : X) (behind : List X) → AllByRecursion P (front ++ x ∷ behind) → AllByRecursion P front × P x
 all_parts P [] x behind all = (tt, all.0)
 all_parts P (y ∷ front) x behind all = let rest = all_parts P front x behind all.1 in ((all.0, rest.0), rest.1)
 

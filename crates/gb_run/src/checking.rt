@@ -2,22 +2,18 @@
 //!
 //! All of them are looked at by place, also those that stay as they are: so what is told first is what a
 //! run in full tells first.
-ghost use Rattle.std.specs.Prelude.{◌≡◌, ◌⊎◌, [], ◌∷◌, false, Some, IsTrue, IfOk, IfErr, OnOk};
+ghost use Rattle.std.specs.Prelude.{◌≡◌, ◌⊎◌, [], Some, IfOk, IfErr, OnOk};
 ghost use Rattle.std.specs.List.{flat_map};
 ghost use Rattle.gb_core.specs.Lists.{first_of};
-ghost use Rattle.gb_core.specs.Place.{is_place};
-ghost use Rattle.gb_folder.specs.Files.{are_placed};
 ghost use Rattle.gb_meaning.specs.Made.{file_faults, put_over};
-ghost use Rattle.gb_run.specs.Placing.{blank, count_faults, faults_beside};
+ghost use Rattle.gb_run.specs.Placing.{blank, faults_beside};
 ghost use Rattle.gb_run.specs.Named.{files_left};
 ghost use Rattle.gb_run.specs.ChangeTexts.{steps_in};
 
-use crate::placing::place_of;
+use crate::placing::{check_counts, place_of};
 use gb_core::bytes::Bytes;
-use gb_core::place::{Place, PlaceFault};
-use gb_core::text::Text;
 use gb_folder::file_map::FileMap;
-use gb_folder::limits::{MAX_FILE, MAX_FILES};
+use gb_folder::limits::MAX_FILE;
 use gb_plan::task::Output;
 use gb_report::fault::Fault;
 use std::alloc::{AllocError, Global};
@@ -86,32 +82,6 @@ fn check_file(alloc: Global, all: &FileMap, text: &str, bytes: &Bytes) -> Result
     }
     if bytes.as_slice().len() as u64 > MAX_FILE {
         return Err(Fault::TooLarge(place));
-    }
-    Ok(())
-}
-
-/// Whether no output has more files than it may.
-fn check_counts(alloc: Global, held: &FileMap, outputs: &[Output]) -> Result<(), Fault>
-    requires { IsTrue (are_placed held.now) }
-    ensures ok { OnOk result (count_faults outputs.now held.now ≡ []) }
-    ensures err { IfErr result (λ fault. (fault ≡ Fault.OutOfMemory)
-        ⊎ (first_of (count_faults outputs.now held.now) ≡ Some fault)) }
-{
-    for output in outputs.iter() {
-        check_count(alloc, held, output)?;
-    }
-    Ok(())
-}
-
-fn check_count(alloc: Global, held: &FileMap, output: &Output) -> Result<(), Fault>
-    requires { IsTrue (are_placed held.now) }
-    ensures ok { OnOk result (count_faults (output.now ∷ []) held.now ≡ []) }
-    ensures err { IfErr result (λ fault. (fault ≡ Fault.OutOfMemory)
-        ⊎ (first_of (count_faults (output.now ∷ []) held.now) ≡ Some fault)) }
-{
-    let places = held.list_under(alloc, &output.place)?;
-    if places.len() > MAX_FILES {
-        return Err(Fault::TooManyFiles(output.name.copy()?));
     }
     Ok(())
 }

@@ -173,7 +173,7 @@ pub fn place_of(alloc: Global, text: &str) -> Result<Place, Fault>
 /// Whether no output has more files than it may. The outputs are looked at one by one only where the task
 /// has put more files than one may have: so an action costs no listing of all that was put before it.
 #[tactic(auto, using(crate::proofs::Counted::none_full))]
-fn check_counts(alloc: Global, taken: &FileMap, outputs: &[Output]) -> Result<(), Fault>
+pub fn check_counts(alloc: Global, taken: &FileMap, outputs: &[Output]) -> Result<(), Fault>
     requires { IsTrue (are_placed taken.now) }
     ensures ok { OnOk result (count_faults outputs.now taken.now ≡ []) }
     ensures err { IfErr result (λ fault. (fault ≡ Fault.OutOfMemory)

@@ -3,7 +3,7 @@ use Rattle.gb_history.specs.Text.{record_text}
 use Rattle.std.specs.Prelude.{ℕ, ◌≡◌, ◌≤◌, ◌⊎◌, Bool, false, true, List, [], None, Result, Ok, Err, OnErr, IfErr, map, Some, ◌||◌}
 use Rattle.std.specs.FinMap.Entries.{is_sorted}
 use Rattle.std.specs.List.{AllByRecursion, list_any}
-use Rattle.std.proofs.Common.{refl, sym, subst, ◌∙◌, inl, inr, arith}
+use Rattle.std.proofs.Common.{refl, sym, subst, ◌∙◌, inl, inr}
 use Rattle.gb_action.specs.Changes.{Changes}
 use Rattle.gb_action.specs.Files.{Trees}
 use Rattle.gb_action.specs.declared.output.OutputFiles.{OutputFiles}
@@ -42,13 +42,7 @@ use Rattle.gb_turn.proofs.Outside.{kept, trees_outside}
 use Rattle.gb_turn.proofs.Since.{goes_on_since}
 use Rattle.gb_turn.proofs.Steps.{entry_made_then, kept_record, on_course, run_by_changes_failed, run_ended, said_then, unread, unrecorded}
 use Rattle.gb_turn.proofs.Turning.{IsRun}
-use Rattle.gb_turn.proofs.Whole.{as_found}
-
-refl_le : (n : ℕ) → n ≤ n
-refl_le n = omega arith
-
-le_chain : (a b c : ℕ) → a ≤ b → b ≤ c → a ≤ c
-le_chain a b c le more = omega (arith, le, more)
+use Rattle.gb_turn.proofs.Whole.{as_found, le_chain, refl_le}
 
 -- a run that failed under one tearing failed so under the same
 fails_before : (course : Course) (old : Files) (first second : Tearing) (before after : ℕ) (fault : Fault) (lines : List Text) (new : Files) → SameTearing first second

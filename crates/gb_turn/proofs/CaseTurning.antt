@@ -1,12 +1,12 @@
 -- What follows for a task's turn from its case.
-use Rattle.std.specs.Prelude.{◌≡◌, ◌++◌, Bool, true, false, not, List, [], ◌∷◌, if◌then◌else◌, Option, Some, None}
+use Rattle.std.specs.Prelude.{◌≡◌, ◌++◌, Bool, true, false, List, [], ◌∷◌, if◌then◌else◌, Option, Some, None}
 use Rattle.std.proofs.Common.{refl, sym, ap, subst, ◌∙◌, inl, inr}
 use mathlib.Core.Bool.{true≢false}
 use Rattle.gb_folder.specs.Files.{is_empty}
 use Rattle.gb_history.specs.declared.decide.Decision.TheVariants as decisions
 use Rattle.gb_label.specs.declared.prepare.Prepared.TheVariants as prepared
 use Rattle.gb_meaning.specs.Kinds.{Kinds}
-use Rattle.gb_meaning.specs.Label.{AreChanges, CannotRead, Early, HasNoActions, HasNoSource, IsCurrent, IsIncremental, IsLabelAt, Moment, Skips, changes_from, early_case, has_one_writer, some_outcome}
+use Rattle.gb_meaning.specs.Label.{AreChanges, Early, HasNoActions, HasNoSource, IsCurrent, IsIncremental, IsLabelAt, Moment, Skips, changes_from, early_case, has_one_writer, some_outcome}
 use Rattle.gb_meaning.specs.Memory.{World}
 use Rattle.gb_meaning.specs.Tree.{has_no_source, input_faults, listing_faults, trees_of}
 use Rattle.gb_meaning.specs.Turn.{Leaves, Prints, lines_of}
@@ -18,17 +18,9 @@ use Rattle.gb_report.specs.declared.fault.Fault.{Fault}
 use Rattle.gb_report.specs.declared.report.Options.{Options}
 use Rattle.gb_report.specs.declared.report.Outcome.TheVariants as outcomes
 use Rattle.gb_turn.specs.Turns.{IdleTurnsAreTurns, IsIdleTurn, RunsAreOfCase}
+use Rattle.gb_turn.proofs.Turning.{cased}
 
 -- ---- a task without actions
-
--- the case, by what it goes by
-abbrev cased : Bool → Bool → List Fault → Bool → Option Early
-cased runs idle hindrances dry =
-    if not runs then Some Skips
-    else if idle then Some HasNoActions
-    else if not (is_empty hindrances) then Some (CannotRead hindrances)
-    else if dry then Some HasNoSource
-    else None
 
 abbrev is_idle : Option Early → Bool
 is_idle (Some HasNoActions) = true

@@ -1,5 +1,5 @@
 -- The turn of a task without source, by how its record and outputs were taken away.
-use Rattle.std.specs.Prelude.{ℕ, ◌≡◌, ◌≤◌, ◌⊎◌, ◌||◌, ◌&&◌, ◌++◌, Bool, true, false, not, List, [], ◌∷◌, map, if◌then◌else◌, is_some, Option, None, Some, Result, Ok, Err}
+use Rattle.std.specs.Prelude.{ℕ, ◌≡◌, ◌≤◌, ◌⊎◌, ◌||◌, ◌&&◌, ◌++◌, Bool, true, false, not, List, [], ◌∷◌, map, is_some, Option, None, Some, Result, Ok, Err}
 use Rattle.std.specs.List.{list_any}
 use Rattle.std.proofs.Common.{refl, sym, ap, ap₂, subst, ◌∙◌, inl, inr}
 use Rattle.gb_core.specs.Lists.{first_of}
@@ -9,7 +9,7 @@ use Rattle.gb_folder.proofs.Changes.{HasRisen-before}
 use Rattle.gb_history.specs.Places.{record_place}
 use Rattle.gb_meaning.specs.Events.{Setting, is_touched_by, may_come, own_files, rules_in}
 use Rattle.gb_meaning.specs.Kinds.{Kinds}
-use Rattle.gb_meaning.specs.Label.{CannotRead, Early, HasNoActions, HasNoSource, IsLabelAt, Moment, Skips, early_case}
+use Rattle.gb_meaning.specs.Label.{Early, HasNoSource, IsLabelAt, Moment, early_case}
 use Rattle.gb_meaning.specs.Made.{rest_of}
 use Rattle.gb_meaning.specs.Memory.{Memory, World, forget}
 use Rattle.gb_meaning.specs.Tree.{has_no_source, input_faults, listing_faults, told_of_tree}
@@ -28,6 +28,7 @@ use Rattle.gb_report.specs.declared.report.Options.{Options}
 use Rattle.gb_report.specs.declared.report.Outcome.TheVariants as outcomes
 use Rattle.gb_report.specs.declared.report.TaskReport.{TaskReport}
 use Rattle.gb_run.specs.Emptying.{CannotEmpty}
+use Rattle.gb_run.proofs.Placed.{none_after}
 use Rattle.gb_run.proofs.CutEmptying.{cut_emptyings_invent_nothing, torn_places_are_of_the_emptying}
 use Rattle.gb_store.specs.Changes.{ChangesOnly}
 use Rattle.gb_store.specs.Faults.{IsOfMachine}
@@ -39,17 +40,10 @@ use Rattle.gb_turn.proofs.Outside.{kept}
 use Rattle.gb_turn.proofs.Own.{is_kept, swapped}
 use Rattle.gb_turn.proofs.Parts.{blocked_by_own, differs_outside, outside_same}
 use Rattle.gb_turn.proofs.Taken.{found_at, taken_kept, taken_left, taken_stood}
+use Rattle.gb_turn.proofs.Turning.{cased, same_fault}
 use Rattle.gb_turn.proofs.Whole.{as_found}
 
 -- ---- the case
-
-abbrev cased : Bool → Bool → List Fault → Bool → Option Early
-cased runs idle hindrances dry =
-    if not runs then Some Skips
-    else if idle then Some HasNoActions
-    else if not (is_empty hindrances) then Some (CannotRead hindrances)
-    else if dry then Some HasNoSource
-    else None
 
 abbrev is_dry : Option Early → Bool
 is_dry (Some HasNoSource) = true
@@ -64,7 +58,7 @@ dry : (task : Task) (folder : Contents) → early_case task folder ≡ Some HasN
 dry task folder case = record {
   runs = runs_if task.runs (is_empty task.actions) there (has_no_source task folder.files) case;
   acts = acts_if task.runs (is_empty task.actions) there (has_no_source task folder.files) case;
-  listed = behind (input_faults task folder) (listing_faults task folder) (free_if task.runs (is_empty task.actions) there (has_no_source task folder.files) case);
+  listed = none_after (input_faults task folder) (listing_faults task folder) (free_if task.runs (is_empty task.actions) there (has_no_source task folder.files) case);
 }
   where
     there : List Fault
@@ -84,13 +78,6 @@ dry task folder case = record {
     free_if true true hindrances b e = not_true (ap is_dry e)
     free_if true false [] b e = refl
     free_if true false (f ∷ fs) b e = not_true (ap is_dry e)
-
-    behind : (xs ys : List Fault) → xs ++ ys ≡ [] → ys ≡ []
-    behind [] ys e = e
-    behind (x ∷ xs) ys e = not_false (sym (ap is_empty e))
-
-same_fault : (one other : Fault) → outcomes.Failed one ≡ outcomes.Failed other → one ≡ other
-same_fault one other e = cc
 
 -- what is told
 abbrev pub told_of : Task → Result (Unit {0}) Fault → TaskReport

@@ -1,13 +1,12 @@
 -- What a full run leaves that ended well, and what is recorded of it.
-use Rattle.std.specs.Prelude.{ℕ, ◌≡◌, ◌||◌, Bool, true, false, not, cond, List, [], ◌∷◌, map, Option, None, Ok}
+use Rattle.std.specs.Prelude.{◌≡◌, Bool, true, false, not, cond, List, [], map, Option, None, Ok}
 use Rattle.std.specs.FinMap.Entries.{is_sorted}
 use Rattle.std.specs.List.{list_any}
-use Rattle.std.proofs.Common.{refl, sym, ap, ap₂, ◌∙◌}
+use Rattle.std.proofs.Common.{refl, sym, ap, ◌∙◌}
 use Rattle.sha2.specs.Sha256.{sha256}
-use Rattle.gb_action.specs.Files.{Tree, Trees}
+use Rattle.gb_action.specs.Files.{Trees}
 use Rattle.gb_core.specs.Lists.{byte_order}
-use Rattle.gb_core.specs.Place.{is_under}
-use Rattle.gb_folder.specs.Files.{Place, Bytes, Files, file_at, files_where, is_own}
+use Rattle.gb_folder.specs.Files.{Place, Bytes, Files, file_at, is_own}
 use Rattle.gb_history.specs.Remembered.{Prints, prints_in}
 use Rattle.gb_meaning.specs.Kinds.{Kinds}
 use Rattle.gb_meaning.specs.Made.{made_of, put_over, rest_of, with_outputs}
@@ -20,18 +19,18 @@ use Rattle.gb_meaning.proofs.Lemmas.Reading.{AllUnseen, trees_same}
 use Rattle.gb_meaning.proofs.Lemmas.Sound.{unseen_of}
 use Rattle.gb_meaning.proofs.Lemmas.Truth.{entry_made}
 use Rattle.gb_plan.proofs.Places.{out_of}
-use Rattle.gb_plan.proofs.Tests.{not_false, or_right}
+use Rattle.gb_plan.proofs.Tests.{not_false}
 use Rattle.gb_plan.specs.Graph.{reads_output_of}
 use Rattle.gb_plan.specs.Task.{is_output_of, output_places}
 use Rattle.gb_plan.specs.declared.task.Output.{Output}
 use Rattle.gb_plan.specs.declared.task.TaskDeclaration.{TaskDeclaration as Task}
-use Rattle.gb_records.specs.Said.{IsSaidOf, output_said}
-use Rattle.gb_tree.specs.Tree.{files_from}
+use Rattle.gb_records.specs.Said.{IsSaidOf}
+use Rattle.gb_run.proofs.Owned.{narrowed}
 use Rattle.gb_label.specs.Reading.{digests_in, recorded_of}
 use Rattle.gb_turn.specs.Keeping.{run_now}
 use Rattle.gb_turn.proofs.Outside.{kept, trees_outside}
 use Rattle.gb_turn.proofs.Own.{is_kept, kept_at, swapped}
-use Rattle.gb_turn.proofs.Parts.{from_same, narrowed}
+use Rattle.gb_turn.proofs.Present.{output_trees, outputs_told, part_same, prints_told}
 
 -- a task that reads none of its own outputs sees nothing at them
 pub sees_none : (task : Task) → reads_output_of task task ≡ false → AllUnseen (λ q. not (is_output_of task q)) task
@@ -61,28 +60,6 @@ kept_over task out held files sorted right =
     by : (b : Bool) (new old : Option Bytes) → (b ≡ false → new ≡ None) → cond b (or_else new old) None ≡ or_else new (cond b old None)
     by true new old h = refl
     by false new old h = sym (ap (λ o. or_else o None) (h refl))
-
--- ---- the outputs as they are recorded
-
-abbrev output_trees : Files → List Output → Trees
-output_trees files outputs = map (λ (output : Output). let tree : List ℕ × Tree = (output.name, files_from files output.place) in tree) outputs
-
-outputs_told : (files : Files) (outputs : List Output) → map output_said (map (recorded_of files) outputs) ≡ outputs
-outputs_told files [] = refl
-outputs_told files (output ∷ outputs) = ap (λ (l : List Output). output ∷ l) (outputs_told files outputs)
-
-prints_told : (files : Files) (outputs : List Output) → prints_in (map (recorded_of files) outputs) ≡ prints_of sha256 (output_trees files outputs)
-prints_told files [] = refl
-prints_told files (output ∷ outputs) = ap (λ (l : List Prints). (recorded_of files output).prints ∷ l) (prints_told files outputs)
-
--- in a part of a folder that has all of the outputs they are the same
-part_same : (test : Place → Bool) (files : Files) (outputs : List Output) → ((q : Place) → list_any (λ (o : Output). is_under q o.place) outputs ≡ true → test q ≡ true)
-    → output_trees (files_where test files) outputs ≡ output_trees files outputs
-part_same test files [] within = refl
-part_same test files (output ∷ outputs) within =
-    ap₂ (λ (tree : Tree) (l : Trees). let head : List ℕ × Tree = (output.name, tree) in head ∷ l)
-    (from_same test files output.place (λ q under. within q (ap (λ b. b || list_any (λ (o : Output). is_under q o.place) outputs) under)))
-    (part_same test files outputs (λ q any. within q (or_right (is_under q output.place) (list_any (λ (o : Output). is_under q o.place) outputs) any)))
 
 -- ---- a run that ended well
 

@@ -16,7 +16,7 @@ use Rattle.gb_meaning.specs.Made.{act, fault_if, file_faults, full_outputs, made
 use Rattle.gb_meaning.specs.Tree.{told_of_tree}
 use Rattle.gb_meaning.proofs.Common.{some_same}
 use Rattle.gb_meaning.proofs.Lemmas.Files.{at-with, or_else}
-use Rattle.gb_plan.proofs.Tests.{not_false, not_true}
+use Rattle.gb_plan.proofs.Tests.{not_true}
 use Rattle.gb_plan.specs.Task.{is_output_of}
 use Rattle.gb_meaning.specs.Memory.{output_files}
 use Rattle.gb_plan.specs.declared.task.Action.{Action}
@@ -27,6 +27,7 @@ use Rattle.gb_tree.specs.Tree.{entries_from, is_large, odd_roots, path_from, too
 use Rattle.gb_tree.specs.declared.fault.TreeFault.{TreeFault}
 use Rattle.gb_tree.specs.declared.fault.TreeFault.TheVariants as trees
 use Rattle.gb_label.specs.Reading.{print_faults}
+use Rattle.gb_label.proofs.Growth.{odd_parts}
 use Rattle.gb_turn.specs.Case.{MadeIsNotGrown}
 use Rattle.gb_turn.proofs.Part.{Within, all_under, bytes_same, first_within, rest_within, under_same}
 
@@ -191,21 +192,6 @@ module _ (test : Place → Bool) (folder : Contents) (small : IsSmall (files_whe
       let parts = few_each output outputs few in
       ap₂ (λ (x y : List Fault). x ++ y) (one_readable output odd.0 (first_within test output outputs within) parts.0)
       (all_readable outputs odd.1 (rest_within test output outputs within) parts.1)
-
--- the first output has nothing odd, nor have the others
-odd_parts : (folder : Contents) (output : Output) (outputs : List Output)
-    → map told_of_tree (odd_roots folder (map (λ (o : Output). o.place) (output ∷ outputs))) ≡ []
-    → (is_odd_under folder output.place ≡ false) × (map told_of_tree (odd_roots folder (map (λ (o : Output). o.place) outputs)) ≡ [])
-odd_parts folder output outputs none = by (is_odd_under folder output.place) refl none
-  where
-    places : List Place
-    places = map (λ (o : Output). o.place) outputs
-
-    by : (b : Bool) → is_odd_under folder output.place ≡ b
-        → map told_of_tree (map trees.BadFileName (cond b (output.place ∷ filter (is_odd_under folder) places) (filter (is_odd_under folder) places))) ≡ []
-        → (is_odd_under folder output.place ≡ false) × (map told_of_tree (odd_roots folder places) ≡ [])
-    by true is e = not_false (sym (ap is_empty e))
-    by false is e = (is, e)
 
 none_odd : (folder : Contents) (outputs : List Output) → map told_of_tree (odd_roots folder (map (λ (o : Output). o.place) outputs)) ≡ []
     → AllByRecursion (λ (o : Output). is_odd_under folder o.place ≡ false) outputs

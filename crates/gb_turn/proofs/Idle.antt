@@ -1,7 +1,7 @@
 -- The turn of a task, settled by what it was prepared for.
-use Rattle.std.specs.Prelude.{ℕ, ◌≡◌, ◌||◌, ◌&&◌, ◌++◌, Bool, true, false, not, List, [], if◌then◌else◌, Option, None, Some, Result, Ok, Err, OnErr, IfOk, IfErr, IsTrue}
+use Rattle.std.specs.Prelude.{ℕ, ◌≡◌, ◌||◌, ◌&&◌, Bool, true, false, not, List, [], if◌then◌else◌, Option, None, Some, Result, Ok, Err, OnErr, IfOk, IfErr, IsTrue}
 use Rattle.std.specs.List.{list_any}
-use Rattle.std.proofs.Common.{refl, sym, ap, ap₂, subst, ◌∙◌, inl, inr}
+use Rattle.std.proofs.Common.{refl, sym, ap, subst, ◌∙◌, inl, inr}
 use Rattle.gb_turn.specs.Case.{IsCaseOf, IsKnown, OutsideIsEnough, PreparedIsCase}
 use Rattle.gb_turn.specs.Turns.{IdleTurnsAreTurns, IsIdleTurn, RunsAreOfCase}
 use Rattle.gb_core.specs.Lists.{first_of}
@@ -14,7 +14,6 @@ use Rattle.gb_label.specs.declared.prepare.Prepared.{Prepared}
 use Rattle.gb_label.specs.declared.prepare.Prepared.TheVariants as prepared
 use Rattle.gb_meaning.specs.Events.{Setting, StandsInRun, is_touched_by, may_come, own_files, rules_in}
 use Rattle.gb_meaning.specs.Label.{CannotRead, Early, HasNoActions, HasNoSource, IsLabelAt, Moment, Skips, early_case, some_outcome}
-use Rattle.gb_meaning.specs.Tree.{listing_faults}
 use Rattle.gb_meaning.specs.TrueRecord.{outside}
 use Rattle.gb_meaning.specs.Turn.{ByMachine, Cause, FailedRunLeaves, FailedRunPrints, FailureLeaves, FailurePrints, Standing as Stands, StartedTurn, cause_of}
 use Rattle.gb_plan.specs.Graph.{Plan, needs_in}
@@ -30,17 +29,7 @@ use Rattle.gb_report.specs.declared.report.Outcome.{Outcome}
 use Rattle.gb_report.specs.declared.report.Outcome.TheVariants as outcomes
 use Rattle.gb_label.specs.Reading.{is_input_of}
 use Rattle.gb_turn.specs.Settled.{AnswersAlone, IsOfTask, SettlesTurn, idle_outcome, settled_as, silent_report}
-use Rattle.gb_turn.proofs.Outside.{inputs_outside, source_outside}
-
-pub early_outside : (task : Task) (folder : Contents) → early_case task (outside folder) ≡ early_case task folder
-early_outside task folder =
-    ap₂ (λ (hindrances : List Fault) (dry : Bool). if not task.runs then Some Skips
-    else if is_empty task.actions then Some HasNoActions
-    else if not (is_empty hindrances) then Some (CannotRead hindrances)
-    else if dry then Some HasNoSource
-    else None)
-    (ap (λ (fs : List Fault). fs ++ listing_faults task folder) (inputs_outside task folder))
-    (source_outside task folder.files)
+use Rattle.gb_turn.proofs.Outside.{early_outside}
 
 same_outcome : (idle : Bool) → idle_outcome idle ≡ (if idle then outcomes.Executed else outcomes.UpToDate)
 same_outcome true = refl

@@ -1,15 +1,13 @@
 -- What a task reads in a whole folder it reads in the folder without the tool's own files.
-use Rattle.std.specs.Prelude.{ℕ, ◌≡◌, ◌++◌, ◌&&◌, Bool, true, false, not, List, [], ◌∷◌, map, length, nat_lt, cond, unwrap_or, None}
+use Rattle.std.specs.Prelude.{ℕ, ◌≡◌, ◌++◌, ◌&&◌, Bool, true, false, not, List, [], ◌∷◌, map, cond, if◌then◌else◌, Some, None}
 use Rattle.std.specs.List.{AllByRecursion, filter, flat_map, list_all, list_any}
 use Rattle.std.proofs.Common.{refl, sym, ap, ap₂, ◌∙◌}
 use Rattle.gb_core.specs.Place.{is_under}
 use Rattle.gb_action.specs.Changes.{Changes, changes_between}
 use Rattle.gb_action.specs.Files.{Tree, Trees}
-use Rattle.gb_folder.specs.Files.{Place, Bytes, Contents, Files, file_at, files_where, is_empty, is_own, places_under}
-use Rattle.gb_folder.specs.Limits.{max_file}
-use Rattle.gb_folder.proofs.Changes.{file_at-files_where}
-use Rattle.gb_meaning.specs.Label.{changes_from}
-use Rattle.gb_meaning.specs.Tree.{has_no_source, input_faults, told_of_tree, tree_faults, tree_of, trees_of}
+use Rattle.gb_folder.specs.Files.{Place, Bytes, Contents, Files, files_where, is_empty, is_own, places_under}
+use Rattle.gb_meaning.specs.Label.{CannotRead, HasNoActions, HasNoSource, Skips, changes_from, early_case}
+use Rattle.gb_meaning.specs.Tree.{has_no_source, input_faults, listing_faults, told_of_tree, tree_faults, tree_of, trees_of}
 use Rattle.gb_meaning.specs.TrueRecord.{outside}
 use Rattle.gb_meaning.proofs.Lemmas.Reading.{all_flat_map, all_in_order, all_map}
 use Rattle.gb_plan.proofs.Tests.{left_of}
@@ -17,37 +15,17 @@ use Rattle.gb_plan.specs.declared.task.FileProperty.{FileProperty}
 use Rattle.gb_plan.specs.declared.task.TaskDeclaration.{TaskDeclaration as Task}
 use Rattle.gb_report.specs.declared.fault.Fault.{Fault}
 use Rattle.gb_tree.specs.Property.{distinct, doubled, entries_in, entries_of, found, in_order, is_in, lets_in, path_of, paths_of, seen_from, places_of, starts_in}
-use Rattle.gb_tree.specs.Tree.{Entries, bytes_at, contents_at, is_large, odd_roots, too_large, too_many}
+use Rattle.gb_tree.specs.Tree.{Entries, contents_at, odd_roots, too_large, too_many}
 use Rattle.gb_tree.specs.declared.fault.TreeFault.{TreeFault}
 use Rattle.gb_tree.specs.declared.fault.TreeFault.TheVariants as trees
 use Rattle.gb_turn.proofs.Own.{is_kept}
+use Rattle.gb_turn.proofs.Part.{entries_same, large_same}
 
 abbrev IsKept : List ℕ × Place → Type 0
 IsKept entry = is_kept entry.1 ≡ true
 
 abbrev pub kept : Files → Files
 kept files = files_where is_kept files
-
--- ---- contents of entries
-
-bytes_same : (files : Files) (place : Place) → is_kept place ≡ true → bytes_at (files_where is_kept files) place ≡ bytes_at files place
-bytes_same files place passes =
-    ap (λ o. unwrap_or o []) (file_at-files_where files is_kept place ∙ ap (λ b. cond b (file_at files place) None) passes)
-
-entries_same : (files : Files) (entries : Entries) → AllByRecursion IsKept entries → contents_at (files_where is_kept files) entries ≡ contents_at files entries
-entries_same files [] all = refl
-entries_same files (entry ∷ entries) all =
-    ap₂ (λ (b : Bytes) (l : Files). (entry.0, b) ∷ l) (bytes_same files entry.1 all.0) (entries_same files entries all.1)
-
-large_entries : (files : Files) (entries : Entries) → AllByRecursion IsKept entries
-    → filter (λ (entry : List ℕ × Place). is_large (files_where is_kept files) entry.1) entries ≡ filter (λ (entry : List ℕ × Place). is_large files entry.1) entries
-large_entries files [] all = refl
-large_entries files (entry ∷ entries) all =
-    ap₂ (λ (b : Bool) (l : Entries). cond b (entry ∷ l) l) (ap (λ (bytes : Bytes). nat_lt max_file (length bytes)) (bytes_same files entry.1 all.0))
-    (large_entries files entries all.1)
-
-large_same : (files : Files) (entries : Entries) → AllByRecursion IsKept entries → too_large (files_where is_kept files) entries ≡ too_large files entries
-large_same files entries all = ap (map (λ (entry : List ℕ × Place). trees.TooLarge entry.1)) (large_entries files entries all)
 
 -- ---- entries of a root
 
@@ -116,14 +94,14 @@ module _ (property : FileProperty) (files : Files) where
       all_in_order IsKept (found_in files (distinct property.roots))
       (all_flat_map IsKept (λ root. entries_in property.naming property.include property.exclude root (places_under files root)) (distinct property.roots) (each_root (distinct property.roots)))
 
-  tree_outside : tree_of property (files_where is_kept files) ≡ tree_of property files
-  tree_outside = ap (contents_at (files_where is_kept files)) entries_are ∙ entries_same files (entries files) all_kept
+  pub tree_outside : tree_of property (files_where is_kept files) ≡ tree_of property files
+  tree_outside = ap (contents_at (files_where is_kept files)) entries_are ∙ entries_same is_kept files (entries files) all_kept
 
-  faults_outside : (odd : List (List ℕ)) → tree_faults property (record { files = files_where is_kept files; odd = odd }) ≡ tree_faults property (record { files = files; odd = odd })
+  pub faults_outside : (odd : List (List ℕ)) → tree_faults property (record { files = files_where is_kept files; odd = odd }) ≡ tree_faults property (record { files = files; odd = odd })
   faults_outside odd =
       ap₂ (λ (es : Entries) (large : List TreeFault). map told_of_tree ((odd_roots (record { files = files; odd = odd }) (places_of (starts_in property.include (distinct property.roots))) ++ too_many property.name es
       ++ map (trees.DuplicateInput property.name) (doubled (paths_of es))) ++ large)) entries_are
-      (ap (too_large (files_where is_kept files)) entries_are ∙ large_same files (entries files) all_kept)
+      (ap (too_large (files_where is_kept files)) entries_are ∙ large_same is_kept files (entries files) all_kept)
 
 -- ---- tasks
 
@@ -161,5 +139,16 @@ faults_of : (folder : Contents) (properties : List FileProperty)
 faults_of folder [] = refl
 faults_of folder (property ∷ properties) = ap₂ (λ (x y : List Fault). x ++ y) (faults_outside property folder.files folder.odd) (faults_of folder properties)
 
-pub inputs_outside : (task : Task) (folder : Contents) → input_faults task (outside folder) ≡ input_faults task folder
+inputs_outside : (task : Task) (folder : Contents) → input_faults task (outside folder) ≡ input_faults task folder
 inputs_outside task folder = faults_of folder task.files
+
+-- so the case before any record is looked at is the same
+pub early_outside : (task : Task) (folder : Contents) → early_case task (outside folder) ≡ early_case task folder
+early_outside task folder =
+    ap₂ (λ (hindrances : List Fault) (dry : Bool). if not task.runs then Some Skips
+    else if is_empty task.actions then Some HasNoActions
+    else if not (is_empty hindrances) then Some (CannotRead hindrances)
+    else if dry then Some HasNoSource
+    else None)
+    (ap (λ (fs : List Fault). fs ++ listing_faults task folder) (inputs_outside task folder))
+    (source_outside task folder.files)

@@ -1,30 +1,17 @@
 -- The files of a part of a folder that holds all of an output.
 use Rattle.std.specs.Prelude.{ℕ, ◌≡◌, ◌||◌, Bool, true, false, None, List, [], ◌∷◌, map, length, nat_lt, cond, if◌then◌else◌, unwrap_or}
 use Rattle.std.specs.List.{AllByRecursion, filter, list_any}
-use Rattle.std.proofs.Common.{refl, sym, ap, ap₂, ◌∙◌}
+use Rattle.std.proofs.Common.{refl, ap, ap₂, ◌∙◌}
 use Rattle.gb_core.specs.Place.{is_under}
 use Rattle.gb_folder.specs.Files.{Place, Bytes, Files, file_at, files_under, files_where, is_own, places_under}
 use Rattle.gb_folder.proofs.Changes.{file_at-files_where}
 use Rattle.gb_meaning.proofs.Lemmas.Reading.{all_map, all_where}
-use Rattle.gb_plan.proofs.Tests.{not_false, or_right}
+use Rattle.gb_plan.proofs.Tests.{or_right}
 use Rattle.gb_plan.specs.declared.task.Output.{Output}
+use Rattle.gb_run.proofs.Owned.{narrowed}
 use Rattle.gb_folder.specs.Limits.{max_file}
 use Rattle.gb_tree.specs.Tree.{Entries, bytes_at, contents_at, entries_from, files_from, is_large, path_from, too_large}
 use Rattle.gb_tree.specs.declared.fault.TreeFault.TheVariants as trees
-
--- of the files that pass a test, those that pass a narrower one
-narrowed : (inner wide : Place → Bool) → ((q : Place) → inner q ≡ true → wide q ≡ true) → (files : Files)
-    → files_where inner (files_where wide files) ≡ files_where inner files
-narrowed inner wide within [] = refl
-narrowed inner wide within (f ∷ files) =
-    let rest = narrowed inner wide within files in
-    elim (wide f.0) as (λ b. wide f.0 ≡ b → files_where inner (cond b (f ∷ files_where wide files) (files_where wide files)) ≡ cond (inner f.0) (f ∷ files_where inner files) (files_where inner files)) [
-      | true ↦ λ _. ap (λ (xs : Files). cond (inner f.0) (f ∷ xs) xs) rest
-      | false ↦ λ out. elim (inner f.0) as (λ b. inner f.0 ≡ b → files_where inner (files_where wide files) ≡ cond b (f ∷ files_where inner files) (files_where inner files)) [
-        | true ↦ λ e. not_false (sym (within f.0 e) ∙ out)
-        | false ↦ λ _. rest
-      ] refl
-    ] refl
 
 module _ (test : Place → Bool) where
   -- all that stands at or beneath the root passes

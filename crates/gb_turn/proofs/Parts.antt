@@ -1,38 +1,22 @@
 -- Parts of a folder: without the tool's own files, at a task's outputs, and but for its record.
-use Rattle.std.specs.Prelude.{ℕ, ◌≡◌, ◌||◌, ◌&&◌, Bool, true, false, not, None, List, [], ◌∷◌, map, cond, if◌then◌else◌, unwrap_or, bytes_eq}
-use Rattle.std.specs.List.{AllByRecursion, list_any}
+use Rattle.std.specs.Prelude.{ℕ, ◌≡◌, ◌||◌, ◌&&◌, Bool, true, false, not, List, [], ◌∷◌, cond, bytes_eq}
+use Rattle.std.specs.List.{list_any}
 use Rattle.std.specs.Cmp.Lexicographic.{bytes_decides}
 use Rattle.std.proofs.Common.{refl, sym, ap, ap₂, ◌∙◌}
-use Rattle.gb_core.specs.Place.{is_beneath, is_under}
-use Rattle.gb_folder.specs.Files.{Place, Bytes, Contents, DiffersOnlyAt, Files, file_at, files_where, is_blocked, is_own, places_under}
+use Rattle.gb_core.specs.Place.{is_beneath}
+use Rattle.gb_folder.specs.Files.{Place, Contents, DiffersOnlyAt, Files, files_where, is_blocked, is_own}
 use Rattle.gb_folder.proofs.Beneath.{not_beneath_itself}
-use Rattle.gb_folder.proofs.Changes.{file_at-files_where}
 use Rattle.gb_history.specs.Places.{record_place}
 use Rattle.gb_meaning.specs.TrueRecord.{outside}
-use Rattle.gb_meaning.proofs.Lemmas.Reading.{all_map, all_where}
 use Rattle.gb_plan.proofs.Tests.{neither, no_longer, not_false, not_true}
 use Rattle.gb_plan.specs.Task.{Path, is_output_of}
 use Rattle.gb_plan.specs.declared.task.Output.{Output}
 use Rattle.gb_plan.specs.declared.task.TaskDeclaration.{TaskDeclaration as Task}
+pub use Rattle.gb_run.proofs.Owned.{narrowed}
 use Rattle.gb_store.specs.Changes.{ChangesOnly, is_at}
-use Rattle.gb_tree.specs.Tree.{Entries, bytes_at, contents_at, entries_from, files_from, path_from}
 use Rattle.gb_turn.specs.Turned.{is_of_turn}
 use Rattle.gb_turn.proofs.Outside.{kept}
 use Rattle.gb_turn.proofs.Own.{blocked_where, is_kept, kept_at, not_in_own_way}
-
--- of the files that pass a test, those that pass a narrower one
-pub narrowed : (inner wide : Place → Bool) → ((q : Place) → inner q ≡ true → wide q ≡ true) → (files : Files)
-    → files_where inner (files_where wide files) ≡ files_where inner files
-narrowed inner wide within [] = refl
-narrowed inner wide within (f ∷ files) =
-    let rest = narrowed inner wide within files in
-    elim (wide f.0) as (λ b. wide f.0 ≡ b → files_where inner (cond b (f ∷ files_where wide files) (files_where wide files)) ≡ cond (inner f.0) (f ∷ files_where inner files) (files_where inner files)) [
-      | true ↦ λ _. ap (λ (xs : Files). cond (inner f.0) (f ∷ xs) xs) rest
-      | false ↦ λ out. elim (inner f.0) as (λ b. inner f.0 ≡ b → files_where inner (files_where wide files) ≡ cond b (f ∷ files_where inner files) (files_where inner files)) [
-        | true ↦ λ e. not_false (sym (within f.0 e) ∙ out)
-        | false ↦ λ _. rest
-      ] refl
-    ] refl
 
 where_both : (one other : Place → Bool) (files : Files) → files_where one (files_where other files) ≡ files_where (λ q. other q && one q) files
 where_both one other [] = refl
@@ -154,33 +138,3 @@ module _ (task : Task) (old new : Files) (differs : DiffersOnlyAt (is_of_turn ta
         ∙ ap (λ files. is_blocked files (record_place task.path)) (sym (where_both is_own (λ q. not (is_of_turn task q)) new) ∙ ap (files_where is_own) differs ∙ where_both is_own (λ q. not (is_of_turn task q)) old)
         ∙ blocked_where others (record_place task.path) free old
         ∙ sym (blocked_where is_own (record_place task.path) (λ f not_own. not_in_own_way (record_place task.path) f refl not_own) old)
-
--- ---- the files of an output in a part
-
-module _ (test : Place → Bool) where
-  abbrev Within : Place → Type 0
-  Within root = (q : Place) → is_under q root ≡ true → test q ≡ true
-
-  bytes_same : (files : Files) (place : Place) → test place ≡ true → bytes_at (files_where test files) place ≡ bytes_at files place
-  bytes_same files place passes =
-      ap (λ o. unwrap_or o []) (file_at-files_where files test place ∙ ap (λ b. cond b (file_at files place) None) passes)
-
-  entries_same : (files : Files) (entries : Entries) → AllByRecursion (λ (entry : List ℕ × Place). test entry.1 ≡ true) entries
-      → contents_at (files_where test files) entries ≡ contents_at files entries
-  entries_same files [] all = refl
-  entries_same files (entry ∷ entries) all =
-      ap₂ (λ (b : Bytes) (l : Files). (entry.0, b) ∷ l) (bytes_same files entry.1 all.0) (entries_same files entries all.1)
-
-  all_from : (files : Files) (root : Place) → Within root → AllByRecursion (λ (entry : List ℕ × Place). test entry.1 ≡ true) (entries_from root (places_under files root))
-  all_from files root within =
-      all_map (λ (entry : List ℕ × Place). test entry.1 ≡ true) (λ place. (path_from root place, place)) (places_under files root)
-      (all_where (λ place. test place ≡ true) (λ place. is_under place root) within files)
-
-  pub from_same : (files : Files) (root : Place) → Within root → files_from (files_where test files) root ≡ files_from files root
-  from_same files root within =
-      elim (is_own root) as (λ own. contents_at (files_where test files) (if own then [] else entries_from root (places_under (files_where test files) root)) ≡ contents_at files (if own then [] else entries_from root (places_under files root))) [
-        | true ↦ refl
-        | false ↦
-            ap (λ (fs : Files). contents_at (files_where test files) (entries_from root (map (λ (file : Place × Bytes). file.0) fs))) (narrowed (λ place. is_under place root) test within files)
-            ∙ entries_same files (entries_from root (places_under files root)) (all_from files root within)
-      ]

@@ -19,24 +19,24 @@ use Rattle.gb_turn.specs.Case.{PresentIsOfContents}
 use Rattle.gb_turn.proofs.Part.{first_within, from_same, rest_within}
 
 -- the outputs with their files in a folder
-abbrev output_trees : Files → List Output → Trees
+abbrev pub output_trees : Files → List Output → Trees
 output_trees files outputs = map (λ (output : Output). let tree : List ℕ × Tree = (output.name, files_from files output.place) in tree) outputs
 
-outputs_told : (files : Files) (outputs : List Output) → map output_said (map (recorded_of files) outputs) ≡ outputs
+pub outputs_told : (files : Files) (outputs : List Output) → map output_said (map (recorded_of files) outputs) ≡ outputs
 outputs_told files [] = refl
 outputs_told files (output ∷ outputs) = ap (λ (l : List Output). output ∷ l) (outputs_told files outputs)
 
-prints_told : (files : Files) (outputs : List Output) → prints_in (map (recorded_of files) outputs) ≡ prints_of sha256 (output_trees files outputs)
+pub prints_told : (files : Files) (outputs : List Output) → prints_in (map (recorded_of files) outputs) ≡ prints_of sha256 (output_trees files outputs)
 prints_told files [] = refl
 prints_told files (output ∷ outputs) = ap (λ (l : List Prints). (recorded_of files output).prints ∷ l) (prints_told files outputs)
 
--- in the part of a folder at the outputs they are the same
-trees_same : (test : Place → Bool) (files : Files) (outputs : List Output) → ((q : Place) → list_any (λ (o : Output). is_under q o.place) outputs ≡ true → test q ≡ true)
+-- in a part of a folder that has all of the outputs they are the same
+pub part_same : (test : Place → Bool) (files : Files) (outputs : List Output) → ((q : Place) → list_any (λ (o : Output). is_under q o.place) outputs ≡ true → test q ≡ true)
     → output_trees (files_where test files) outputs ≡ output_trees files outputs
-trees_same test files [] within = refl
-trees_same test files (output ∷ outputs) within =
+part_same test files [] within = refl
+part_same test files (output ∷ outputs) within =
     ap₂ (λ (tree : Tree) (l : Trees). let head : List ℕ × Tree = (output.name, tree) in head ∷ l) (from_same test files output.place (first_within test output outputs within))
-    (trees_same test files outputs (rest_within test output outputs within))
+    (part_same test files outputs (rest_within test output outputs within))
 
 pub present_is_of_contents : PresentIsOfContents
 present_is_of_contents options task files present is = record {
@@ -53,4 +53,4 @@ present_is_of_contents options task files present is = record {
 
     told : with_outputs (map output_said (map (recorded_of files) task.outputs)) (prints_in (map (recorded_of files) task.outputs)) ≡ record_of sha256 (entry_of task files)
     told = ap₂ with_outputs (outputs_told files task.outputs)
-        (prints_told files task.outputs ∙ ap (prints_of sha256) (sym (trees_same (is_output_of task) files task.outputs (λ q under. under))))
+        (prints_told files task.outputs ∙ ap (prints_of sha256) (sym (part_same (is_output_of task) files task.outputs (λ q under. under))))

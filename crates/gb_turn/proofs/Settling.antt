@@ -32,7 +32,7 @@ use Rattle.gb_label.specs.declared.outputs.Outputs.{Outputs}
 use Rattle.gb_turn.specs.Anew.{AreDecided, AreWhole, AreWholeOutputs, IsAnew, IsAsBefore, anew_by}
 use Rattle.gb_turn.specs.Turned.{IsToGoOn}
 use Rattle.gb_turn.proofs.Given.{named_outputs}
-use Rattle.gb_turn.proofs.Idle.{early_outside}
+use Rattle.gb_turn.proofs.Outside.{early_outside}
 use Rattle.gb_turn.proofs.Later.{known_made}
 
 -- the digests of what stands make the records of it

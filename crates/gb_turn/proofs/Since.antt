@@ -26,6 +26,7 @@ use Rattle.gb_meaning.specs.Memory.{Entry, Memory, output_files, recalled}
 use Rattle.gb_meaning.specs.Tree.{tree_of, trees_of}
 use Rattle.gb_meaning.specs.TrueRecord.{IsMade, Stores, outside, prints_of, record_of}
 use Rattle.gb_meaning.proofs.Common.{none_some}
+use Rattle.gb_meaning.proofs.Lemmas.Files.{same_place}
 use Rattle.gb_plan.specs.Graph.{some_overlap}
 use Rattle.gb_plan.specs.Task.{is_output_of, output_places}
 use Rattle.gb_plan.specs.declared.task.FileProperty.{FileProperty}
@@ -36,11 +37,12 @@ use Rattle.gb_records.specs.Said.{IsText}
 use Rattle.gb_records.specs.Standing.{Standing}
 use Rattle.gb_report.specs.declared.report.Options.{Options}
 use Rattle.gb_run.specs.AskingChanges.{GoesOn, request_of, seen_of}
-use Rattle.gb_run.proofs.Looks.{find_kept, same_place}
+use Rattle.gb_run.proofs.Looks.{find_kept}
+use Rattle.gb_run.proofs.Owned.{narrowed}
 use Rattle.gb_store.specs.Changes.{ChangesOnly, is_at}
 use Rattle.gb_turn.proofs.Outside.{kept}
 use Rattle.gb_turn.proofs.Own.{is_kept, kept_at}
-use Rattle.gb_turn.proofs.Parts.{from_same, narrowed}
+use Rattle.gb_turn.proofs.Part.{from_same}
 use Rattle.gb_turn.proofs.Taken.{taken_kept}
 
 -- ---- properties by name

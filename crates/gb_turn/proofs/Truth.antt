@@ -22,14 +22,13 @@ use Rattle.gb_history.specs.Remembered.{ArePrints, Prints, Remembered, prints_in
 use Rattle.gb_history.specs.Text.{record_text}
 use Rattle.gb_history.specs.declared.decide.Present.{Present}
 use Rattle.gb_run.specs.AskingChanges.{GoesOn, request_of}
-use Rattle.gb_run.proofs.Looks.{same_place}
 use Rattle.gb_meaning.proofs.Common.{none_some}
 use Rattle.gb_meaning.specs.Kinds.{Kinds}
 use Rattle.gb_meaning.specs.Label.{has_one_writer}
 use Rattle.gb_meaning.specs.Made.{made_of}
 use Rattle.gb_meaning.specs.Memory.{Entry, output_files}
 use Rattle.gb_meaning.specs.TrueRecord.{Record, contents_in, contents_of, prints_of, record_of}
-use Rattle.gb_meaning.proofs.Lemmas.Files.{at-where, same_files, sorted-where}
+use Rattle.gb_meaning.proofs.Lemmas.Files.{at-where, same_files, same_place, sorted-where}
 use Rattle.gb_meaning.proofs.Lemmas.Making.{IsRight, made_of_is_right}
 use Rattle.gb_plan.specs.Task.{is_output_of, seen_files, seen_outputs}
 use Rattle.gb_plan.specs.declared.task.Output.{Output}

@@ -19,11 +19,12 @@ use Rattle.gb_report.specs.declared.fault.Fault.TheVariants as faults
 use Rattle.gb_report.specs.declared.report.Options.{Options}
 use Rattle.gb_report.specs.declared.report.Outcome.TheVariants as outcomes
 use Rattle.gb_meaning.proofs.Common.{none_some}
+use Rattle.gb_run.proofs.Placed.{none_after, none_before}
 use Rattle.gb_turn.specs.Turned.{report_of}
 
 -- ---- the case before any record is looked at
 
-abbrev cased : Bool → Bool → List Fault → Bool → Option Early
+abbrev pub cased : Bool → Bool → List Fault → Bool → Option Early
 cased runs idle hindrances dry =
     if not runs then Some Skips
     else if idle then Some HasNoActions
@@ -43,8 +44,8 @@ pub goes : (task : Task) (folder : Contents) → early_case task folder ≡ None
 goes task folder none = record {
   runs = runs_if task.runs (is_empty task.actions) faults_there (has_no_source task folder.files) none;
   acts = acts_if task.runs (is_empty task.actions) faults_there (has_no_source task folder.files) none;
-  readable = front (input_faults task folder) (listing_faults task folder) (free_if task.runs (is_empty task.actions) faults_there (has_no_source task folder.files) none);
-  listed = behind (input_faults task folder) (listing_faults task folder) (free_if task.runs (is_empty task.actions) faults_there (has_no_source task folder.files) none);
+  readable = none_before (input_faults task folder) (listing_faults task folder) (free_if task.runs (is_empty task.actions) faults_there (has_no_source task folder.files) none);
+  listed = none_after (input_faults task folder) (listing_faults task folder) (free_if task.runs (is_empty task.actions) faults_there (has_no_source task folder.files) none);
   source = source_if task.runs (is_empty task.actions) faults_there (has_no_source task folder.files) none;
 }
   where
@@ -73,21 +74,13 @@ goes task folder none = record {
     source_if true false [] false e = refl
     source_if true false (f ∷ fs) dry e = none_some (sym e)
 
-    front : (xs ys : List Fault) → xs ++ ys ≡ [] → xs ≡ []
-    front [] ys e = refl
-    front (x ∷ xs) ys e = not_false (sym (ap is_empty e))
-
-    behind : (xs ys : List Fault) → xs ++ ys ≡ [] → ys ≡ []
-    behind [] ys e = e
-    behind (x ∷ xs) ys e = not_false (sym (ap is_empty e))
-
 -- ---- how it ended
 
 pub take_whole : {X : Type 0} (xs : List X) → take (length xs) xs ≡ xs
 take_whole [] = refl
 take_whole (x ∷ xs) = ap (λ ys. x ∷ ys) (take_whole xs)
 
-same_fault : (one other : Fault) → outcomes.Failed one ≡ outcomes.Failed other → one ≡ other
+pub same_fault : (one other : Fault) → outcomes.Failed one ≡ outcomes.Failed other → one ≡ other
 same_fault one other e = cc
 
 -- the lines that these actions print in the run of the task on these files

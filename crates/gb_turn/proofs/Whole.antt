@@ -36,10 +36,10 @@ use Rattle.gb_turn.proofs.Outside.{changes_outside, kept}
 use Rattle.gb_turn.proofs.Turning.{IsRun}
 use Rattle.gb_turn.proofs.Steps.{entry_made_then, half_cleared, kept_record, on_course, run_ended, run_failed, said_then, unread, unrecorded}
 
-refl_le : (n : ℕ) → n ≤ n
+pub refl_le : (n : ℕ) → n ≤ n
 refl_le n = omega arith
 
-le_chain : (a b c : ℕ) → a ≤ b → b ≤ c → a ≤ c
+pub le_chain : (a b c : ℕ) → a ≤ b → b ≤ c → a ≤ c
 le_chain a b c le more = omega (arith, le, more)
 
 -- the moment as it was found

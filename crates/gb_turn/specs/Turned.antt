@@ -7,6 +7,7 @@ use Rattle.gb_turn.specs.Case.{IsKnown}
 use Rattle.gb_history.specs.Places.{record_place}
 use Rattle.gb_history.specs.Remembered.{Remembered}
 use Rattle.gb_meaning.specs.Events.{Setting, own_files, rules_in}
+use Rattle.gb_meaning.specs.Headline.{Registering as Registers}
 use Rattle.gb_meaning.specs.Kinds.{Kinds, Name}
 use Rattle.gb_meaning.specs.Label.{IsCurrent, IsIncremental, Moment, changes_from, early_case}
 use Rattle.gb_meaning.specs.Memory.{Memory, World, recalled}
@@ -28,17 +29,20 @@ use Rattle.gb_store.specs.Changes.{is_at}
 abbrev pub Registering : Type 0
 Registering = Files → List (Name × Text) → Result Registry Fault
 
--- what a build is about, with records as they stand in a folder
-abbrev pub setting_with : Kinds → Registering → Tearing → Setting
-setting_with kinds registry_of may_leave = record {
+-- what a build is about, where scripts register so, with records as they stand in a folder
+abbrev pub setting_by : Kinds → Registers → Tearing → Setting
+setting_by kinds registers may_leave = record {
   kinds = kinds;
-  registers = λ files properties said. registry_of files properties ≡ said;
+  registers = registers;
   digest = sha256;
   says = IsText;
   record_place = record_place;
   record_text = text_of;
   may_leave = may_leave;
 }
+
+abbrev pub setting_with : Kinds → Registering → Tearing → Setting
+setting_with kinds registry_of may_leave = setting_by kinds (λ files properties said. registry_of files properties ≡ said) may_leave
 
 -- the place is at an output of the task, or that of its record
 abbrev pub is_of_turn : Task → Place → Bool

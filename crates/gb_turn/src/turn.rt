@@ -174,7 +174,7 @@ fn run<A: Actions, F: Folder>(
 }
 
 /// Whether a run goes on by changes: where that was decided, and one action writes that can answer them.
-fn goes_by_changes<A: Actions>(
+pub fn goes_by_changes<A: Actions>(
     table: &ActionTable<A::Stored>,
     task: &TaskDeclaration,
     decision: &Decision,

@@ -5,4 +5,4 @@ returns-clause-reasoned g c = λ none. c.requires.due ((c.in_ok-reasons.ensures.
 
 pub returns-clause-explained : goal.returns-clause-explained
 returns-clause-explained g c = λ kinds agrees.
-    (c.args.decision.now, c.requires.decides, c.requires.due, c.goes_by_changes-by_changes.ensures kinds agrees, c.in_ok-reasons.ensures.told)
+    (c.args.decision.now, c.requires.decides, c.requires.due, c.goes_by_changes-by_changes.ensures.agreed kinds agrees, c.in_ok-reasons.ensures.told)
