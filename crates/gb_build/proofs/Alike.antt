@@ -19,7 +19,7 @@ use Rattle.gb_report.specs.declared.fault.Fault.TheVariants as faults
 use Rattle.gb_report.specs.declared.report.Options.{Options}
 use Rattle.gb_build.specs.Leading.{Leads}
 use Rattle.gb_build.proofs.Editing.{cut_before}
-use Rattle.gb_turn.specs.Turned.{setting_by}
+use Rattle.gb_records.specs.Setting.{setting_by}
 
 module _ (first second : Tearing) (same : SameTearing first second) where
   stopped_before : (place : Place) (next : Option Bytes) (old new : Shown) (fault : Fault) → IsStopped second place next old fault new → IsStopped first place next old fault new

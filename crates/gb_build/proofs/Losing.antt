@@ -31,7 +31,7 @@ use Rattle.gb_plan.specs.Task.{Path, has_path}
 use Rattle.gb_build.specs.Leading.{Leads}
 use Rattle.gb_build.proofs.Fewer.{are_among}
 use Rattle.gb_build.proofs.Leading.{seen_more}
-use Rattle.gb_turn.specs.Turned.{setting_by}
+use Rattle.gb_records.specs.Setting.{setting_by}
 
 -- ---- What stands at a place after a removal that was cut short
 

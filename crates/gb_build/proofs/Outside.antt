@@ -19,7 +19,7 @@ use Rattle.gb_store.specs.Changes.{ChangesOnly}
 use Rattle.gb_store.proofs.Machine.{changes_left, changes_none, changes_with, changes_without}
 use Rattle.gb_build.specs.Leading.{Leads}
 use Rattle.gb_build.proofs.Leading.{seen_more}
-use Rattle.gb_turn.specs.Turned.{setting_by}
+use Rattle.gb_records.specs.Setting.{setting_by}
 
 -- a place that is not the tool's own
 abbrev pub is_outside : Place → Bool

@@ -6,7 +6,7 @@ use Rattle.gb_meaning.specs.Headline.{Registering}
 use Rattle.gb_meaning.specs.Kinds.{Kinds}
 use Rattle.gb_registry.specs.Source.{Source}
 use Rattle.gb_registry.specs.Tables.{Tables}
-use Rattle.gb_turn.specs.Turned.{setting_by}
+use Rattle.gb_records.specs.Setting.{setting_by}
 use Rattle.gb_build.specs.Scripts.{FolderSays}
 use Rattle.gb_declare.specs.Registered.{registry_said}
 

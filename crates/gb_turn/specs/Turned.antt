@@ -1,13 +1,11 @@
 -- A task's turn, over a folder that tells what it holds.
 use Rattle.std.specs.Prelude.{ℕ, ◌≡◌, not, Bool, ◌||◌, List, Result, Ok, Err, None, Some, is_some}
-use Rattle.sha2.specs.Sha256.{sha256}
 use Rattle.gb_action.specs.Changes.{Changes}
 use Rattle.gb_folder.specs.Files.{Contents, Files, Place, Tearing, is_empty}
 use Rattle.gb_turn.specs.Case.{IsKnown}
 use Rattle.gb_history.specs.Places.{record_place}
 use Rattle.gb_history.specs.Remembered.{Remembered}
 use Rattle.gb_meaning.specs.Events.{Setting, own_files, rules_in}
-use Rattle.gb_meaning.specs.Headline.{Registering as Registers}
 use Rattle.gb_meaning.specs.Kinds.{Kinds, Name}
 use Rattle.gb_meaning.specs.Label.{IsCurrent, IsIncremental, Moment, changes_from, early_case}
 use Rattle.gb_meaning.specs.Memory.{Memory, World, recalled}
@@ -16,7 +14,7 @@ use Rattle.gb_meaning.specs.Turn.{StartedTurn}
 use Rattle.gb_plan.specs.Graph.{Plan, Registry}
 use Rattle.gb_plan.specs.Task.{Text, is_output_of}
 use Rattle.gb_plan.specs.declared.task.TaskDeclaration.{TaskDeclaration as Task}
-use Rattle.gb_records.specs.Said.{IsText, text_of}
+use Rattle.gb_records.specs.Setting.{setting_by}
 use Rattle.gb_records.specs.Standing.{Standing}
 use Rattle.gb_report.specs.declared.fault.Fault.{Fault}
 use Rattle.gb_report.specs.declared.report.Options.{Options}
@@ -29,20 +27,10 @@ use Rattle.gb_store.specs.Changes.{is_at}
 abbrev pub Registering : Type 0
 Registering = Files → List (Name × Text) → Result Registry Fault
 
--- what a build is about, where scripts register so, with records as they stand in a folder
-abbrev pub setting_by : Kinds → Registers → Tearing → Setting
-setting_by kinds registers may_leave = record {
-  kinds = kinds;
-  registers = registers;
-  digest = sha256;
-  says = IsText;
-  record_place = record_place;
-  record_text = text_of;
-  may_leave = may_leave;
-}
-
+-- what a build is about, where this is registered
 abbrev pub setting_with : Kinds → Registering → Tearing → Setting
-setting_with kinds registry_of may_leave = setting_by kinds (λ files properties said. registry_of files properties ≡ said) may_leave
+setting_with kinds registry_of may_leave =
+    setting_by kinds (λ files properties said. registry_of files properties ≡ said) may_leave
 
 -- the place is at an output of the task, or that of its record
 abbrev pub is_of_turn : Task → Place → Bool

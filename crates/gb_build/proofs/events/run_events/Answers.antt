@@ -14,7 +14,7 @@ use Rattle.gb_build.specs.Answers.{AnswerIsOutlined}
 use Rattle.gb_build.proofs.Alike.{leads_alike}
 use Rattle.gb_build.proofs.Blaming.{blamed_more}
 use Rattle.gb_build.proofs.Editing.{shows}
-use Rattle.gb_turn.specs.Turned.{setting_by}
+use Rattle.gb_records.specs.Setting.{setting_by}
 use Rattle.gb_build.proofs.Running.{RunsFrom, heard_more, keeps_more, more_ahead, outlined_more, runs_hold, runs_nowhere, runs_on, take_all, taken_all, to_the_end}
 use Rattle.gb_build.specs.EventAsked.{EventsAsk}
 use Rattle.gb_build.proofs.EventAsked.{asks_more_events}

@@ -13,7 +13,7 @@ use Rattle.gb_registry.specs.Tables.{tables_of}
 use Rattle.gb_build.specs.EventAsked.{EventsAsk}
 use Rattle.gb_build.specs.Answers.{AnswerIsOutlined}
 use Rattle.gb_build.proofs.Editing.{shows}
-use Rattle.gb_turn.specs.Turned.{setting_by}
+use Rattle.gb_records.specs.Setting.{setting_by}
 use Rattle.gb_build.proofs.Running.{RunsFrom}
 use Rattle.gb_build.proofs.events.run_events.Given as goal
 

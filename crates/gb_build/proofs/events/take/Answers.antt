@@ -13,7 +13,7 @@ use Rattle.gb_build.proofs.Editing.{shows}
 use Rattle.gb_build.proofs.Kept.{put_keeps, remove_keeps}
 use Rattle.gb_build.proofs.Losing.{loss_leads}
 use Rattle.gb_build.proofs.Outside.{put_leads, remove_leads}
-use Rattle.gb_turn.specs.Turned.{setting_by}
+use Rattle.gb_records.specs.Setting.{setting_by}
 use Rattle.gb_build.proofs.Running.{edit_outlined, report_outlined}
 use Rattle.gb_build.specs.EventAsked.{EventAsks}
 use Rattle.gb_build.proofs.EventAsked.{invocation_asks}

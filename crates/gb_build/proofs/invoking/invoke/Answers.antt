@@ -22,7 +22,7 @@ use Rattle.gb_build.specs.Registering.{registers_in, setting_of}
 use Rattle.gb_build.proofs.Blamed.{failed_since, memory_blames_none, reading_fails}
 use Rattle.gb_build.proofs.Keeping.{begun_before, each_fault, invoked_keeps, of_fault, refusal_keeps}
 use Rattle.gb_build.proofs.Passing.{always, out_of_memory, refused_leads, shows, since_read}
-use Rattle.gb_turn.specs.Turned.{setting_by}
+use Rattle.gb_records.specs.Setting.{setting_by}
 use Rattle.gb_build.proofs.Readings.{not_read, own_is_read_first, read_first, registered}
 use Rattle.gb_folder.proofs.Asked.{asks_nothing}
 use Rattle.gb_build.proofs.InvocationAsked.{refusal_asks, scripts_before}
