@@ -3,17 +3,13 @@ use Rattle.std.specs.Prelude.{◌≡◌, List}
 use Rattle.std.specs.List.{AllByRecursion}
 use Rattle.std.proofs.Common.{sym, subst}
 use Rattle.gb_action.specs.Meanings.{Meanings}
-use Rattle.gb_folder.specs.Files.{SameTearing, Tearing}
 use Rattle.gb_graph.specs.Answer.{IsPlanOf}
-use Rattle.gb_history.specs.Places.{record_place}
-use Rattle.gb_meaning.specs.Headline.{TearsAreSeen}
 use Rattle.gb_plan.specs.Graph.{IsDeclared, IsRegistry, Plan, Registry}
 use Rattle.gb_plan.specs.Ready.{Rows}
 use Rattle.gb_plan.specs.Task.{Text}
 use Rattle.gb_plan.specs.declared.plan.Planned.{Planned}
 use Rattle.gb_plan.proofs.Registered.{planned_declared}
 use Rattle.gb_plan.proofs.Tests.{each_all}
-use Rattle.gb_records.specs.Said.{IsText}
 use Rattle.gb_build.specs.Asking.{AreBuildable}
 use Rattle.gb_build.proofs.RequestAsked.{planned_all, request_registry}
 use Rattle.gb_exec.specs.Building.{CanBuild, IsBuildable}
@@ -45,7 +41,3 @@ module _ (registry : Registry) (requested excluded : List Text) (plan : Plan) (i
 -- no output of a plan that can be built is the tool's own
 pub own_places : {S : Type 0} (meanings : Meanings S) (rows : Rows S) (plan : Plan) → CanBuild meanings rows plan → HaveOwnPlaces plan
 own_places meanings rows plan can = each_all _ _ (λ planned is. is.not_own) plan can.tasks
-
--- what is seen of a tear in one folder is seen in another that tears alike
-pub tears_alike : (may_leave second : Tearing) → SameTearing may_leave second → TearsAreSeen IsText record_place may_leave → TearsAreSeen IsText record_place second
-tears_alike may_leave second alike tears path old new left is_path of_tool torn = tears path old new left is_path of_tool ((alike (record_place path) old new left).0 torn)

@@ -3,7 +3,6 @@ use Rattle.std.proofs.lemmas.List.{take_more}
 use Rattle.std.specs.List.{AllZip}
 use Rattle.gb_folder.proofs.Changes.{SameTearing-chain}
 use Rattle.gb_build.specs.Registering.{registers_in}
-use Rattle.gb_build.proofs.Planning.{tears_alike}
 use Rattle.gb_meaning.proofs.Lemmas.Plain.{headline}
 use Rattle.gb_meaning.specs.declared.events.Answer.{Answer}
 use Rattle.gb_meaning.specs.declared.events.Event.{Event}
@@ -15,6 +14,7 @@ use Rattle.gb_build.proofs.Alike.{leads_alike}
 use Rattle.gb_build.proofs.Blaming.{blamed_more}
 use Rattle.gb_build.proofs.Editing.{shows}
 use Rattle.gb_turn.specs.Turned.{setting_by}
+use Rattle.gb_turn.proofs.Recorded.{seen_later}
 use Rattle.gb_build.proofs.Running.{RunsFrom, heard_more, keeps_more, more_ahead, outlined_more, runs_hold, runs_nowhere, runs_on, take_all, taken_all, to_the_end}
 use Rattle.gb_build.specs.EventAsked.{EventsAsk}
 use Rattle.gb_build.proofs.EventAsked.{asks_more_events}
@@ -65,7 +65,7 @@ loop-event-preserved g c =
           (so_far.holds tells kinds agrees tears (c.event-item.result ∷ rest) (c.take.result ∷ others) end
           (runs_on setting here next end c.event-item.result c.take.result rest others c.take.ensures.count
           (leads_alike first second so_far.tearing kinds registers here c.event-item.result c.take.result next
-          (c.take.ensures.leads tells kinds agrees (tears_alike first second so_far.tearing tears))) runs))));
+          (c.take.ensures.leads tells kinds agrees (seen_later first second so_far.tearing tears))) runs))));
     }
 
 pub returns-clause-holds : goal.returns-clause-holds

@@ -4,7 +4,6 @@ use Rattle.gb_folder.specs.Files.{Contents, is_own}
 use Rattle.gb_build.specs.Leading.{Leads}
 use Rattle.gb_build.specs.Refusing.{IsNotBegun}
 use Rattle.gb_build.proofs.Leading.{led_holds}
-use Rattle.gb_build.proofs.Planning.{tears_alike}
 use Rattle.gb_build.proofs.Refusing.{not_built}
 use Rattle.gb_meaning.proofs.Lemmas.Plain.{headline}
 use Rattle.gb_meaning.specs.Edits.{Shown}
@@ -22,6 +21,7 @@ use Rattle.gb_build.proofs.Blamed.{failed_since, memory_blames_none, reading_fai
 use Rattle.gb_build.proofs.Keeping.{begun_before, each_fault, invoked_keeps, of_fault, refusal_keeps}
 use Rattle.gb_build.proofs.Passing.{always, out_of_memory, refused_leads, shows, since_read}
 use Rattle.gb_turn.specs.Turned.{setting_by}
+use Rattle.gb_turn.proofs.Recorded.{seen_later}
 use Rattle.gb_build.proofs.Readings.{not_read, own_is_read_first, read_first, registered}
 use Rattle.gb_folder.proofs.Asked.{asks_nothing}
 use Rattle.gb_build.proofs.InvocationAsked.{refusal_asks, scripts_before}
@@ -70,7 +70,7 @@ returns-clause-leads g c = λ tells kinds agrees tears.
     (shows (F.contents c.read_registry.new.folder) later) (events.Invoke c.args.invocation.now) (answer_of c.build_registered.result) new)
     same
     (c.build_registered.ensures.leads tells kinds (subst (λ (given : handed.Tables _ _ _ _ _). Agrees g.A.Actions.meanings given.actions kinds) (sym same) agrees)
-    (tears_alike first second c.read_registry.ensures.asks.tearing tears))))
+    (seen_later first second c.read_registry.ensures.asks.tearing tears))))
 
 pub returns-in_err-copied-clause-holds : goal.returns-in_err-copied-clause-holds
 returns-in_err-copied-clause-holds g c = λ tells kinds agrees tears.

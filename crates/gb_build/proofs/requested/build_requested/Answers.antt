@@ -9,11 +9,12 @@ use Rattle.gb_plan.specs.Graph.{order}
 use Rattle.gb_records.specs.Said.{IsReadAt}
 use Rattle.gb_store.specs.Changes.{ChangesOnly}
 use Rattle.gb_turn.specs.Turned.{setting_with}
+use Rattle.gb_turn.proofs.Recorded.{seen_later}
 use Rattle.gb_exec.specs.Building.{is_of_turns}
 use Rattle.gb_build.proofs.Changed.{elsewhere}
 use Rattle.gb_build.proofs.Holding.{built_leads}
 use Rattle.gb_build.proofs.Leading.{led_holds}
-use Rattle.gb_build.proofs.Planning.{all_declared, can_build, own_places, plan_of, tears_alike}
+use Rattle.gb_build.proofs.Planning.{all_declared, can_build, own_places, plan_of}
 use Rattle.gb_build.proofs.Refusing.{by_reading, by_refusal, if_told, refused_leads, told_fails}
 use Rattle.gb_folder.specs.Calls.{Asks, no_change}
 use Rattle.gb_folder.proofs.Asked.{asks_nothing}
@@ -129,7 +130,7 @@ returns-clause-leads g c = λ tells kinds registry_of agrees tears scripts remem
     (λ wet. subst (λ (records : List (Option Remembered)). AllZip (IsReadAt old.contents.files) (order plan) records) (sym c.as_slice-2.ensures.value)
     (subst (λ (tasks : List Planned). AllZip (IsReadAt old.contents.files) (order tasks) c.in_ok-records.records.items) c.as_slice.ensures (c.in_ok-records.ensures.read tells wet)))
     (λ remembered clear seen worth. c.in_ok-report.ensures.build tells kinds registry_of remembered clear seen agrees
-    (tears_alike (F.may_leave c.args.folder.now) (F.may_leave c.records_for.new.folder) c.records_for.ensures.asks.tearing tears) worth)
+    (seen_later (F.may_leave c.args.folder.now) (F.may_leave c.records_for.new.folder) c.records_for.ensures.asks.tearing tears) worth)
     remembered_now is_clear seen_now stands
 
 pub returns-in_err-plan-clause-holds : goal.returns-in_err-plan-clause-holds
