@@ -14,7 +14,7 @@ RefusedFails fault before after = HasFailed (times_blamed (answer_of (Err fault)
 unblamed : (fault : Fault) (before after : ℕ) → before ≤ after → is_of_device fault ≡ false → RefusedFails fault before after
 unblamed fault before after count none = subst (λ (b : Bool). HasFailed (cond b 1 0) before after) (sym none) (inl (omega (arith, count)))
 
-risen_once : (before after : ℕ) → before ≤ after → HasRisen before after → HasFailed 1 before after
+pub risen_once : (before after : ℕ) → before ≤ after → HasRisen before after → HasFailed 1 before after
 risen_once before after count (inl more) = inl (omega (arith, more))
 risen_once before after count (inr last) = inr (omega (arith, count, last))
 

@@ -1,13 +1,14 @@
 -- What is wrong with expressions and with statements is never the device's fault.
-use Rattle.std.specs.Prelude.{ℕ, ◌≡◌, ◌==◌, ◌++◌, Bool, true, false, cond, List, [], ◌∷◌, Option, Some, None, option_map, length, filter_map, nat_le}
+use Rattle.std.specs.Prelude.{ℕ, ◌≡◌, ◌==◌, ◌++◌, Bool, true, false, cond, List, [], ◌∷◌, Option, Some, None, Result, Ok, Err, option_map, length, filter_map, nat_le}
 use Rattle.std.specs.List.{AllByRecursion, flat_map, list_any}
-use Rattle.std.proofs.Common.{refl, subst}
+use Rattle.std.proofs.Common.{refl, sym, ap, subst, ◌∙◌, true≢false, inl, inr}
 use Rattle.gb_core.specs.Path.{is_task_path, project_of, task_in}
 use Rattle.gb_core.specs.Place.{is_place, joined}
+use Rattle.gb_folder.specs.Files.{Place}
 use Rattle.gb_meaning.specs.Headline.{is_of_device}
 use Rattle.gb_provider.specs.Table.{map_named, flat_map_named, zip_named, test_named}
 use Rattle.gb_registry.specs.Configure.{change_faults, configure_faults, each_after, finalizes, missing_at_link, missing_at_root, missing_tasks, statement_faults, statement_scope, values_of}
-use Rattle.gb_registry.specs.Faults.{first_of}
+use Rattle.gb_registry.specs.Faults.{TellsFirst, first_of}
 use Rattle.gb_registry.specs.Projects.{Path, absolute, folder_of, is_among}
 use Rattle.gb_registry.specs.References.{Names, lookup_faults, name_faults, reference_faults}
 use Rattle.gb_registry.specs.Said.{Said, declared_property, paths_of, properties_of, script_of}
@@ -54,6 +55,13 @@ none_or_one b fault h = either b [] (fault ∷ []) tt (h, tt)
 pub first_blameless : (xs : List Fault) (fault : Fault) → AreBlameless xs → first_of xs ≡ Some fault → is_of_device fault ≡ false
 first_blameless [] fault all is = cc
 first_blameless (x ∷ xs) fault all is = subst (λ f. is_of_device f ≡ false) (cc) all.0
+
+-- who tells the first of such faults blames no device
+pub none_blamed : {T : Type 0} (xs : List Fault) (result : Result T Fault) (place : Place) → AreBlameless xs → TellsFirst xs result → result ≡ Err (faults.Device place) → ⊥
+none_blamed xs (Ok x) place all told is = cc
+none_blamed xs (Err fault) place all (inl memory) is = let e : faults.OutOfMemory ≡ faults.Device place = cc in cc
+none_blamed xs (Err fault) place all (inr first) is =
+    let e : fault ≡ faults.Device place = cc in true≢false (sym (ap is_of_device e) ∙ first_blameless xs fault all first)
 
 -- ---- Tasks that texts name
 

@@ -44,7 +44,7 @@ texts_blameless there [] = tt
 texts_blameless there (text ∷ texts) =
     all_append (text_faults there text) (texts_faults (with_paths there (lineage_of text)) texts) (text_blameless there text) (texts_blameless (with_paths there (lineage_of text)) texts)
 
-settings_blameless : (settings : List (List (List ℕ))) → AreBlameless (settings_faults settings)
+pub settings_blameless : (settings : List (List (List ℕ))) → AreBlameless (settings_faults settings)
 settings_blameless settings = texts_blameless (root_path ∷ []) (included settings)
 
 -- ---- Texts

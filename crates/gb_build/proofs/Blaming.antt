@@ -1,12 +1,12 @@
 -- How often events blame the device.
 use Rattle.std.specs.Prelude.{ℕ, ◌≡◌, ◌≤◌, ◌+◌, ◌++◌, List, [], ◌∷◌, Ok, Err}
 use Rattle.std.proofs.Common.{arith, refl, sym, subst, inl, inr}
-use Rattle.gb_folder.specs.Files.{HasRisen}
 use Rattle.gb_meaning.specs.declared.events.Answer.{Answer}
 use Rattle.gb_meaning.specs.Headline.{HasFailed, times_blamed, times_blamed_in_all}
 use Rattle.gb_report.specs.declared.fault.Fault.TheVariants as faults
 use Rattle.gb_store.specs.Faults.{Blames}
 use Rattle.gb_build.specs.Answers.{Edit, edit_answer}
+use Rattle.gb_build.proofs.Blamed.{risen_once}
 
 sum_more : (told : List Answer) (answer : Answer) → times_blamed_in_all (told ++ answer ∷ []) ≡ times_blamed_in_all told + times_blamed answer
 sum_more [] answer = omega arith
@@ -22,10 +22,6 @@ pub blamed_more : (told : List Answer) (answer : Answer) (first second third : �
     → HasFailed (times_blamed_in_all (told ++ answer ∷ [])) first third
 blamed_more told answer first second third a b le =
     subst (λ n. HasFailed n first third) (sym (sum_more told answer)) (failed_more first second third (times_blamed_in_all told) (times_blamed answer) a b le)
-
-risen_once : (before after : ℕ) → before ≤ after → HasRisen before after → HasFailed 1 before after
-risen_once before after count (inl more) = inl (omega (arith, more))
-risen_once before after count (inr last) = inr (omega (arith, count, last))
 
 -- an edit that blames the device only where it failed
 pub edit_blames : (edit : Edit) (before after : ℕ) → before ≤ after → Blames edit before after → HasFailed (times_blamed (edit_answer edit)) before after

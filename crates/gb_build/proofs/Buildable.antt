@@ -1,20 +1,19 @@
 -- The tasks that scripts register can be built.
-use Rattle.std.specs.Prelude.{ℕ, ◌≡◌, ◌++◌, ◌&&◌, ◌||◌, ◌==◌, Bool, true, false, not, cond, List, [], ◌∷◌, map, None, Some, Result, Ok, Err, IfOk, bytes_eq, codes, nat_eq, nat_le, length}
-use Rattle.std.specs.List.{AllByRecursion, list_all, list_any, onto_first, slice_split, starts_with}
+use Rattle.std.specs.Prelude.{ℕ, ◌≡◌, ◌++◌, ◌&&◌, ◌||◌, Bool, true, false, not, cond, List, [], ◌∷◌, map, None, Some, Result, Ok, Err, IfOk, bytes_eq, codes, nat_eq, nat_le, length}
+use Rattle.std.specs.List.{AllByRecursion, list_all, list_any, starts_with}
 use Rattle.std.specs.List.Sorted.{IsStrictlySortedBy}
 use Rattle.std.specs.Ordering.{is_lt}
 use Rattle.std.proofs.Common.{refl, ap, ◌∙◌, arith}
 use Rattle.std.proofs.lemmas.Bool.Decides.{nat_tests}
 use Rattle.std.proofs.lemmas.Map.Keys.{sorted_head, sorted_tail}
-use Rattle.gb_core.proofs.TaskPaths.{name_bytes}
 use Rattle.gb_core.specs.Lists.{byte_order}
-use Rattle.gb_core.specs.Name.{is_letter, is_name}
 use Rattle.gb_core.specs.Path.{is_project_path, is_task_path, project_of}
 use Rattle.gb_core.specs.Place.{is_beneath, joined}
 use Rattle.gb_turn.specs.Buildable.{IsBuildable}
 use Rattle.gb_folder.specs.Files.{Place, is_own}
 use Rattle.gb_history.specs.Ascending.{ascends, ascends_from}
 use Rattle.gb_build.specs.Asking.{AreBuildable}
+use Rattle.gb_build.proofs.OwnLemmas.{is_plain, plain_folder, plain_not_own}
 use Rattle.gb_plan.proofs.Tests.{at_member, left_of, neither, not_true, or_right, right_of}
 use Rattle.gb_plan.specs.Graph.{IsDeclared, IsRegistry, build_folder}
 use Rattle.gb_plan.specs.Task.{Path}
@@ -23,7 +22,7 @@ use Rattle.gb_plan.specs.declared.task.TaskDeclaration.{TaskDeclaration as Task}
 use Rattle.gb_declare.proofs.ReadyLemmas.{realised_is_sound}
 use Rattle.gb_declare.proofs.RisingLemmas.{realised_names_rise}
 use Rattle.gb_declare.specs.Realised.{Trouble, Plain, Endless, realised}
-use Rattle.gb_registry.specs.Projects.{folder_text, root_path, slashed}
+use Rattle.gb_registry.specs.Projects.{folder_text, root_path}
 use Rattle.gb_registry.specs.Read.{IsRead}
 use Rattle.gb_registry.specs.Source.{Source}
 use Rattle.gb_registry.specs.Tables.{Tables}
@@ -48,25 +47,6 @@ rise (name ∷ names) sorted = rises_from name names sorted
 
 -- ---- Places
 
--- a place begins with another byte than a dot
-abbrev is_plain : Place → Bool
-is_plain [] = false
-is_plain (c ∷ place) = not (nat_eq 46 c)
-
-module _ (c : ℕ) (plain : not (nat_eq 46 c) ≡ true) where
-  no_dot : nat_eq 46 c ≡ false
-  no_dot = grind (arith, nat_tests)
-
-  no_dot_back : nat_eq c 46 ≡ false
-  no_dot_back = grind (arith, nat_tests)
-
--- what is plain is not the tool's own
-plain_not_own : (place : Place) → is_plain place ≡ true → is_own place ≡ false
-plain_not_own [] h = not_true h
-plain_not_own (c ∷ place) h =
-    ap (λ b. b && bytes_eq place (codes "gb") || is_beneath (c ∷ place) (codes ".gb")) (no_dot_back c h)
-    ∙ ap (λ b. b && starts_with nat_eq place (codes "gb/")) (no_dot c h)
-
 alike_plain : (c d : ℕ) → nat_eq d c ≡ true → not (nat_eq 46 d) ≡ true → not (nat_eq 46 c) ≡ true
 alike_plain c d same plain = grind (arith, nat_tests)
 
@@ -75,24 +55,6 @@ beneath_plain : (place folder : Place) → is_plain folder ≡ true → is_benea
 beneath_plain place [] plain beneath = not_true plain
 beneath_plain [] (d ∷ folder) plain beneath = not_true beneath
 beneath_plain (c ∷ place) (d ∷ folder) plain beneath = alike_plain c d (left_of (nat_eq d c) (starts_with nat_eq place (folder ++ 47 ∷ [])) beneath) plain
-
-letter_plain : (b : ℕ) → is_letter b ≡ true → not (nat_eq 46 (slashed b)) ≡ true
-letter_plain b h = grind (arith, nat_tests)
-
--- the first part of a text that begins with a byte other than a colon begins so too
-first_plain : (c : ℕ) (parts : List (List ℕ)) → list_all is_name (onto_first c parts) ≡ true → is_letter c ≡ true
-first_plain c [] h = (name_bytes c [] (left_of (is_name (c ∷ [])) true h)).0
-first_plain c (part ∷ parts) h = (name_bytes c part (left_of (is_name (c ∷ part)) (list_all is_name parts) h)).0
-
-letter_first : (c : ℕ) (text : List ℕ) (b : Bool) → list_all is_name (cond b ([] ∷ slice_split (λ d. d == 58) text) (onto_first c (slice_split (λ d. d == 58) text))) ≡ true → is_letter c ≡ true
-letter_first c text true h = not_true h
-letter_first c text false h = first_plain c (slice_split (λ d. d == 58) text) h
-
-plain_folder : (path : Path) (rest : List ℕ) → is_task_path path ≡ true → is_plain (folder_text path ++ 47 ∷ rest) ≡ true
-plain_folder [] rest h = not_true h
-plain_folder (colon ∷ []) rest h = not_true (right_of (colon == 58) false h)
-plain_folder (colon ∷ c ∷ text) rest h =
-    letter_plain c (letter_first c text (c == 58) (right_of (colon == 58) (list_all is_name (slice_split (λ d. d == 58) (c ∷ text))) h))
 
 -- the build folder of a project whose folder is none too long is plain
 folder_plain : (project : Path) → is_fine project ≡ true → is_plain (build_folder project) ≡ true

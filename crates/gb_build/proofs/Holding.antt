@@ -35,6 +35,7 @@ use Rattle.gb_store.specs.Changes.{ChangesOnly}
 use Rattle.gb_turn.specs.Turned.{Registering, setting_with}
 use Rattle.gb_exec.specs.Building.{is_of_turns}
 use Rattle.gb_exec.specs.Built.{AreWorth, HasBuilt}
+use Rattle.gb_exec.proofs.ByNumber.{both_true}
 use Rattle.gb_build.proofs.Changed.{HaveOwnPlaces, records_differ}
 use Rattle.gb_build.specs.Leading.{LeadsTo, StandsSeen}
 use Rattle.gb_build.proofs.Earlier.{builds_since}
@@ -54,10 +55,6 @@ may_alike kinds registry_of may_leave second alike own options task moment new (
 )
 may_alike kinds registry_of may_leave second alike own options task moment new faults.HistoryNotWritten may = may
 may_alike kinds registry_of may_leave second alike own options task moment new other may = absurd may
-
-both : (a b : Bool) → a ≡ true → b ≡ true → (a && b) ≡ true
-both true b e f = f
-both false b e f = not_true e
 
 abbrev said_or : Registry → Result Registry Fault → Registry
 said_or other (Ok registry) = registry
@@ -190,7 +187,7 @@ module _ (kinds : Kinds) (registry_of : Registering) (may_leave : Tearing) (regi
         let own : Files = own_files old.contents in
         let first : World = world_in (state_of old remembered) in
         let last : World = world_in (state_of end built.remembered) in
-        let ready : IsTrue clear → IsTrue reads = λ is_clear. both clear (not invocation.options.dry_run) is_clear (ap not wet) in
+        let ready : IsTrue clear → IsTrue reads = λ is_clear. both_true clear (not invocation.options.dry_run) is_clear (ap not wet) in
         assembled remembered built.remembered clear seen worth
         (builds_fewer (rules_in setting own invocation.options plan) (granted clear remembered) (spreads clear remembered) seen
         (record { world = first; failures = old.failures }) report.tasks (record { world = last; failures = end.failures })

@@ -28,12 +28,13 @@ use Rattle.gb_build.specs.Turns.{InTurn, Passes}
 abbrev others : Files → Files
 others files = files_where (λ place. not (is_own place)) files
 
--- a place begins with a dot, or with another byte
+-- a place begins with a dot
 abbrev is_dotted : Place → Bool
 is_dotted [] = false
 is_dotted (c ∷ place) = nat_eq 46 c
 
-abbrev is_plain : Place → Bool
+-- it begins with another byte
+abbrev pub is_plain : Place → Bool
 is_plain [] = false
 is_plain (c ∷ place) = not (nat_eq 46 c)
 
@@ -51,7 +52,7 @@ module _ (c : ℕ) (plain : not (nat_eq 46 c) ≡ true) where
   other_byte_back d dot = grind (arith, nat_tests)
 
 -- what is plain is not the tool's own
-plain_not_own : (place : Place) → is_plain place ≡ true → is_own place ≡ false
+pub plain_not_own : (place : Place) → is_plain place ≡ true → is_own place ≡ false
 plain_not_own [] h = absurd (true≢false (sym h))
 plain_not_own (c ∷ place) h =
     ap (λ b. b && bytes_eq place (codes "gb") || is_beneath (c ∷ place) (codes ".gb")) (no_dot_back c h)
@@ -145,7 +146,7 @@ letter_first : (c : ℕ) (text : List ℕ) (b : Bool) → list_all is_name (cond
 letter_first c text true h = absurd (true≢false (sym h))
 letter_first c text false h = first_plain c (slice_split (λ d. d == 58) text) h
 
-plain_folder : (path : Path) (rest : List ℕ) → is_task_path path ≡ true → is_plain (folder_text path ++ 47 ∷ rest) ≡ true
+pub plain_folder : (path : Path) (rest : List ℕ) → is_task_path path ≡ true → is_plain (folder_text path ++ 47 ∷ rest) ≡ true
 plain_folder [] rest h = absurd (true≢false (sym h))
 plain_folder (colon ∷ []) rest h = absurd (true≢false (sym (right_of (colon == 58) false h)))
 plain_folder (colon ∷ c ∷ text) rest h =

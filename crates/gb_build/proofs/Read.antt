@@ -26,7 +26,7 @@ with_none : {X : Type 0} (xs : List X) → xs ++ [] ≡ xs
 with_none [] = refl
 with_none (x ∷ xs) = ap (λ ys. x ∷ ys) (with_none xs)
 
-as_long : {X Y : Type 0} (R : X → Y → Type 0) (xs : List X) (ys : List Y) → AllZip R xs ys → length ys ≡ length xs
+pub as_long : {X Y : Type 0} (R : X → Y → Type 0) (xs : List X) (ys : List Y) → AllZip R xs ys → length ys ≡ length xs
 as_long R [] [] all = refl
 as_long R [] (y ∷ ys) all = absurd all
 as_long R (x ∷ xs) [] all = absurd all

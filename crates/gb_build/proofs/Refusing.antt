@@ -1,7 +1,7 @@
 -- What a refused invocation leaves is as its definition says, and it blames the device no more than it failed.
 use Rattle.std.specs.Prelude.{ℕ, ◌≡◌, ◌≤◌, ◌||◌, ◌&&◌, Bool, IsTrue, false, not, List, cond, codes, IfErr, Ok, Err, Result, bytes_eq}
 use Rattle.std.proofs.Common.{refl, sym, ap, ◌∙◌, subst, inl, inr, arith}
-use Rattle.gb_folder.specs.Files.{HasRisen, Place, is_own}
+use Rattle.gb_folder.specs.Files.{Place, is_own}
 use Rattle.gb_meaning.specs.declared.events.Answer.TheVariants as answers
 use Rattle.gb_meaning.specs.declared.events.Event.TheVariants as events
 use Rattle.gb_meaning.specs.declared.events.Invocation.{Invocation}
@@ -22,6 +22,7 @@ use Rattle.gb_build.specs.Leading.{Leads}
 use Rattle.gb_build.specs.Refusing.{IsNotBegun, IsUnread}
 use Rattle.gb_build.proofs.Leading.{nothing_leads}
 use Rattle.gb_build.proofs.RequestAsked.{refusal_blames_none, request_registry, words_blame_none}
+use Rattle.gb_build.proofs.Blamed.{risen_once}
 
 -- ---- What is left
 
@@ -69,10 +70,6 @@ refused_leads setting registry old end invocation fault scripts why same result 
 
 unblamed : (fault : Fault) (before after : ℕ) → before ≤ after → is_of_device fault ≡ false → HasFailed (times_blamed (answer_of (Err fault))) before after
 unblamed fault before after count none = subst (λ (b : Bool). HasFailed (cond b 1 0) before after) (sym none) (inl (omega (arith, count)))
-
-risen_once : (before after : ℕ) → before ≤ after → HasRisen before after → HasFailed 1 before after
-risen_once before after count (inl more) = inl (omega (arith, more))
-risen_once before after count (inr last) = inr (omega (arith, count, last))
 
 -- a refusal blames the device at most once, and then it failed
 pub refused_fails : (registry : Registry) (invocation : Invocation) (fault : Fault) (before after : ℕ) → NoneBlameDevice registry → before ≤ after

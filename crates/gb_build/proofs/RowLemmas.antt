@@ -1,6 +1,6 @@
 -- Texts read one after another.
 use Rattle.std.proofs.Common.{◌≡◌, ◌<◌, ◌+◌, Option, ℕ, zero, suc, List, [], ◌∷◌, ◌++◌, Bool, true, take, drop, length, length-append, get_or, Ok, Err, sym, ap, ◌∙◌, arith}
-use Rattle.std.specs.List.{AllZip, list_all}
+use Rattle.std.specs.List.{list_all}
 use Rattle.std.proofs.lemmas.List.{take_more, map-append}
 use Rattle.gb_core.proofs.TaskPaths.{left_of, right_of}
 use Rattle.gb_folder.specs.Files.{Place, Files}
@@ -10,13 +10,7 @@ use Rattle.gb_script.specs.Script.{Says}
 use Rattle.gb_script.specs.declared.script.Statement.{Statement}
 use Rattle.gb_build.specs.Scripts.{AreTexts, IsFirstFault, script_place, script_places}
 use Rattle.gb_build.specs.Texts.{TextSays}
-
--- one more pair of two lists is related
-zip_push : {X Y : Type 0} (R : X → Y → Type 0) (xs : List X) (ys : List Y) (x : X) (y : Y) → AllZip R xs ys → R x y → AllZip R (xs ++ x ∷ []) (ys ++ y ∷ [])
-zip_push R [] [] x y all here = (here, tt)
-zip_push R [] (b ∷ ys) x y all here = absurd all
-zip_push R (a ∷ xs) [] x y all here = absurd all
-zip_push R (a ∷ xs) (b ∷ ys) x y all here = (all.0, zip_push R xs ys x y all.1 here)
+use Rattle.gb_exec.proofs.Walking.{zip_more}
 
 abbrev Projects : Type 0
 Projects = List (Path × Option Place)
@@ -34,7 +28,7 @@ pub text_more : (files : Files) (projects : Projects) (i : ℕ) (project : Path 
     → TextSays Says files (script_place project.1) (Ok text) → more ≡ texts ++ text ∷ [] → AreTexts files (script_places (take (i + 1) projects)) more
 text_more files projects i project texts more text low at before here is =
     rw (places_more projects i project low at, is)
-    (zip_push (λ place text. TextSays Says files place (Ok text)) (script_places (take i projects)) texts (script_place project.1) text before here)
+    (zip_more (λ place text. TextSays Says files place (Ok text)) (script_places (take i projects)) texts (script_place project.1) text before here)
 
 -- one more makes one more
 pub long_more : {X : Type 0} (xs more : List X) (x : X) (n : ℕ) → more ≡ xs ++ x ∷ [] → length xs ≡ n → length more ≡ n + 1

@@ -1,12 +1,13 @@
 -- What was told in two parts was told as a whole.
-use Rattle.std.proofs.Common.{◌≡◌, ◌≤◌, ◌+◌, ℕ, Bool, true, false, not, ◌&&◌, List, [], ◌∷◌, ◌++◌, length, ap, sym, ◌∙◌, arith, refl}
+use Rattle.std.proofs.Common.{◌≡◌, ◌≤◌, ◌+◌, ℕ, Bool, true, false, not, List, [], ◌∷◌, ◌++◌, length, ap, sym, ◌∙◌, arith, refl}
 use Rattle.std.specs.List.{AllZip, count_by, items_where_true}
-use Rattle.std.proofs.lemmas.Bool.{false≢true}
 use Rattle.std.proofs.lemmas.List.{length-append, append_assoc}
 use Rattle.gb_report.specs.declared.report.Heard.{Heard}
 use Rattle.gb_meaning.specs.Headline.{Ear, HearsAll, HearsSome, counted}
 use Rattle.gb_exec.specs.Telling.{ToldIsHeard, ToldMore}
 use Rattle.gb_exec.proofs.Counts.{counted_both, counted_none, kept_or_refused, refused_both}
+use Rattle.gb_exec.proofs.ByNumber.{both_true}
+use Rattle.gb_plan.proofs.Tests.{left_of, right_of}
 
 -- ---- Marks of what was kept
 
@@ -111,24 +112,12 @@ module _ (first later : List Heard) where
       let here = parts first later o m n a.0 b.0 h.0 in
       let rest = all_parts old mid new a.1 b.1 h.1 in ((here.0, rest.0), (here.1, rest.1))
 
-left : (a b : Bool) → (a && b) ≡ true → a ≡ true
-left true b e = refl
-left false b e = e
-
-right : (a b : Bool) → (a && b) ≡ true → b ≡ true
-right true b e = e
-right false b e = absurd (false≢true e)
-
-both : (a b : Bool) → a ≡ true → b ≡ true → (a && b) ≡ true
-both true b e f = f
-both false b e f = e
-
 pub told_more : ToldMore
 told_more first later all_first all_later old mid new a b = record {
   each = each_both first later old mid new a.each b.each;
   whole = (
-    λ h. all_both first later old mid new (a.whole.0 (left all_first all_later h)) (b.whole.0 (right all_first all_later h)),
-    λ h. let split = all_parts first later old mid new a.each b.each h in both all_first all_later (a.whole.1 split.0) (b.whole.1 split.1),
+    λ h. all_both first later old mid new (a.whole.0 (left_of all_first all_later h)) (b.whole.0 (right_of all_first all_later h)),
+    λ h. let split = all_parts first later old mid new a.each b.each h in both_true all_first all_later (a.whole.1 split.0) (b.whole.1 split.1),
   );
 }
 

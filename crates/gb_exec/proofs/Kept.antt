@@ -8,6 +8,7 @@ use Rattle.std.proofs.lemmas.Bool.{cases_eq, cases_order, false≢true}
 use Rattle.gb_exec.specs.declared.starts.Ending.{Ending}
 use Rattle.gb_exec.specs.declared.starts.Ending.TheVariants.{ToCome}
 use Rattle.gb_exec.specs.Starts.{Progress, IsWired, IsCalled, Serves, called as by_call, needed, Spreads, marked, further, Keeps, ending_in, has_failed, has_started, mark_at, row}
+use Rattle.gb_plan.proofs.Tests.{left_of, right_of}
 
 -- one thing again and again is at each index
 always : {X : Type 0} (count at : ℕ) (x : X) → get_or (replicate count x) at x ≡ x
@@ -163,18 +164,10 @@ module _ (progress : Progress) (marks serving : List Bool) (is_spread some_faile
         | inr c ↦ all number c.1
       ],
     );
-    are_serving = λ both. same_serve (none_new (right is_spread none both)) (left is_spread none both);
+    are_serving = λ both. same_serve (none_new (right_of is_spread none both)) (left_of is_spread none both);
     failed = failed_after;
   }
     where
-      left : (a b : Bool) → (a && b) ≡ true → a ≡ true
-      left true b e = refl
-      left false b e = e
-
-      right : (a b : Bool) → (a && b) ≡ true → b ≡ true
-      right true b e = e
-      right false b e = absurd (false≢true e)
-
       none_new : none ≡ true → (number : ℕ) → IsCalled next number → IsCalled progress number
       none_new is_none number is = elim (only_called progress task ending in_endings to_come number is) [
         | inl was ↦ was

@@ -22,7 +22,7 @@ use Rattle.gb_report.specs.declared.report.Options.{Options}
 use Rattle.gb_report.specs.declared.report.TaskReport.{TaskReport}
 use Rattle.gb_store.specs.Changes.{ChangesOnly, is_at}
 use Rattle.gb_turn.specs.Turned.{Registering, is_of_turn, setting_with}
-use Rattle.gb_turn.proofs.Own.{blocked_where, kept_at, not_in_own_way}
+use Rattle.gb_turn.proofs.Own.{blocked_where, false_if, kept_at, not_in_own_way}
 use Rattle.gb_turn.proofs.Parts.{blocked_by_own}
 use Rattle.gb_exec.specs.Building.{is_of_turns}
 
@@ -30,10 +30,6 @@ use Rattle.gb_exec.specs.Building.{is_of_turns}
 pub record HasOwnPlaces (planned : Planned) : Type 0 where
   pub is_path : IsTrue (is_task_path planned.task.path)
   pub not_own : list_any (λ output. is_own output.place) planned.task.outputs ≡ false
-
-false_if : (b : Bool) → (b ≡ true → ⊥) → b ≡ false
-false_if true never = absurd (never refl)
-false_if false never = refl
 
 not_false_so : (b : Bool) → not b ≡ false → b ≡ true
 not_false_so true e = refl

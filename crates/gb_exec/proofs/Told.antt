@@ -9,6 +9,7 @@ use Rattle.gb_report.specs.declared.report.Heard.{Heard}
 use Rattle.gb_meaning.specs.Headline.{Ear, HearsAll, HearsSome, counted}
 use Rattle.gb_exec.specs.Telling.{AllTold, Refuses}
 use Rattle.gb_exec.proofs.Counts.{counted_none}
+use Rattle.gb_exec.proofs.ByNumber.{both_true}
 
 -- a pair more is a pair at the end
 unpush : {X : Type 0} (R : X → X → Type 0) (xs ys : List X) (x y : X) → length xs ≡ length ys → AllZip R (xs ++ x ∷ []) (ys ++ y ∷ []) → AllZip R xs ys × R x y
@@ -26,10 +27,6 @@ zip_long R (x ∷ xs) (y ∷ ys) h = let rest = zip_long R xs ys h.1 in omega (a
 both_of : (a b : Bool) → (a && b) ≡ true → (a ≡ true) × (b ≡ true)
 both_of true b e = (refl, e)
 both_of false b e = absurd (false≢true e)
-
-both : (a b : Bool) → a ≡ true → b ≡ true → (a && b) ≡ true
-both true b e f = f
-both false b e f = e
 
 -- ---- One listener more
 
@@ -55,7 +52,7 @@ one_more told all r olds news old new before heard refused = record {
     λ h. let is = both_of all r h in AllZip-push (HearsAll (told ∷ [])) olds news old new (before.whole.0 is.0) (heard is.1),
     λ h.
         let parts = unpush (HearsAll (told ∷ [])) olds news old new (zip_long (HearsSome (told ∷ [])) olds news before.each) h in
-        both all r (before.whole.1 parts.0) (elim (cases_Bool r) [ inl is ↦ is | inr is_not ↦ absurd (refused_not_heard told old new (refused is_not) parts.1) ]),
+        both_true all r (before.whole.1 parts.0) (elim (cases_Bool r) [ inl is ↦ is | inr is_not ↦ absurd (refused_not_heard told old new (refused is_not) parts.1) ]),
   );
 }
 

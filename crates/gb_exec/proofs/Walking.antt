@@ -29,10 +29,6 @@ each_at P [] i x is all = none_some is
 each_at P (y ∷ xs) zero x is all = subst P (some_same is) all.0
 each_at P (y ∷ xs) (suc i) x is all = each_at P xs i x is all.1
 
-pub all_more : {X : Type 0} (P : X → Type 0) (xs : List X) (x : X) → AllByRecursion P xs → P x → AllByRecursion P (xs ++ x ∷ [])
-all_more P [] x all here = (here, tt)
-all_more P (y ∷ xs) x all here = (all.0, all_more P xs x all.1 here)
-
 pub zip_more : {X Y : Type 0} (R : X → Y → Type 0) (xs : List X) (ys : List Y) (x : X) (y : Y) → AllZip R xs ys → R x y → AllZip R (xs ++ x ∷ []) (ys ++ y ∷ [])
 zip_more R [] [] x y all here = (here, tt)
 zip_more R [] (z ∷ ys) x y all here = absurd all

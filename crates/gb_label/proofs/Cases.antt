@@ -7,14 +7,14 @@ use Rattle.gb_meaning.specs.Label.{Early, HasNoActions, HasNoSource, Skips, earl
 use Rattle.gb_meaning.specs.Label as label
 use Rattle.gb_meaning.specs.Tree.{has_no_source, input_faults, listing_faults}
 use Rattle.gb_meaning.proofs.Common.{none_some}
-use Rattle.gb_plan.proofs.Tests.{not_false}
 use Rattle.gb_plan.specs.declared.task.TaskDeclaration.{TaskDeclaration as Task}
 use Rattle.gb_report.specs.declared.fault.Fault.{Fault}
 use Rattle.gb_store.proofs.Machine.{machine_before}
 use Rattle.gb_label.specs.Reading.{CannotRead}
 use Rattle.gb_label.specs.Looking.{IsHindered}
+use Rattle.gb_run.proofs.Placed.{none_after}
 
-abbrev cased : Bool → Bool → List Fault → Bool → Option Early
+abbrev pub cased : Bool → Bool → List Fault → Bool → Option Early
 cased runs idle hindrances dry =
     if not runs then Some Skips
     else if idle then Some HasNoActions
@@ -71,7 +71,7 @@ by_source task folder dry runs acts inputs outputs source =
 -- a task of no case has nothing odd at its outputs
 pub listed_if_none : (task : Task) (folder : Contents) → early_case task folder ≡ None → listing_faults task folder ≡ []
 listed_if_none task folder none =
-    behind (input_faults task folder) (listing_faults task folder)
+    none_after (input_faults task folder) (listing_faults task folder)
     (unhindered task.runs (is_empty task.actions) (input_faults task folder ++ listing_faults task folder) (has_no_source task folder.files) none)
   where
     unhindered : (runs idle : Bool) (hindrances : List Fault) (dry : Bool) → cased runs idle hindrances dry ≡ None → hindrances ≡ []
@@ -79,7 +79,3 @@ listed_if_none task folder none =
     unhindered true true hindrances dry e = none_some (sym e)
     unhindered true false [] dry e = refl
     unhindered true false (f ∷ fs) dry e = none_some (sym e)
-
-    behind : (xs ys : List Fault) → xs ++ ys ≡ [] → ys ≡ []
-    behind [] ys e = e
-    behind (x ∷ xs) ys e = not_false (sym (ap is_empty e))

@@ -12,11 +12,11 @@ use Rattle.gb_plan.specs.declared.task.Output.{Output}
 use Rattle.gb_plan.specs.declared.task.TaskDeclaration.{TaskDeclaration as Task}
 use Rattle.gb_report.specs.declared.fault.Fault.{Fault}
 use Rattle.gb_report.specs.declared.fault.Fault.TheVariants as faults
-use Rattle.gb_run.proofs.AtOutputs.{all_append}
 use Rattle.gb_run.proofs.Placed.{none_after}
 use Rattle.gb_tree.specs.Tree.{Entries, entries_from, odd_roots, output_entries, output_faults, output_listing_faults, too_large, too_many}
 use Rattle.gb_tree.specs.declared.fault.TreeFault.{TreeFault}
 use Rattle.gb_tree.specs.declared.fault.TreeFault.TheVariants as trees
+use Rattle.gb_tree.proofs.Holding.{all_append}
 use Rattle.gb_label.specs.Reading.{CannotRead, print_faults}
 use Rattle.gb_label.specs.Deciding.{IsGrown}
 

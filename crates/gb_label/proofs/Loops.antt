@@ -42,10 +42,6 @@ first_of_all {Y = Y} f (z ∷ xs) (suc i) x y less is none h =
     empty [] zs e = (refl, e)
     empty (w ∷ ys) zs e = not_false (sym (ap is_empty e))
 
-pub twice : {X Y Z : Type 0} (f : X → Y) (g : Y → Z) (xs : List X) → map (λ x. g (f x)) xs ≡ map g (map f xs)
-twice f g [] = refl
-twice f g (x ∷ xs) = ap (λ zs. g (f x) ∷ zs) (twice f g xs)
-
 -- the names of what is gathered are those of what was looked at, and of one more
 pub name_more : {X Y K : Type 0} (key : Y → K) (name : X → K) (ys zs : List Y) (y : Y) (xs : List X) (i : ℕ) (x : X) → i < length xs
     → x ≡ get_or xs i x → map key ys ≡ map name (take i xs) → zs ≡ ys ++ y ∷ [] → key y ≡ name x

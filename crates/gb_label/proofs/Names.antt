@@ -2,7 +2,7 @@
 use Rattle.std.specs.Prelude.{ℕ, ◌≡◌, ◌<◌, ◌+◌, List, [], ◌∷◌, ◌++◌, map, length, take, get_or, IsTrue}
 use Rattle.std.specs.FinMap.Entries.{is_sorted}
 use Rattle.std.specs.List.{filter}
-use Rattle.std.proofs.Common.{refl, sym, ap, ◌∙◌}
+use Rattle.std.proofs.Common.{sym, ap, ◌∙◌}
 use Rattle.std.proofs.lemmas.List.{map-append, take_more}
 use Rattle.std.proofs.lemmas.List.Elements.{filter-append}
 use Rattle.gb_core.specs.Lists.{byte_order}
@@ -24,7 +24,3 @@ incremental_more properties i property less is =
 pub in_order : {V : Type 0} (es : List (List ℕ × V)) (names : List (List ℕ)) → map (λ e. e.0) es ≡ names → IsTrue (ascends names)
     → IsTrue (is_sorted byte_order es)
 in_order es names same rises = sym (ascends-is_sorted es) ∙ ap ascends same ∙ rises
-
-pub none_left : {X : Type 0} (xs : List X) → length xs ≡ 0 → xs ≡ []
-none_left [] e = refl
-none_left (x ∷ xs) e = absurd (cc)

@@ -8,7 +8,6 @@ use Rattle.gb_action.specs.declared.output.Form.{Form}
 use Rattle.gb_action.specs.declared.output.OutputFiles.{OutputFiles}
 use Rattle.gb_folder.specs.Files.{Files, Place}
 use Rattle.gb_history.specs.Remembered.{Prints, prints_in}
-use Rattle.gb_history.specs.declared.record.OutputRecord.{OutputRecord}
 use Rattle.gb_meaning.specs.Tree.{tree_of}
 use Rattle.gb_plan.specs.Task.{seen_outputs}
 use Rattle.gb_plan.specs.declared.task.FileProperty.{FileProperty}
@@ -17,7 +16,7 @@ use Rattle.gb_tree.proofs.Blame.{among_read}
 use Rattle.gb_tree.specs.Reading.{IsSeenIn, digests_seen, entries_seen}
 use Rattle.gb_tree.specs.Tree.{contents_at, is_among}
 use Rattle.gb_tree.specs.declared.kept.SeenFile.{SeenFile}
-use Rattle.gb_label.specs.Reading.{AreWithin, IsOutputSeen, IsPropertySeen, Read, prints_read, prints_seen, recorded_of, records_with, seen_of}
+use Rattle.gb_label.specs.Reading.{AreWithin, IsOutputSeen, IsPropertySeen, Read, prints_read, prints_seen, recorded_of, seen_of}
 use Rattle.gb_label.proofs.Loops.{map_more}
 
 -- ---- One more
@@ -140,21 +139,7 @@ outputs_made files (output ∷ outputs) (reading ∷ readings) seen =
 
 -- ---- What is recorded
 
--- outputs with the digests of what stands at them are recorded so
-pub records_recorded : (files : Files) (outputs : List Output) → records_with outputs (prints_in (map (recorded_of files) outputs)) ≡ map (recorded_of files) outputs
-records_recorded files [] = refl
-records_recorded files (output ∷ outputs) = ap (λ (records : List OutputRecord). recorded_of files output ∷ records) (records_recorded files outputs)
-
 -- the digests of the files that stand at outputs are those that are recorded
 pub prints_recorded : (files : Files) (outputs : List Output) → prints_seen (map (seen_of files) outputs) ≡ prints_in (map (recorded_of files) outputs)
 prints_recorded files [] = refl
 prints_recorded files (output ∷ outputs) = ap (λ (prints : List Prints). (recorded_of files output).prints ∷ prints) (prints_recorded files outputs)
-
--- the records have these very digests
-pub prints_of_records : (outputs : List Output) (prints : List Prints) → map (λ found. found.0) prints ≡ map (λ output. output.name) outputs → prints_in (records_with outputs prints) ≡ prints
-prints_of_records [] [] named = refl
-prints_of_records [] (found ∷ prints) named = absurd (cc)
-prints_of_records (output ∷ outputs) [] named = absurd (cc)
-prints_of_records (output ∷ outputs) (found ∷ prints) named =
-    let names = heads found.0 output.name (map (λ (p : Prints). p.0) prints) (map (λ (o : Output). o.name) outputs) named in
-    ap (λ (more : List Prints). found ∷ more) (prints_of_records outputs prints names.1)

@@ -1,8 +1,7 @@
 -- One task more is declared.
-use Rattle.std.proofs.Common.{◌≡◌, ℕ, ◌<◌, ◌≤◌, ◌⊎◌, inl, inr, true, false, ◌||◌, List, [], ◌∷◌, ◌++◌, length, map, refl, sym, ap, subst, ◌∙◌, Option, Some, None, Result, Ok, Err, arith, append_assoc, length-append}
+use Rattle.std.proofs.Common.{◌≡◌, ℕ, ◌<◌, ◌≤◌, ◌⊎◌, inl, inr, true, false, List, [], ◌∷◌, ◌++◌, length, map, refl, sym, ap, subst, ◌∙◌, Option, Some, None, Result, Ok, Err, arith, append_assoc, length-append}
 use Rattle.std.proofs.lemmas.List.{append-nil, map-append}
-use Rattle.std.proofs.lemmas.List.Folds.{list_any-append}
-use Rattle.std.specs.Prelude.{bytes_eq, slice_get}
+use Rattle.std.specs.Prelude.{slice_get}
 use Rattle.std.specs.List.{AllByRecursion, flat_map}
 use Rattle.gb_plan.proofs.Tests.{not_false}
 use Rattle.gb_provider.specs.Rules.{is_output, output_place}
@@ -19,7 +18,7 @@ use Rattle.gb_declare.proofs.ReadyLemmas.{no_faults}
 use Rattle.gb_declare.proofs.ViewLemmas.{known_path}
 use Rattle.gb_declare.specs.Declaring.{block_scope, declared, declaring_faults}
 use Rattle.gb_declare.specs.Joined as tasks
-use Rattle.gb_declare.specs.Joined.{Joined, Named, joined, output_in}
+use Rattle.gb_declare.specs.Joined.{Joined, Named, joined}
 use Rattle.gb_declare.specs.Spots.{Spot, Made, parts}
 use Rattle.gb_declare.specs.Whole.{number_of, output_spots, spots, trees_of, whole}
 use Rattle.gb_nodes.proofs.FoundLemmas.{HasNodesOf}
@@ -30,6 +29,7 @@ use Rattle.gb_nodes.specs.Grown.{IsRight, IsRowGrown, Stands}
 use Rattle.gb_nodes.specs.Nodes.{Made as These}
 use Rattle.gb_nodes.specs.Site.{Site}
 use Rattle.gb_nodes.specs.Wrong.{link_faults, root_faults}
+use Rattle.gb_nodes.proofs.ScriptLemmas.{among_front}
 use Rattle.gb_project.specs.Kept.{AreKept, IsKept, IsKeptAs}
 use Rattle.gb_project.specs.Stage.{Entry, Stage, output_of, output_row, put_output, row_made, with_outputs}
 use Rattle.gb_project.proofs.ClearLemmas.{expressions_clear, row_good}
@@ -38,9 +38,6 @@ use Rattle.gb_project.proofs.OnceLemmas.{Apart, among_itself, apart_at, name_in,
 use Rattle.gb_project.proofs.PlacedLemmas.{output_placed, output_there, task_among}
 use Rattle.gb_project.proofs.PlaceLemmas.{alone, output_itself, output_same, place_either, place_some, place_stays}
 use Rattle.gb_project.proofs.StageLemmas.{dropped_within, numbers_more, output_agrees, output_laid, output_numbers, row_known, row_laid, same_numbers, still_within, taken_within}
-
-pub among_front : (texts more : List (List ℕ)) (text : List ℕ) → is_among texts text ≡ true → is_among (texts ++ more) text ≡ true
-among_front texts more text is = list_any-append (bytes_eq text) texts more ∙ ap (λ b. b || is_among more text) is
 
 -- the spots of expressions, and of what is made behind them
 module _ {M F Z S A : Type 0} (tables : Tables M F Z S A) (source : Source) where

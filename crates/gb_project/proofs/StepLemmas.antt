@@ -20,6 +20,7 @@ use Rattle.gb_nodes.proofs.GrownLemmas.{right_on}
 use Rattle.gb_nodes.specs.Complete.{IsLaidOut}
 use Rattle.gb_nodes.specs.Grown.{IsRight}
 use Rattle.gb_nodes.specs.Site.{Site}
+use Rattle.gb_nodes.proofs.ScriptLemmas.{among_front}
 use Rattle.gb_evaluate.specs.Parts.{HavePatterns}
 use Rattle.gb_project.specs.Kept.{AreKept, IsKept}
 use Rattle.gb_project.specs.Stage.{Entry, Stage, with_declared}
@@ -27,7 +28,7 @@ use Rattle.gb_project.proofs.ClearLemmas.{patterns_clear}
 use Rattle.gb_project.proofs.ListLemmas.{both_all}
 use Rattle.gb_project.proofs.OnceLemmas.{Apart, among_itself, name_in, path_of}
 use Rattle.gb_project.proofs.StageLemmas.{row_longer, row_stays, same_numbers, still_within}
-use Rattle.gb_project.proofs.OneTaskLemmas.{Agree, HasOutputs, IsPlaced, among_front, chosen_of, grown, kept_more, kept_stays, made, no_fault, out, result_of, stands}
+use Rattle.gb_project.proofs.OneTaskLemmas.{Agree, HasOutputs, IsPlaced, chosen_of, grown, kept_more, kept_stays, made, no_fault, out, result_of, stands}
 
 module _ {M F Z S A : Type 0} (tables : Tables M F Z S A) (source : Source) (old new : List (Expression M F Z))
     (stays : (chosen : Chosen) → IsPlaced tables source old chosen → IsPlaced tables source new chosen) where

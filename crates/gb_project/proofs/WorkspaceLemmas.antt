@@ -38,6 +38,7 @@ use Rattle.gb_project.specs.Views.{entries_of, entry_of, stage_of}
 use Rattle.gb_project.specs.Workspace.{IsKeptIn}
 use Rattle.gb_project.specs.declared.entry.Declared.{Declared}
 use Rattle.gb_project.specs.declared.entry.Entry as coded
+use Rattle.gb_project.proofs.PlaceLemmas.{never, some_same}
 
 module _ {M F Z S A : Type 0} (tables : Tables M F Z S A) (source : Source) (number : ℕ → ℕ) (nodes : List (Expression M F Z)) where
   abbrev fault_of : Registered → Option Fault
@@ -122,12 +123,6 @@ pub same_length : {X Y Z : Type 0} (f : X → Z) (g : Y → Z) (xs : List X) (ys
 same_length f g xs ys same = sym (length-map xs f) ∙ ap length same ∙ length-map ys g
 
 -- ---- What a workspace tells of a task
-
-never : {X : Type 0} (x : X) → None ≡ Some x → ⊥
-never x e = cc
-
-some_same : {X : Type 0} (x y : X) → Some x ≡ Some y → x ≡ y
-some_same x y e = cc
 
 module _ {M F Z S A : Type 0} (tables : Tables M F Z S A) (source : Source) (nodes : List (Expression M F Z)) (all : Declared) (kept : IsKeptIn tables source (stage_of nodes all))
     (path : Path) (index : ℕ) (is : position (bytes_eq path) source.names.tasks ≡ Some index) where

@@ -11,23 +11,17 @@ use Rattle.gb_folder.specs.Limits.{max_file}
 use Rattle.gb_folder.proofs.Sound.{all_put}
 use Rattle.gb_plan.specs.declared.task.Output.{Output}
 use Rattle.gb_plan.proofs.Places.{beneath_under}
+use Rattle.gb_plan.proofs.Tests.{or_true}
 use Rattle.gb_report.specs.declared.fault.Fault.{Fault}
 use Rattle.gb_report.specs.declared.fault.Fault.TheVariants as faults
 use Rattle.gb_meaning.specs.Made.{fault_if, file_faults, full_outputs, output_named, placed, placed_in, put_over}
 use Rattle.gb_run.specs.Placing.{blank, count_faults, faults_beside}
-
-pub all_append : {X : Type 0} (P : X → Type 0) (xs ys : List X) → AllByRecursion P xs → AllByRecursion P ys → AllByRecursion P (xs ++ ys)
-all_append P [] ys a b = b
-all_append P (x ∷ xs) ys a b = (a.0, all_append P xs ys a.1 b)
+use Rattle.gb_tree.proofs.Holding.{all_append}
 
 -- ---- outputs
 
 abbrev pub is_at : List Output → Place → Bool
 is_at outputs place = list_any (λ output. is_under place output.place) outputs
-
-or_true : (b : Bool) → (b || true) ≡ true
-or_true true = refl
-or_true false = refl
 
 -- a place at or beneath the output of a name
 at_named : (outputs : List Output) (name : List ℕ) (file : Written) → AllByRecursion (λ (f : Place × Bytes). is_at outputs f.0 ≡ true) (placed_in (output_named outputs name) file)

@@ -24,15 +24,14 @@ use Rattle.gb_meaning.specs.Run.{has_room, step_by, unless_hindered}
 use Rattle.gb_meaning.proofs.Lemmas.Files.{at-put_over, left_of, or_else, right_of, same_place, sorted-put_over}
 use Rattle.gb_run.specs.Placing.{count_faults}
 use Rattle.gb_run.proofs.Agreed.{some_same}
-use Rattle.gb_run.proofs.Digested.{is_less}
-use Rattle.gb_run.proofs.Placed.{free_files_of, none_before}
-use Rattle.gb_run.proofs.Writer.{heads}
+use Rattle.gb_run.proofs.Placed.{all_behind, all_front, free_files_of, none_before}
+use Rattle.gb_run.proofs.Writer.{heads, tails}
 use Rattle.gb_run.specs.Steps.{LeadTo, Step, after_steps, in_turn}
 use Rattle.gb_run.specs.Stepping.{HasRoom, IsFree}
 use Rattle.gb_run.proofs.Following.{no_some}
 use Rattle.gb_run.proofs.Leading.{all_found, sorted_after}
-use Rattle.gb_run.proofs.Looks.{at_in_turn, at_left, find_kept, kept, none_below, sorted_kept}
-use Rattle.gb_run.proofs.SteppedOn.{after-append}
+use Rattle.gb_run.proofs.Looks.{after_append, at_in_turn, at_left, find_kept, kept, none_below, sorted_kept}
+use Rattle.gb_tree.proofs.InOrder.{is_less}
 
 -- ---- lists
 
@@ -45,14 +44,6 @@ found_holds P (x ∷ xs) q v all e = by (λ w. found_holds P xs q v all.1 w) (eq
     by again true tied is = subst (λ w. P (q, w)) (some_same x.1 v is) (subst (λ p. P (p, x.1)) (sym (same_place q x.0 tied)) all.0)
     by again false tied is = again is
 
-all_first : {X : Type 0} (P : X → Type 0) (xs ys : List X) → AllByRecursion P (xs ++ ys) → AllByRecursion P xs
-all_first P [] ys all = tt
-all_first P (x ∷ xs) ys all = (all.0, all_first P xs ys all.1)
-
-all_second : {X : Type 0} (P : X → Type 0) (xs ys : List X) → AllByRecursion P (xs ++ ys) → AllByRecursion P ys
-all_second P [] ys all = all
-all_second P (x ∷ xs) ys all = all_second P xs ys all.1
-
 none_of : {X : Type 0} (t : X → Bool) (xs : List X) → AllByRecursion (λ x. t x ≡ false) xs → list_any t xs ≡ false
 none_of t [] all = refl
 none_of t (x ∷ xs) all = neither (t x) (list_any t xs) all.0 (none_of t xs all.1)
@@ -60,9 +51,6 @@ none_of t (x ∷ xs) all = neither (t x) (list_any t xs) all.0 (none_of t xs all
 each_none : {X : Type 0} (t : X → Bool) (xs : List X) → list_any t xs ≡ false → AllByRecursion (λ x. t x ≡ false) xs
 each_none t [] e = tt
 each_none t (x ∷ xs) e = (none_left (t x) (list_any t xs) e, each_none t xs (none_right (t x) (list_any t xs) e))
-
-tails : {X : Type 0} (x y : X) (xs ys : List X) → x ∷ xs ≡ y ∷ ys → xs ≡ ys
-tails x y xs ys e = cc
 
 -- ---- blocked places
 
@@ -266,7 +254,7 @@ module _ (task : Task) (files : Files) (folder : IsFolder files) (written : List
   step_free room = free_step task.outputs rest [] written none (none_of (λ (f : Place × Bytes). is_blocked rest f.0) made (all_found (λ (f : Place × Bytes). is_blocked rest f.0 ≡ false) made made_sorted each))
     where
       all : AllByRecursion (λ (s : Step). is_some s.1 ≡ true → is_blocked rest s.0 ≡ false) (kept comes steps)
-      all = all_second (λ (s : Step). is_some s.1 ≡ true → is_blocked rest s.0 ≡ false) (kept goes steps) (kept comes steps) (room_rest (in_turn steps) files at_outputs refl room)
+      all = all_behind (λ (s : Step). is_some s.1 ≡ true → is_blocked rest s.0 ≡ false) (kept goes steps) (kept comes steps) (room_rest (in_turn steps) files at_outputs refl room)
 
       each : (q : Place) (b : Bytes) → file_at made q ≡ Some b → is_blocked rest q ≡ false
       each q b e = by (came q b e)
@@ -290,7 +278,7 @@ module _ (task : Task) (files : Files) (folder : IsFolder files) (written : List
     parts = front_comes (kept goes steps) (kept comes steps) front step behind going_none some all
 
     coming_some : AllByRecursion (λ (x : Step). is_some x.1 ≡ true) (step ∷ behind)
-    coming_some = all_second (λ (x : Step). is_some x.1 ≡ true) parts.0 (step ∷ behind)
+    coming_some = all_behind (λ (x : Step). is_some x.1 ≡ true) parts.0 (step ∷ behind)
         (subst (λ (xs : List Step). AllByRecursion (λ (x : Step). is_some x.1 ≡ true) xs) parts.1
         (picked_all (λ (s : Step). comes s.0 s.1) (λ (x : Step). is_some x.1 ≡ true) steps (λ s e. right_of (is_place s.0) (is_some s.1) e)))
 
@@ -298,10 +286,10 @@ module _ (task : Task) (files : Files) (folder : IsFolder files) (written : List
     each_at = subst (λ (xs : List Step). AllByRecursion (λ (s : Step). is_output_of task s.0 ≡ true) xs) all at_outputs
 
     step_at : is_output_of task step.0 ≡ true
-    step_at = (all_second (λ (s : Step). is_output_of task s.0 ≡ true) front (step ∷ behind) each_at).0
+    step_at = (all_behind (λ (s : Step). is_output_of task s.0 ≡ true) front (step ∷ behind) each_at).0
 
     front_at : AllByRecursion (λ (s : Step). is_output_of task s.0 ≡ true) front
-    front_at = all_first (λ (s : Step). is_output_of task s.0 ≡ true) front (step ∷ behind) each_at
+    front_at = all_front (λ (s : Step). is_output_of task s.0 ≡ true) front (step ∷ behind) each_at
 
     abbrev then : Files
     then = after_steps files front
@@ -325,7 +313,7 @@ module _ (task : Task) (files : Files) (folder : IsFolder files) (written : List
     value (Some b) e = (b, refl)
 
     step_made : file_at made step.0 ≡ Some (value step.1 some).0
-    step_made = made_new step.0 (value step.1 some).0 step_at (by (all_second (λ (s : Step). (s.1 ≡ None) ⊎ (s.1 ≡ file_at (put_over rest made) s.0)) front (step ∷ behind)
+    step_made = made_new step.0 (value step.1 some).0 step_at (by (all_behind (λ (s : Step). (s.1 ≡ None) ⊎ (s.1 ≡ file_at (put_over rest made) s.0)) front (step ∷ behind)
         (subst (λ (xs : List Step). AllByRecursion (λ (s : Step). (s.1 ≡ None) ⊎ (s.1 ≡ file_at (put_over rest made) s.0)) xs) all leads.meant)).0)
       where
         by : (step.1 ≡ None) ⊎ (step.1 ≡ file_at (put_over rest made) step.0) → file_at (put_over rest made) step.0 ≡ Some (value step.1 some).0
@@ -340,7 +328,7 @@ module _ (task : Task) (files : Files) (folder : IsFolder files) (written : List
     -- what stands then at an output is made
     then_made : (q : Place) (b : Bytes) → is_output_of task q ≡ true → file_at then q ≡ Some b → is_some (file_at made q) ≡ true
     then_made q b at e =
-        let new = value (file_at (put_over rest made) q) (ap (λ (fs : Files). is_some (file_at fs q)) (sym leads.reached ∙ ap (after_steps files) all ∙ after-append files front (step ∷ behind))
+        let new = value (file_at (put_over rest made) q) (ap (λ (fs : Files). is_some (file_at fs q)) (sym leads.reached ∙ ap (after_steps files) all ∙ after_append files front (step ∷ behind))
         ∙ stays then (step ∷ behind) q coming_some (ap is_some e)) in
         ap is_some (made_new q new.0 at new.1)
 
@@ -367,7 +355,7 @@ module _ (task : Task) (files : Files) (folder : IsFolder files) (written : List
         blocked_step task.outputs rest [] written step.0 none (first_is rest made step.0 (value step.1 some).0 made_sorted step_made blocked_rest before)
       where
         front_free : AllByRecursion (λ (s : Step). is_some s.1 ≡ true → is_blocked rest s.0 ≡ false) parts.0
-        front_free = all_second (λ (s : Step). is_some s.1 ≡ true → is_blocked rest s.0 ≡ false) (kept goes steps) parts.0
+        front_free = all_behind (λ (s : Step). is_some s.1 ≡ true → is_blocked rest s.0 ≡ false) (kept goes steps) parts.0
             (subst (λ (xs : List Step). AllByRecursion (λ (s : Step). is_some s.1 ≡ true → is_blocked rest s.0 ≡ false) xs) parts.2 (room_rest front files front_at refl room))
 
         before : (p : Place) (b : Bytes) → file_at made p ≡ Some b → byte_order p step.0 ≡ Less → is_blocked rest p ≡ false

@@ -4,7 +4,6 @@ use Rattle.std.proofs.lemmas.Bool.{and_parts}
 use Rattle.std.specs.Prelude.{unwrap_or}
 use Rattle.std.specs.List.{AllByRecursion}
 use Rattle.std.specs.Ordering.{is_lt}
-use Rattle.std.specs.declared.cmp.Ordering.{Ordering}
 use Rattle.std.specs.declared.cmp.Ordering.TheVariants.{Less, Equal, Greater}
 use Rattle.std.specs.FinMap.Entries.{by_order, below_all, is_sorted}
 use Rattle.sha2.specs.Sha256.{sha256}
@@ -15,7 +14,7 @@ use Rattle.gb_folder.specs.Files.{Place, Bytes, Files, file_at, files_under, fil
 use Rattle.gb_tree.specs.Prints.{digests_of}
 use Rattle.gb_tree.specs.Tree.{contents_at, entries_from, files_from, path_from}
 use Rattle.gb_tree.proofs.Digests.{sorted_digests}
-use Rattle.gb_tree.proofs.InOrder.{all_filter}
+use Rattle.gb_tree.proofs.InOrder.{all_filter, is_less}
 
 -- ---- changes
 
@@ -45,11 +44,6 @@ where_digests test (file ∷ files) =
 -- files by their paths from a root
 abbrev pub from_root : Place → Files → Files
 from_root root files = map (λ (file : Place × Bytes). (path_from root file.0, file.1)) files
-
-pub is_less : (o : Ordering) → is_lt o ≡ true → o ≡ Less
-is_less Less e = refl
-is_less Equal e = absurd (cc)
-is_less Greater e = absurd (cc)
 
 -- each file in order is found
 each_found : (files : Files) → is_sorted byte_order files ≡ true → AllByRecursion (λ (file : Place × Bytes). file_at files file.0 ≡ Some file.1) files

@@ -24,9 +24,10 @@ use Rattle.gb_meaning.specs.Events.{IsTornInRun, Setting, StandsInRun}
 use Rattle.gb_meaning.proofs.Lemmas.Ending.{ended_is_made}
 use Rattle.gb_run.specs.Course.{Course, FailsByItself, FailsByMachine, Moment, files_at_hand, files_then, run_along, whole_run}
 use Rattle.gb_run.specs.Laws.{EndedRunsAreMade, FailedRunsInventNothing, FailedRunsPrintFronts, TornPlacesAreOfTheRun, course_in}
-use Rattle.gb_run.proofs.AtOutputs.{BlamesNone, all_append, counts_blame_none, files_blame_none}
+use Rattle.gb_run.proofs.AtOutputs.{BlamesNone, counts_blame_none, files_blame_none}
 use Rattle.gb_run.proofs.Endings.{behind-done, on, run}
 use Rattle.gb_run.proofs.Invented.{IsOf, found_in, in_over, in_where, none_in, of_free, of_held, of_more}
+use Rattle.gb_tree.proofs.Holding.{all_append}
 
 pub ended_runs_are_made : EndedRunsAreMade
 ended_runs_are_made kinds task changes old lines new well =

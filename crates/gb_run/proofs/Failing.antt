@@ -17,7 +17,7 @@ use Rattle.gb_plan.specs.Task.{Text, is_output_of}
 use Rattle.gb_plan.specs.declared.task.Action.{Action}
 use Rattle.gb_plan.specs.declared.task.Output.{Output}
 use Rattle.gb_plan.specs.declared.task.TaskDeclaration.{TaskDeclaration as Task}
-use Rattle.gb_plan.proofs.Tests.{filter_append}
+use Rattle.gb_plan.proofs.Tests.{each_all, filter_append}
 use Rattle.gb_meaning.specs.Events.{IsTornInRun, Setting, StandsInRun}
 use Rattle.gb_meaning.specs.Kinds.{Kinds, kind_of}
 use Rattle.gb_meaning.specs.Label.{has_one_writer}
@@ -37,35 +37,8 @@ use Rattle.gb_run.specs.Changing.{AreAtHand, FailsByItself, FailsByMachine, Mome
 use Rattle.gb_run.specs.ChangeLaws.{FailedRunsInventNothing, FailedRunsKeepRightFiles, FailedRunsPrintFronts, TornPlacesAreOfTheRun}
 use Rattle.gb_run.specs.Steps.{LeadTo, Step, after_steps}
 use Rattle.gb_run.proofs.Looks.{at_left}
-use Rattle.gb_run.proofs.Writer.{IsOfWriter, none_made, writer_made, writer_of}
-
--- ---- lists
-
-all_front : {X : Type 0} (P : X → Type 0) (xs ys : List X) → AllByRecursion P (xs ++ ys) → AllByRecursion P xs
-all_front P [] ys all = tt
-all_front P (x ∷ xs) ys all = (all.0, all_front P xs ys all.1)
-
-all_behind : {X : Type 0} (P : X → Type 0) (xs ys : List X) → AllByRecursion P (xs ++ ys) → AllByRecursion P ys
-all_behind P [] ys all = all
-all_behind P (x ∷ xs) ys all = all_behind P xs ys all.1
-
-all_so : {X : Type 0} (P Q : X → Type 0) → ((x : X) → P x → Q x) → (xs : List X) → AllByRecursion P xs → AllByRecursion Q xs
-all_so P Q so [] all = tt
-all_so P Q so (x ∷ xs) all = (so x all.0, all_so P Q so xs all.1)
-
-front_none : {X : Type 0} (xs ys : List X) → xs ++ ys ≡ [] → xs ≡ []
-front_none [] ys e = refl
-front_none (x ∷ xs) ys e = absurd (let q = e in (cc))
-
-behind_none : {X : Type 0} (xs ys : List X) → xs ++ ys ≡ [] → ys ≡ []
-behind_none [] ys e = e
-behind_none (x ∷ xs) ys e = absurd (let q = e in (cc))
-
-same_tail : {X : Type 0} (x y : X) (xs ys : List X) → x ∷ xs ≡ y ∷ ys → xs ≡ ys
-same_tail x y xs ys e = cc
-
-same_head : {X : Type 0} (x y : X) (xs ys : List X) → x ∷ xs ≡ y ∷ ys → x ≡ y
-same_head x y xs ys e = cc
+use Rattle.gb_run.proofs.Writer.{IsOfWriter, heads, none_made, tails, writer_made, writer_of}
+use Rattle.gb_run.proofs.Placed.{all_behind, all_front, none_after, none_before}
 
 -- ---- steps
 
@@ -117,7 +90,7 @@ module _ (kinds : Kinds) where
     where
       by : (any_writes xs ≡ true → writers kinds xs ++ writers kinds ys ≡ w ∷ [] → writers kinds ys ≡ []) → (b : Bool) → (b || any_writes xs) ≡ true
           → cond b (x ∷ writers kinds xs) (writers kinds xs) ++ writers kinds ys ≡ w ∷ [] → writers kinds ys ≡ []
-      by again true f q = behind_none (writers kinds xs) (writers kinds ys) (same_tail x w (writers kinds xs ++ writers kinds ys) [] q)
+      by again true f q = none_after (writers kinds xs) (writers kinds ys) (tails x w (writers kinds xs ++ writers kinds ys) [] q)
       by again false f q = again f q
 
 sorted_free : (outputs : List Output) (made : Result (List Written) Text) → is_sorted byte_order (free_files outputs [] made) ≡ true
@@ -200,7 +173,7 @@ module _ (setting : Setting) (task : Task) (changes : List Changes) (old : Files
         let all : action ∷ writers setting.kinds later ≡ found.0 ∷ [] =
         ap (λ (ws : List Action). ws ++ (action ∷ writers setting.kinds later)) (sym (none_of setting.kinds moment.done none))
         ∙ ap (λ (ws : List Action). writers setting.kinds moment.done ++ ws) (sym left_writers) ∙ parted found.0 found.1 in
-        found.1 ∙ ap (λ (w : Action). w ∷ []) (sym (same_head action found.0 (writers setting.kinds later) [] all))
+        found.1 ∙ ap (λ (w : Action). w ∷ []) (sym (heads action found.0 (writers setting.kinds later) [] all))
 
     ended_old : ended_files (course_in setting.kinds task changes old) old moment.done ≡ old
     ended_old = ap (λ b. if b then put_over (rest_of task old) held else old) none
@@ -284,7 +257,7 @@ module _ (setting : Setting) (task : Task) (changes : List Changes) (old : Files
         by : (moment.front ++ moment.behind ≡ []) ⊎ IsAtWriter → AllByRecursion (λ (s : Step). s.0 ≢ place) (moment.front ++ moment.behind)
         by (inl none) = subst (AllByRecursion (λ (s : Step). s.0 ≢ place)) (sym none) tt
         by (inr at) =
-            all_so (λ (s : Step). file_at old s.0 ≢ file_at (target_of at.action) s.0) (λ (s : Step). s.0 ≢ place)
+            each_all (λ (s : Step). file_at old s.0 ≢ file_at (target_of at.action) s.0) (λ (s : Step). s.0 ≢ place)
             (λ s differ is. differ (ap (file_at old) is ∙ stood ∙ sym (target_right at) ∙ ap (file_at (target_of at.action)) (sym is)))
             (moment.front ++ moment.behind) at.leads.needed
 
@@ -403,7 +376,7 @@ module _ (setting : Setting) (task : Task) (changes : List Changes) (old : Files
       where
         by : (moment.front ++ moment.behind ≡ []) ⊎ IsAtWriter → Stands (file_at (files_then (course_in setting.kinds task changes old) old moment) q)
         by (inl none) =
-            subst (λ (steps : List Step). Stands (file_at (after_steps (ended_files (course_in setting.kinds task changes old) old moment.done) steps) q)) (sym (front_none moment.front moment.behind none)) ended_stands
+            subst (λ (steps : List Step). Stands (file_at (after_steps (ended_files (course_in setting.kinds task changes old) old moment.done) steps) q)) (sym (none_before moment.front moment.behind none)) ended_stands
         by (inr at) =
             steps_stand (λ (left : Option Bytes). Stands left) (target_of at.action) (ended_files (course_in setting.kinds task changes old) old moment.done) q moment.front tt (target_stands at)
             (all_front (λ (step : Step). (step.1 ≡ None) ⊎ (step.1 ≡ file_at (target_of at.action) step.0)) moment.front moment.behind at.leads.meant) ended_stands
@@ -417,7 +390,7 @@ module _ (setting : Setting) (task : Task) (changes : List Changes) (old : Files
         put at (inr there) = subst (λ (left : Option Bytes). Stands left) (sym (there ∙ ap (file_at (target_of at.action)) here)) (target_stands at)
 
         by : (moment.front ++ moment.behind ≡ []) ⊎ IsAtWriter → Stands step.1
-        by (inl none) = absurd (let e : step ∷ later ≡ [] = sym next ∙ behind_none moment.front moment.behind none in (cc))
+        by (inl none) = absurd (let e : step ∷ later ≡ [] = sym next ∙ none_after moment.front moment.behind none in (cc))
         by (inr at) =
             put at (subst (AllByRecursion (λ (s : Step). (s.1 ≡ None) ⊎ (s.1 ≡ file_at (target_of at.action) s.0))) next
             (all_behind (λ (s : Step). (s.1 ≡ None) ⊎ (s.1 ≡ file_at (target_of at.action) s.0)) moment.front moment.behind at.leads.meant)).0

@@ -1,6 +1,6 @@
 -- The reply of a task's writer to changes leads from what stands to what it makes.
 use Rattle.std.specs.Prelude.{ℕ, ◌≡◌, ◌≢◌, ◌⊎◌, ◌&&◌, ◌||◌, Bool, true, false, not, cond, List, [], ◌∷◌, Option, Some, None, is_some, option_map, unwrap_or, bytes_eq, if◌then◌else◌}
-use Rattle.std.specs.List.{AllByRecursion, filter, flat_map}
+use Rattle.std.specs.List.{AllByRecursion, flat_map}
 use Rattle.std.specs.Option.{option_or}
 use Rattle.std.specs.Ordering.{eq_by_cmp, is_lt}
 use Rattle.std.specs.FinMap.Entries.{below_all, find, is_sorted}
@@ -31,13 +31,14 @@ use Rattle.gb_run.specs.ChangeLaws.{IsReplied, RepliesAreMade, RepliesLeadOn}
 use Rattle.gb_run.specs.Named.{files_left, held_after, named, put, standing, steps_of}
 use Rattle.gb_run.specs.Steps.{LeadTo, Step, after_steps, in_turn, put_steps}
 use Rattle.gb_run.proofs.Agreed.{some_same}
-use Rattle.gb_run.proofs.AtOutputs.{all_append}
 use Rattle.gb_run.proofs.AtPaths.{Elsewhere, Here, IsElsewhere, RemovesTarget, Where, WritesTarget, at_named, at_placed, named_elsewhere, placed_elsewhere, whether}
 use Rattle.gb_run.proofs.Following.{at_target, follows, no_some, or_none, seen_target, stood_elsewhere, unseen, unwritten}
 use Rattle.gb_run.proofs.Looks.{at_in_turn, both_of, none_again, sorted_steps}
 use Rattle.gb_run.proofs.Placed.{none_after, none_before}
 use Rattle.gb_run.proofs.Seen.{all_back}
 use Rattle.gb_run.proofs.Writer.{fits_writer, writes_target}
+use Rattle.gb_tree.proofs.Holding.{all_append}
+use Rattle.gb_tree.proofs.InOrder.{all_filter}
 
 -- ---- steps by place
 
@@ -55,14 +56,6 @@ all_found P (s ∷ steps) h each = (
         by : (b : Bool) → eq_by_cmp byte_order q s.0 ≡ b → cond b (Some s.1) (find byte_order q steps) ≡ Some v
         by true e = no_some (find byte_order q steps) v (none_again q s steps h e) found
         by false e = found
-
-all_filter : {X : Type 0} (P : X → Type 0) (t : X → Bool) (xs : List X) → AllByRecursion P xs → AllByRecursion P (filter t xs)
-all_filter P t [] all = tt
-all_filter P t (x ∷ xs) all = by (all_filter P t xs all.1) (t x)
-  where
-    by : AllByRecursion P (filter t xs) → (b : Bool) → AllByRecursion P (cond b (x ∷ filter t xs) (filter t xs))
-    by again true = (all.0, again)
-    by again false = again
 
 pub all_in_turn : (P : Step → Type 0) (steps : List Step) → AllByRecursion P steps → AllByRecursion P (in_turn steps)
 all_in_turn P steps all =

@@ -106,7 +106,7 @@ module _ {X : Type 0} (t : Place → X → Bool) where
       by later true = both_of (below_all byte_order s.0 (kept steps)) (is_sorted byte_order (kept steps)) (below_kept s.0 steps (left_of (below_all byte_order s.0 steps) (is_sorted byte_order steps) h)) later
       by later false = later
 
-after_append : (old : Files) (xs ys : List Step) → after_steps old (xs ++ ys) ≡ after_steps (after_steps old xs) ys
+pub after_append : (old : Files) (xs ys : List Step) → after_steps old (xs ++ ys) ≡ after_steps (after_steps old xs) ys
 after_append old [] ys = refl
 after_append old (x ∷ xs) ys = after_append (with_left old x.0 x.1) xs ys
 

@@ -10,6 +10,7 @@ use Rattle.gb_report.specs.declared.fault.Fault.{Fault}
 use Rattle.gb_report.specs.declared.fault.Fault.TheVariants as faults
 use Rattle.gb_action.specs.declared.reply.Written.{Written}
 use Rattle.gb_plan.specs.declared.task.Output.{Output}
+use Rattle.gb_plan.proofs.Tests.{any_append, none_left, none_right}
 use Rattle.gb_meaning.specs.Made.{blocked_in, placed, put_over, step_faults}
 use Rattle.gb_meaning.specs.Run.{has_room, hindrances, step_by, unless_hindered}
 use Rattle.gb_run.specs.Course.{free_files}
@@ -26,14 +27,6 @@ pub or_none : (b : Bool) → (b || false) ≡ b
 or_none true = refl
 or_none false = refl
 
-pub left_false : (a b : Bool) → (a || b) ≡ false → a ≡ false
-left_false true b e = e
-left_false false b e = refl
-
-pub right_false : (a b : Bool) → (a || b) ≡ false → b ≡ false
-right_false true b e = absurd (cc)
-right_false false b e = e
-
 any_over : (test : Place → Bool) (held : Files) (files : List (Place × Bytes))
     → list_any (λ (file : Place × Bytes). test file.0) (put_over held files) ≡ (list_any (λ (file : Place × Bytes). test file.0) held || list_any (λ (file : Place × Bytes). test file.0) files)
 any_over test held [] = sym (or_none (list_any (λ (file : Place × Bytes). test file.0) held))
@@ -46,27 +39,19 @@ any_over test held (file ∷ files) =
 pub blocked_over : (held : Files) (files : List (Place × Bytes)) (place : Place) → is_blocked (put_over held files) place ≡ (is_blocked held place || is_blocked files place)
 blocked_over held files place = any_over (λ other. is_beneath place other || is_beneath other place) held files
 
-pub any_append : {X : Type 0} (t : X → Bool) (xs ys : List X) → list_any t (xs ++ ys) ≡ (list_any t xs || list_any t ys)
-any_append t [] ys = refl
-any_append t (x ∷ xs) ys = ap (λ b. t x || b) (any_append t xs ys) ∙ assoc (t x) (list_any t xs) (list_any t ys)
-  where
-    assoc : (a b c : Bool) → (a || (b || c)) ≡ ((a || b) || c)
-    assoc true b c = refl
-    assoc false b c = refl
-
 -- what more files leave free the ones leave free
 pub fewer_room : (rest held : Files) (files : List (Place × Bytes)) → has_room (put_over rest held) files → has_room rest files
 fewer_room rest held [] free = refl
 fewer_room rest held (f ∷ files) free =
-    let here = left_false (is_blocked (put_over rest held) f.0) (list_any (λ (g : Place × Bytes). is_blocked (put_over rest held) g.0) files) free in
-    let later = right_false (is_blocked (put_over rest held) f.0) (list_any (λ (g : Place × Bytes). is_blocked (put_over rest held) g.0) files) free in
-    ap (λ b. b || list_any (λ (g : Place × Bytes). is_blocked rest g.0) files) (left_false (is_blocked rest f.0) (is_blocked held f.0) (sym (blocked_over rest held f.0) ∙ here))
+    let here = none_left (is_blocked (put_over rest held) f.0) (list_any (λ (g : Place × Bytes). is_blocked (put_over rest held) g.0) files) free in
+    let later = none_right (is_blocked (put_over rest held) f.0) (list_any (λ (g : Place × Bytes). is_blocked (put_over rest held) g.0) files) free in
+    ap (λ b. b || list_any (λ (g : Place × Bytes). is_blocked rest g.0) files) (none_left (is_blocked rest f.0) (is_blocked held f.0) (sym (blocked_over rest held f.0) ∙ here))
     ∙ fewer_room rest held files later
 
 none_passes : {X : Type 0} (t : X → Bool) (xs : List X) → list_any t xs ≡ false → filter t xs ≡ []
 none_passes t [] e = refl
 none_passes t (x ∷ xs) e =
-    ap (λ b. cond b (x ∷ filter t xs) (filter t xs)) (left_false (t x) (list_any t xs) e) ∙ none_passes t xs (right_false (t x) (list_any t xs) e)
+    ap (λ b. cond b (x ∷ filter t xs) (filter t xs)) (none_left (t x) (list_any t xs) e) ∙ none_passes t xs (none_right (t x) (list_any t xs) e)
 
 none_blocked : (rest : Files) (files : List (Place × Bytes)) → has_room rest files → blocked_in rest files ≡ []
 none_blocked rest files free = ap (map (λ (f : Place × Bytes). f.0)) (none_passes (λ (f : Place × Bytes). is_blocked rest f.0) files free)
@@ -78,8 +63,8 @@ first_blocked rest [] file behind free blocked =
     ap (λ b. map (λ (f : Place × Bytes). f.0) (cond b (file ∷ filter (λ (f : Place × Bytes). is_blocked rest f.0) behind) (filter (λ (f : Place × Bytes). is_blocked rest f.0) behind))) blocked
 first_blocked rest (f ∷ front) file behind free blocked =
     let more = filter (λ (g : Place × Bytes). is_blocked rest g.0) (front ++ file ∷ behind) in
-    ap (λ b. map (λ (g : Place × Bytes). g.0) (cond b (f ∷ more) more)) (left_false (is_blocked rest f.0) (list_any (λ (g : Place × Bytes). is_blocked rest g.0) front) free)
-    ∙ first_blocked rest front file behind (right_false (is_blocked rest f.0) (list_any (λ (g : Place × Bytes). is_blocked rest g.0) front) free) blocked
+    ap (λ b. map (λ (g : Place × Bytes). g.0) (cond b (f ∷ more) more)) (none_left (is_blocked rest f.0) (list_any (λ (g : Place × Bytes). is_blocked rest g.0) front) free)
+    ∙ first_blocked rest front file behind (none_right (is_blocked rest f.0) (list_any (λ (g : Place × Bytes). is_blocked rest g.0) front) free) blocked
 
 pub all_mid : {X : Type 0} (P : X → Type 0) (front : List X) (x : X) (behind : List X) → AllByRecursion P (front ++ x ∷ behind) → P x
 all_mid P [] x behind all = all.0
@@ -133,12 +118,12 @@ module _ (outputs : List Output) (rest held : Files) (written : List Written) wh
           ∙ ap (λ m. is_blocked m file.0) (sym (over_by_place held (placed outputs written) sorted)) ∙ own
 
       by_held : is_blocked held file.0 ≡ false
-      by_held = left_false (is_blocked held file.0) (is_blocked (front ++ file ∷ behind) file.0) parts
+      by_held = none_left (is_blocked held file.0) (is_blocked (front ++ file ∷ behind) file.0) parts
 
       by_front : is_blocked front file.0 ≡ false
-      by_front = left_false (is_blocked front file.0) (is_blocked (file ∷ behind) file.0)
+      by_front = none_left (is_blocked front file.0) (is_blocked (file ∷ behind) file.0)
           (sym (any_append (λ (other : Place × Bytes). is_beneath file.0 other.0 || is_beneath other.0 file.0) front (file ∷ behind))
-          ∙ right_false (is_blocked held file.0) (is_blocked (front ++ file ∷ behind) file.0) parts)
+          ∙ none_right (is_blocked held file.0) (is_blocked (front ++ file ∷ behind) file.0) parts)
 
       by_rest : is_blocked rest file.0 ≡ true
       by_rest =

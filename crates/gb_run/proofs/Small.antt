@@ -18,7 +18,7 @@ use Rattle.gb_meaning.specs.Made.{output_named, placed, placed_in}
 use Rattle.gb_meaning.proofs.Lemmas.Files.{same_place}
 use Rattle.gb_run.specs.Placing.{faults_beside}
 use Rattle.gb_run.proofs.Agreed.{some_same}
-use Rattle.gb_run.proofs.AtOutputs.{all_append, is_at}
+use Rattle.gb_run.proofs.AtOutputs.{is_at}
 use Rattle.gb_run.proofs.Placed.{small_taken}
 use Rattle.gb_run.specs.Named.{held_after, named, put, removed, removed_in, standing, steps_of}
 use Rattle.gb_run.specs.Stepping.{IsSmall}
@@ -26,6 +26,7 @@ use Rattle.gb_run.specs.Steps.{Step, in_turn, put_steps}
 use Rattle.gb_run.proofs.Following.{no_some, under_named}
 use Rattle.gb_run.proofs.Leading.{all_found, all_in_turn, at_files}
 use Rattle.gb_run.proofs.Looks.{at_put, sorted_steps}
+use Rattle.gb_tree.proofs.Holding.{all_append}
 
 -- steps put over others count before them
 last_or : (held : List Step) (xs : List Step) (base : List Step) (q : Place) → find byte_order q base ≡ None

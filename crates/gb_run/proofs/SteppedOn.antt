@@ -16,6 +16,7 @@ use Rattle.gb_run.specs.Stepping.{HasRoom, IsCutShort, IsFree, IsShutOut}
 use Rattle.gb_run.specs.ChangeTexts.{shown_steps}
 use Rattle.gb_run.proofs.Turned.{shown-append}
 use Rattle.gb_run.proofs.Written.{all_parts}
+use Rattle.gb_run.proofs.Looks.{after_append}
 
 -- ---- one removal
 
@@ -40,10 +41,6 @@ one_cut may_leave place old new fault cut = by cut.gone cut.place cut.left cut.a
 
 -- ---- steps behind others
 
-pub after-append : (files : Files) (xs ys : List Step) → after_steps files (xs ++ ys) ≡ after_steps (after_steps files xs) ys
-after-append files [] ys = refl
-after-append files (x ∷ xs) ys = after-append (with_left files x.0 x.1) xs ys
-
 pub room-append : (files : Files) (xs : List Step) (s : Step) → HasRoom files xs → IsFree (after_steps files xs) s → HasRoom files (xs ++ s ∷ [])
 room-append files [] s room free = (free, tt)
 room-append files (x ∷ xs) s room free = (room.0, room-append (with_left files x.0 x.1) xs s room.1 free)
@@ -59,13 +56,13 @@ module _ (steps : List (Place × Option (Bor Bytes))) (i : ℕ) (step : Place ×
 
   -- the files then
   pub after_more : (files : Files) → after_steps (after_steps files (shown_steps (take i steps))) (here ∷ []) ≡ after_steps files (shown_steps (take (i + 1) steps))
-  after_more files = sym (after-append files (shown_steps (take i steps)) (here ∷ [])) ∙ ap (after_steps files) front_more
+  after_more files = sym (after_append files (shown_steps (take i steps)) (here ∷ [])) ∙ ap (after_steps files) front_more
 
   -- one step more is done
   pub put_more : (old now new : Contents) → now ≡ folder_after old (shown_steps (take i steps)) → new ≡ folder_after now (here ∷ []) → new ≡ folder_after old (shown_steps (take (i + 1) steps))
   put_more old now new before after =
       after ∙ ap (λ folder. folder_after folder (here ∷ [])) before
-      ∙ ap (λ fs. record old { files = fs }) (sym (after-append old.files (shown_steps (take i steps)) (here ∷ [])))
+      ∙ ap (λ fs. record old { files = fs }) (sym (after_append old.files (shown_steps (take i steps)) (here ∷ [])))
       ∙ ap (folder_after old) front_more
 
   -- and had room

@@ -32,6 +32,9 @@ no_err r x y e f = absurd (cc)
 pub heads : {X : Type 0} (x y : X) (xs ys : List X) → x ∷ xs ≡ y ∷ ys → x ≡ y
 heads x y xs ys e = cc
 
+pub tails : {X : Type 0} (x y : X) (xs ys : List X) → x ∷ xs ≡ y ∷ ys → xs ≡ ys
+tails x y xs ys e = cc
+
 pub ok_same : {T E : Type 0} (r : Result T E) (x y : T) → r ≡ Ok x → r ≡ Ok y → x ≡ y
 ok_same r x y e f = cc
 

@@ -14,7 +14,8 @@ use Rattle.gb_store.proofs.Removing.{hindered_before}
 use Rattle.gb_meaning.specs.Made.{put_over}
 use Rattle.gb_meaning.specs.Run.{has_room}
 use Rattle.gb_run.specs.Writing.{IsCutShort, IsShutOut, with_all}
-use Rattle.gb_run.proofs.Room.{any_append, blocked_over, left_false}
+use Rattle.gb_run.proofs.Room.{blocked_over}
+use Rattle.gb_plan.proofs.Tests.{any_append, none_left}
 
 -- ---- one file
 
@@ -66,7 +67,7 @@ module _ (files : List (Place × Bor Bytes)) (i : ℕ) (file : Place × Bor Byte
       ap (has_room_of old) (sym front_more) ∙ any_append (λ (f : Place × Bytes). is_blocked old.files f.0) (shown (take i files)) (here ∷ [])
       ∙ ap (λ b. b || (is_blocked old.files file.0 || false)) room
       ∙ ap (λ b. b || false)
-      (left_false (is_blocked old.files file.0) (is_blocked (shown (take i files)) file.0)
+      (none_left (is_blocked old.files file.0) (is_blocked (shown (take i files)) file.0)
       (sym (blocked_over old.files (shown (take i files)) file.0) ∙ ap (λ (folder : Contents). is_blocked folder.files file.0) (sym before) ∙ free))
     where
       has_room_of : Contents → List (Place × Bytes) → Bool

@@ -5,6 +5,7 @@ use mathlib.Core.Bool.{true≢false}
 use Rattle.gb_folder.specs.Files.{is_empty}
 use Rattle.gb_history.specs.declared.decide.Decision.TheVariants as decisions
 use Rattle.gb_label.specs.declared.prepare.Prepared.TheVariants as prepared
+use Rattle.gb_label.proofs.Cases.{cased}
 use Rattle.gb_meaning.specs.Kinds.{Kinds}
 use Rattle.gb_meaning.specs.Label.{AreChanges, Early, HasNoActions, HasNoSource, IsCurrent, IsIncremental, IsLabelAt, Moment, Skips, changes_from, early_case, has_one_writer, some_outcome}
 use Rattle.gb_meaning.specs.Memory.{World}
@@ -18,7 +19,6 @@ use Rattle.gb_report.specs.declared.fault.Fault.{Fault}
 use Rattle.gb_report.specs.declared.report.Options.{Options}
 use Rattle.gb_report.specs.declared.report.Outcome.TheVariants as outcomes
 use Rattle.gb_turn.specs.Turns.{IdleTurnsAreTurns, IsIdleTurn, RunsAreOfCase}
-use Rattle.gb_turn.proofs.Turning.{cased}
 
 -- ---- a task without actions
 

@@ -40,8 +40,9 @@ use Rattle.gb_turn.proofs.Outside.{kept}
 use Rattle.gb_turn.proofs.Own.{is_kept, swapped}
 use Rattle.gb_turn.proofs.Parts.{blocked_by_own, differs_outside, outside_same}
 use Rattle.gb_turn.proofs.Taken.{found_at, taken_kept, taken_left, taken_stood}
-use Rattle.gb_turn.proofs.Turning.{cased, same_fault}
+use Rattle.gb_turn.proofs.Turning.{same_fault}
 use Rattle.gb_turn.proofs.Whole.{as_found}
+use Rattle.gb_label.proofs.Cases.{cased}
 
 -- ---- the case
 

@@ -30,6 +30,7 @@ use Rattle.gb_report.specs.declared.report.Outcome.TheVariants as outcomes
 use Rattle.gb_label.specs.Reading.{is_input_of}
 use Rattle.gb_turn.specs.Settled.{AnswersAlone, IsOfTask, SettlesTurn, idle_outcome, settled_as, silent_report}
 use Rattle.gb_turn.proofs.Outside.{early_outside}
+use Rattle.gb_turn.proofs.Turning.{same_fault}
 
 same_outcome : (idle : Bool) → idle_outcome idle ≡ (if idle then outcomes.Executed else outcomes.UpToDate)
 same_outcome true = refl
@@ -154,9 +155,6 @@ module _ (task : Task) (path : Path) (is_path : path ≡ task.path) (before afte
   started_idly : (b : Bool) → is_started (idle_outcome b) ≡ true
   started_idly true = refl
   started_idly false = refl
-
-  same_fault : (one other : Fault) → outcomes.Failed one ≡ outcomes.Failed other → one ≡ other
-  same_fault one other e = cc
 
   pub of_task : (result : Result Prepared Fault) → IfOk result (MayPrepare task) → IfOk result (IsRead task)
       → ((place : Place) → result ≡ Err (faults.Device place) → HasRisen before after)

@@ -15,6 +15,7 @@ use Rattle.gb_action.specs.Meanings.{Values}
 use Rattle.gb_action.specs.declared.reply.Written.{Written}
 use Rattle.gb_plan.specs.declared.task.Action.{Action}
 use Rattle.gb_plan.specs.declared.task.Output.{Output}
+use Rattle.gb_plan.proofs.Tests.{no_longer, none_right}
 use Rattle.gb_meaning.specs.Kinds.{Kinds, kind_of}
 use Rattle.gb_meaning.specs.Made.{act, fault_if, file_faults, made_of, placed, put_over, put_result, step_faults}
 
@@ -42,16 +43,8 @@ new_pass test held (file ∷ files) all =
 still_free : (held : Files) (files : List (Place × Bytes)) (place : Place) → is_blocked (put_over held files) place ≡ false → is_blocked held place ≡ false
 still_free held [] place free = free
 still_free held (file ∷ files) place free =
-    second (is_beneath place file.0 || is_beneath file.0 place) (is_blocked held place)
+    none_right (is_beneath place file.0 || is_beneath file.0 place) (is_blocked held place)
     (sym (any_put (λ other. is_beneath place other || is_beneath other place) file.0 file.1 held) ∙ still_free (with_file held file.0 file.1) files place free)
-  where
-    second : (a b : Bool) → (a || b) ≡ false → b ≡ false
-    second true b e = absurd (true≢false e)
-    second false b e = e
-
-not_blocked : (b : Bool) → not b ≡ true → b ≡ false
-not_blocked true e = absurd (true≢false (sym e))
-not_blocked false e = refl
 
 -- files put over a folder, none of them blocked by all, leave a folder
 folder_over : (held : Files) (files : List (Place × Bytes)) → IsFolder held
@@ -60,7 +53,7 @@ folder_over held [] sound all = sound
 folder_over held (file ∷ files) sound all =
     let parts = and_parts (not (is_blocked (put_over (with_file held file.0 file.1) files) file.0)) _ all in
     folder_over (with_file held file.0 file.1) files
-    (sound_put held file.0 file.1 sound (still_free held (file ∷ files) file.0 (not_blocked _ parts.0)))
+    (sound_put held file.0 file.1 sound (still_free held (file ∷ files) file.0 (no_longer _ parts.0)))
     parts.1
 
 -- ---- what hinders none of the files

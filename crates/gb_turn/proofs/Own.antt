@@ -56,7 +56,7 @@ kept_at (output ∷ outputs) out q at =
 
 -- ---- what is in the way
 
-false_if : (b : Bool) → (b ≡ true → ⊥) → b ≡ false
+pub false_if : (b : Bool) → (b ≡ true → ⊥) → b ≡ false
 false_if true never = absurd (never refl)
 false_if false never = refl
 

@@ -42,7 +42,7 @@ use Rattle.gb_run.specs.Course.{Course, EndsWell, Fails, FailsByItself, FailsByM
 use Rattle.gb_run.specs.Emptying.{CannotEmpty}
 use Rattle.gb_run.specs.Laws.{Failure, course_in}
 use Rattle.gb_run.proofs.CutEmptying.{cut_emptyings_invent_nothing, torn_places_are_of_the_emptying}
-use Rattle.gb_run.proofs.Endings.{all_done, with_none}
+use Rattle.gb_run.proofs.Endings.{all_done}
 use Rattle.gb_run.proofs.FailedRuns.{ended_runs_are_made, failed_runs_invent_nothing, failed_runs_print_fronts, torn_places_are_of_the_run}
 use Rattle.gb_store.specs.Changes.{ChangesOnly, is_at}
 use Rattle.gb_store.specs.Faults.{IsOfMachine}
@@ -58,6 +58,7 @@ use Rattle.gb_turn.specs.Turned.{HasTurned, Registering, is_of_turn, report_of, 
 use Rattle.gb_turn.proofs.Beside.{run_outside, torn_outside}
 use Rattle.gb_turn.proofs.Ended.{leaves_outside, makes_outside, said_entry}
 use Rattle.gb_turn.proofs.Memories.{forget-forget, remember-forget}
+use Rattle.gb_turn.proofs.Cut.{cut_in_full}
 use Rattle.gb_turn.proofs.Outside.{kept, source_outside, trees_outside}
 use Rattle.gb_turn.proofs.Own.{is_kept}
 use Rattle.gb_turn.proofs.Parts.{blocked_by_own, differs_outside, in_way_before, outside_same}
@@ -432,19 +433,7 @@ module _ (kinds : Kinds) (registry_of : Registering) (may_leave : Tearing) (opti
           (well : EndsWell (course_in kinds task told taken.files) lines ran.files) where
         -- it ended as one does that memory cut short behind its last action
         as_cut : (between mid : ℕ) → Fails (course_in kinds task told taken.files) may_leave between faults.OutOfMemory lines mid ran.files
-        as_cut between mid = record {
-          moment = record {
-            done = task.actions;
-            left = [];
-            all = sym (with_none task.actions);
-            no_fault = well.no_fault;
-            front = [];
-            behind = [];
-            at_hand = refl;
-          };
-          printed = well.printed;
-          why = inr (inl (refl, well.files));
-        }
+        as_cut between mid = cut_in_full (course_in kinds task told taken.files) may_leave between mid lines ran.files well
 
         abbrev files_made : Files
         files_made = (ended_runs_are_made kinds task told taken.files lines ran.files well).0

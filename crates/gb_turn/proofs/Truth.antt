@@ -39,27 +39,16 @@ use Rattle.gb_records.proofs.Digests.{tree_in, trees_in}
 use Rattle.gb_records.proofs.Placed.{made_placed}
 use Rattle.gb_records.proofs.Since.{SameUnless, alike_trees}
 use Rattle.gb_tree.specs.Prints.{digests_of}
-use Rattle.gb_tree.specs.Tree.{files_from}
 use Rattle.gb_tree.proofs.Digests.{same_changes}
 use Rattle.gb_label.specs.ReadingAnswered.{AreInputsRead}
-use Rattle.gb_label.specs.Reading.{digests_in, prints_seen, recorded_of, records_with, seen_of}
+use Rattle.gb_label.specs.Reading.{digests_in, prints_seen, records_with, seen_of}
 use Rattle.gb_turn.specs.Keeping.{IsRecordOf, run_now}
 use Rattle.gb_turn.specs.Truth.{AreMadeOf, FullRunsAreTrue, IsTextOfTrue, IsTrueBeside, LieApart, RunsByChangesStayTrue, UpToDateIsMade, contents_read}
 use Rattle.gb_turn.proofs.Made.{made_folder}
 use Rattle.gb_turn.proofs.Since.{all_sorted}
+use Rattle.gb_turn.proofs.Present.{output_trees, outputs_told, prints_told}
 
 -- ---- the record of what was made
-
-abbrev made_trees : Files → List Output → Trees
-made_trees files outputs = map (λ (output : Output). let tree : List ℕ × Tree = (output.name, files_from files output.place) in tree) outputs
-
-said_outputs : (files : Files) (outputs : List Output) → map output_said (map (recorded_of files) outputs) ≡ outputs
-said_outputs files [] = refl
-said_outputs files (output ∷ outputs) = ap (λ (l : List Output). output ∷ l) (said_outputs files outputs)
-
-said_prints : (files : Files) (outputs : List Output) → prints_in (map (recorded_of files) outputs) ≡ prints_of sha256 (made_trees files outputs)
-said_prints files [] = refl
-said_prints files (output ∷ outputs) = ap (λ (l : List Prints). (output.name, digests_of (files_from files output.place)) ∷ l) (said_prints files outputs)
 
 abbrev entry_by : Task → Trees → Files → Entry
 entry_by task trees files = record { actions = task.actions; values = task.values; inputs = trees; outputs = task.outputs; files = files }
@@ -72,7 +61,7 @@ said_now task trees files =
       inputs = prints_of sha256 trees;
       outputs = outs;
       files = prints;
-    } in r) (said_outputs files task.outputs) (said_prints files task.outputs)
+    } in r) (outputs_told files task.outputs) (prints_told files task.outputs)
 
 text_of_record : {F : Type 0} (failures : F → ℕ) (may_leave : F → Tearing) (asked : F → Call → F → Type 0) (old read : F) (kinds : Kinds) (task : Task) (trees : Trees) (run : Remembered) (bytes : Bytes)
     → AreInputsRead failures may_leave asked old read task trees → map (λ (tree : List ℕ × Tree). tree.0) trees ≡ seen_files task.files → IsRecordOf kinds task trees run
@@ -213,7 +202,7 @@ prints_with (output ∷ outputs) [] formed = absurd (let e = formed in (cc))
 prints_with (output ∷ outputs) (one ∷ seen) formed =
     ap (λ (l : List Prints). (one.name, digests_of one.files) ∷ l) (prints_with outputs seen (others_formed _ _ _ _ formed))
 
-seen_back : (files : Files) (outputs : List Output) (seen : List OutputFiles) → AreFormed seen outputs → made_trees files outputs ≡ map pair_of seen → seen ≡ map (seen_of files) outputs
+seen_back : (files : Files) (outputs : List Output) (seen : List OutputFiles) → AreFormed seen outputs → output_trees files outputs ≡ map pair_of seen → seen ≡ map (seen_of files) outputs
 seen_back files [] [] formed same = refl
 seen_back files [] (one ∷ seen) formed same = absurd (let e = formed in (cc))
 seen_back files (output ∷ outputs) [] formed same = absurd (let e = formed in (cc))
@@ -230,7 +219,7 @@ seen_back files (output ∷ outputs) (one ∷ seen) formed same =
     tail a b l m e = cc
 
 made_in : (all : List Bytes) (files : Files) → AllByRecursion (λ (file : Place × Bytes). Contains all file.1) files → (outputs : List Output)
-    → AllByRecursion (λ (tree : List ℕ × Tree). AllByRecursion (λ (file : Place × Bytes). Contains all file.1) tree.1) (made_trees files outputs)
+    → AllByRecursion (λ (tree : List ℕ × Tree). AllByRecursion (λ (file : Place × Bytes). Contains all file.1) tree.1) (output_trees files outputs)
 made_in all files held [] = tt
 made_in all files held (output ∷ outputs) = (output_seen (Contains all) files held output.place, made_in all files held outputs)
 
@@ -278,7 +267,7 @@ module _ (kinds : Kinds) (task : Task) (last : Remembered) (trees : Trees) (seen
   inputs_said : last.inputs ≡ prints_of sha256 so.entry.inputs
   inputs_said = ap (λ (r : Record). r.inputs) so.said
 
-  told : prints_of sha256 (made_trees so.entry.files so.entry.outputs) ≡ prints_of sha256 (map pair_of seen)
+  told : prints_of sha256 (output_trees so.entry.files so.entry.outputs) ≡ prints_of sha256 (map pair_of seen)
   told = sym (ap (λ (r : Record). r.files) so.said) ∙ ap prints_in outputs_are ∙ prints_with task.outputs seen formed
 
   old_in : AllByRecursion (λ (tree : List ℕ × Tree). AllByRecursion (λ (file : Place × Bytes). Contains all file.1) tree.1) so.entry.inputs
@@ -297,11 +286,11 @@ module _ (kinds : Kinds) (task : Task) (last : Remembered) (trees : Trees) (seen
   seen_in = trees_in all (map pair_of seen) (λ x c. Contains-append_right (contents_of so.entry) (contents_read trees seen) x
       (Contains-append_right (contents_in trees) (contents_in (map pair_of seen)) x c))
 
-  same_trees : made_trees so.entry.files so.entry.outputs ≡ map pair_of seen
-  same_trees = trees_back sha256 (Contains all) so.apart (made_trees so.entry.files so.entry.outputs) (map pair_of seen) (made_in all so.entry.files files_in so.entry.outputs) seen_in told
+  same_trees : output_trees so.entry.files so.entry.outputs ≡ map pair_of seen
+  same_trees = trees_back sha256 (Contains all) so.apart (output_trees so.entry.files so.entry.outputs) (map pair_of seen) (made_in all so.entry.files files_in so.entry.outputs) seen_in told
 
   pub stand : seen ≡ map (seen_of so.entry.files) task.outputs
-  stand = seen_back so.entry.files task.outputs seen formed (ap (made_trees so.entry.files) (sym outputs) ∙ same_trees)
+  stand = seen_back so.entry.files task.outputs seen formed (ap (output_trees so.entry.files) (sym outputs) ∙ same_trees)
 
   made_then : made_of kinds task.actions task.values so.entry.inputs task.outputs ≡ Ok so.entry.files
   made_then = (λ i. made_of kinds (sym actions i) (sym values i) so.entry.inputs (sym outputs i)) ∙ so.is_made

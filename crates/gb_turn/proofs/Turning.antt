@@ -1,11 +1,11 @@
 -- The turn of a task whose run is due, by how it ended.
-use Rattle.std.specs.Prelude.{ℕ, ◌≡◌, ◌⊎◌, ◌++◌, Bool, true, false, not, List, [], ◌∷◌, length, take, if◌then◌else◌, Option, Some, None, Result, Ok, Err}
+use Rattle.std.specs.Prelude.{ℕ, ◌≡◌, ◌⊎◌, ◌++◌, Bool, true, false, List, [], ◌∷◌, length, take, Option, Some, None, Result, Ok, Err}
 use Rattle.std.proofs.Common.{refl, sym, ap, subst, ◌∙◌, inl, inr}
 use Rattle.gb_action.specs.Changes.{Changes}
 use Rattle.gb_folder.specs.Files.{Contents, Files, Place, is_empty}
 use Rattle.gb_meaning.specs.Events.{Setting, may_come, rules_in}
 use Rattle.gb_meaning.specs.Kinds.{Kinds}
-use Rattle.gb_meaning.specs.Label.{AreChanges, CannotRead, Early, EndsWith, HasNoActions, HasNoSource, IsCurrent, IsLabel, IsLabelAt, Moment, Skips, early_case, run_of}
+use Rattle.gb_meaning.specs.Label.{AreChanges, Early, EndsWith, IsCurrent, IsLabel, IsLabelAt, Moment, early_case, run_of}
 use Rattle.gb_meaning.specs.Memory.{World}
 use Rattle.gb_meaning.specs.Tree.{has_no_source, input_faults, listing_faults, trees_of}
 use Rattle.gb_meaning.specs.Turn.{ByItself, ByMachine, Cause, FailedRunLeaves, FailedRunPrints, FailureLeaves, FailurePrints, HadBegun, HasEnded, IsGivenUp, IsOfMachine, KeepsRightFiles, Standing, StartedTurn, cause_of, lines_of}
@@ -21,16 +21,9 @@ use Rattle.gb_report.specs.declared.report.Outcome.TheVariants as outcomes
 use Rattle.gb_meaning.proofs.Common.{none_some}
 use Rattle.gb_run.proofs.Placed.{none_after, none_before}
 use Rattle.gb_turn.specs.Turned.{report_of}
+use Rattle.gb_label.proofs.Cases.{cased}
 
 -- ---- the case before any record is looked at
-
-abbrev pub cased : Bool → Bool → List Fault → Bool → Option Early
-cased runs idle hindrances dry =
-    if not runs then Some Skips
-    else if idle then Some HasNoActions
-    else if not (is_empty hindrances) then Some (CannotRead hindrances)
-    else if dry then Some HasNoSource
-    else None
 
 -- what holds of a task that no case settles
 pub record Goes (task : Task) (folder : Contents) : Type 0 where

@@ -1,7 +1,7 @@
 -- What is told of a plan is told of what was asked for, and what is told later of the folder as it stood before.
-use Rattle.std.specs.Prelude.{ℕ, ◌≡◌, ◌≤◌, Bool, IsTrue, List, [], ◌∷◌, length, Option, Result, Ok, Err, IfErr, IfOk}
+use Rattle.std.specs.Prelude.{ℕ, ◌≡◌, ◌≤◌, Bool, IsTrue, List, [], Option, Result, Ok, Err, IfErr, IfOk}
 use Rattle.std.specs.List.{AllZip, zip}
-use Rattle.std.proofs.Common.{refl, ap, subst, suc, arith}
+use Rattle.std.proofs.Common.{subst, arith}
 use Rattle.gb_action.specs.Meanings.{Meanings}
 use Rattle.gb_folder.specs.Files.{Contents}
 use Rattle.gb_foretell.specs.Foretold.{AreForetold, IsForetold}
@@ -20,7 +20,6 @@ use Rattle.gb_plan.specs.Ready.{Rows}
 use Rattle.gb_plan.specs.declared.plan.Planned.{Planned}
 use Rattle.gb_records.specs.Said.{IsReadAt}
 use Rattle.gb_registry.specs.Tables.{Tables}
-use Rattle.gb_report.specs.declared.fault.Fault.{Fault}
 use Rattle.gb_report.specs.declared.report.Options.{Options}
 use Rattle.gb_why_command.specs.Told.{Answer, AreTold, AreToldOf, AreToldOn, IsAnswerTo, IsNotTold, in_earnest}
 
@@ -30,22 +29,9 @@ pub ok_always : {T E : Type 0} (P : Type 0) (r : Result T E) → P → IfOk r (�
 ok_always P (Ok x) is = is
 ok_always P (Err e) is = tt
 
-pub ok_more : {T E : Type 0} (P Q : T → Type 0) → ((x : T) → P x → Q x) → (r : Result T E) → IfOk r P → IfOk r Q
-ok_more P Q more (Ok x) is = more x is
-ok_more P Q more (Err e) is = tt
-
 pub err_more : {T E : Type 0} (P Q : E → Type 0) → ((e : E) → P e → Q e) → (r : Result T E) → IfErr r P → IfErr r Q
 err_more P Q more (Ok x) is = tt
 err_more P Q more (Err e) is = more e is
-
--- ---- Records
-
--- as many as there are tasks
-pub as_long : {X Y : Type 0} (R : X → Y → Type 0) (xs : List X) (ys : List Y) → AllZip R xs ys → length ys ≡ length xs
-as_long R [] [] all = refl
-as_long R [] (y ∷ ys) all = absurd all
-as_long R (x ∷ xs) [] all = absurd all
-as_long R (x ∷ xs) (y ∷ ys) all = ap suc (as_long R xs ys all.1)
 
 -- ---- Since the folder stood so
 

@@ -7,7 +7,8 @@ use Rattle.gb_registry.specs.Source.{source_of}
 use Rattle.gb_registry.specs.Configure.{configure_faults}
 use Rattle.gb_registry.specs.Tables.{tables_of}
 use Rattle.gb_store.proofs.Machine.{handed_on, machine_before}
-use Rattle.gb_build.proofs.BlameLemmas.{none_blamed, settings_blameless, statements_blameless}
+use Rattle.gb_build.proofs.Blameless.{configure_blameless, none_blamed}
+use Rattle.gb_build.proofs.BlamelessScripts.{settings_blameless}
 use Rattle.gb_build.proofs.PlaceLemmas.{places_good}
 use Rattle.gb_build.proofs.SaidLemmas.{handed, put_together, scripts_here, scripts_refused}
 use Rattle.gb_build.specs.Scripts.{script_places}
@@ -51,13 +52,13 @@ pub returns-clause-blame : goal.returns-clause-blame
 returns-clause-blame g c = λ place device.
     let tables = tables_of g.T.Transforms.meanings g.A.Actions.meanings c.args.tables.now in
     absurd (none_blamed (configure_faults tables (source_of c.in_ok-settings.settings c.in_ok-scripts.scripts.items c.args.given.items)) c.configure.result place
-    (statements_blameless tables (source_of c.in_ok-settings.settings c.in_ok-scripts.scripts.items c.args.given.items)) c.configure.ensures.faults device)
+    (configure_blameless tables (source_of c.in_ok-settings.settings c.in_ok-scripts.scripts.items c.args.given.items)) c.configure.ensures.faults device)
 
 pub returns-clause-blamed : goal.returns-clause-blamed
 returns-clause-blamed g c = λ place device.
     let tables = tables_of g.T.Transforms.meanings g.A.Actions.meanings c.args.tables.now in
     absurd (none_blamed (configure_faults tables (source_of c.in_ok-settings.settings c.in_ok-scripts.scripts.items c.args.given.items)) c.configure.result place
-    (statements_blameless tables (source_of c.in_ok-settings.settings c.in_ok-scripts.scripts.items c.args.given.items)) c.configure.ensures.faults device)
+    (configure_blameless tables (source_of c.in_ok-settings.settings c.in_ok-scripts.scripts.items c.args.given.items)) c.configure.ensures.faults device)
 
 pub returns-clause-said : goal.returns-clause-said
 returns-clause-said g c = λ tells.

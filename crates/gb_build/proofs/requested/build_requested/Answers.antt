@@ -9,6 +9,7 @@ use Rattle.gb_plan.specs.Graph.{order}
 use Rattle.gb_records.specs.Said.{IsReadAt}
 use Rattle.gb_store.specs.Changes.{ChangesOnly}
 use Rattle.gb_turn.specs.Turned.{setting_with}
+use Rattle.gb_turn.proofs.Recorded.{seen_later}
 use Rattle.gb_exec.specs.Building.{is_of_turns}
 use Rattle.gb_build.proofs.Changed.{elsewhere}
 use Rattle.gb_build.proofs.Holding.{built_leads}

@@ -47,9 +47,10 @@ use Rattle.gb_exec.proofs.Outlining.{outlines_more}
 use Rattle.gb_exec.proofs.Printing.{parts_more}
 use Rattle.gb_exec.proofs.Shut.{HasOwnPlaces}
 use Rattle.gb_exec.proofs.Underway.{IsUnderway, begun, built, goes_on, outcome_in}
-use Rattle.gb_exec.proofs.Walking.{all_more, at_index, changes_more, drop_at, each_at, left_less, next_path, once_behind, placed_where, take_at, whole_at, zip_more}
+use Rattle.gb_exec.proofs.Walking.{at_index, changes_more, drop_at, each_at, left_less, next_path, once_behind, placed_where, take_at, whole_at, zip_more}
 use Rattle.gb_exec.proofs.turns.take_turns.Goals as goal
 use Rattle.gb_exec.proofs.turns.take_turns.Goals.{then-all_heard, else-all_heard}
+use Rattle.gb_history.proofs.Lists.{AllByRecursion-push}
 
 all_come : (endings : List Ending) (n : ℕ) → endings ≡ replicate n ToCome → (number : ℕ) → ending_in endings number ≡ ToCome
 all_come endings n is number = ap (λ (es : List Ending). ending_in es number) is ∙ come (cases_order number n)
@@ -161,7 +162,7 @@ loop-path-preserved g c =
           (subst (λ (rs : List TaskReport). AreOutlines build.options tasks [] (take i tasks ++ planned ∷ []) rs) (sym items)
           (outlines_more build.options tasks [] (take i tasks) planned reports report inv.outline
           (c.take_one-taken.ensures.outline (moment_by outcomes) planned is inv.endings)));
-      places = subst (AllByRecursion HasOwnPlaces) (sym take_is) (all_more HasOwnPlaces (take i tasks) planned inv.places places);
+      places = subst (AllByRecursion HasOwnPlaces) (sym take_is) (AllByRecursion-push HasOwnPlaces (take i tasks) planned inv.places places);
       heard = subst (λ (b : Bool). AllTold (heard_of false c.push_reserved.new.reports.items) b first last) (sym both)
           (subst (λ (hs : List Heard). AllTold hs (c.loop-path.all_heard && c.take_one-taken.result.all_heard) first last)
           (sym (ap (heard_of false) items ∙ heard_more reports report)) told);

@@ -1,16 +1,17 @@
-use Rattle.std.proofs.Common.{◌≡◌, ◌+◌, ◌-◌, ℕ, Option, List, ◌∷◌, [], ◌++◌, arith, sym, ap, subst, refl, length, length-append, map, option_copied, take, ◌∙◌}
+use Rattle.std.proofs.Common.{◌≡◌, ◌+◌, ℕ, Option, List, ◌∷◌, [], ◌++◌, arith, sym, ap, subst, length, length-append, map, option_copied, take, ◌∙◌}
 use Rattle.std.specs.List.{AllByRecursion, AllZip, zip}
 use Rattle.std.proofs.lemmas.List.{map-append, take_all}
 use Rattle.gb_folder.specs.Files.{Contents}
 use Rattle.gb_folder.proofs.Asked.{asks_then}
 use Rattle.gb_history.specs.Remembered.{Remembered}
+use Rattle.gb_history.proofs.Lists.{AllByRecursion-push}
 use Rattle.gb_plan.specs.Graph.{order}
 use Rattle.gb_plan.specs.declared.plan.Planned.{Planned}
 use Rattle.gb_store.proofs.Loops.{all_at}
 use Rattle.gb_foretell.specs.Foretold.{IsForetold, IsReasoned}
 use Rattle.gb_foretell.specs.Marks.{AreMarkedAfter, mark}
 use Rattle.gb_foretell.specs.declared.coming.Foretold.{Foretold}
-use Rattle.gb_foretell.proofs.Marking.{all_more, all_pairs, front_each, marked_more, path_more, related_more}
+use Rattle.gb_foretell.proofs.Marking.{all_pairs, front_each, marked_more, path_more, related_more}
 use Rattle.gb_foretell.proofs.Telling.{all_related, foretold_wider}
 use Rattle.gb_foretell.proofs.foretell.foretell.Goals as goal
 
@@ -53,7 +54,7 @@ loop-at-preserved g c =
       paths =
           path_more (λ (p : Planned). p.task.path) plan (map (λ (f : Foretold). f.path) told) _ at planned c.loop-at-test.true c.index-plan-at.is inv.paths
           (ap (map (λ (f : Foretold). f.path)) more ∙ map-append (λ (f : Foretold). f.path) told (one ∷ []) ∙ ap (λ path. map (λ (f : Foretold). f.path) told ++ path ∷ []) c.in_ok-one.ensures.path);
-      reasoned = subst (AllByRecursion (λ (f : Foretold). IsReasoned f.coming)) (sym more) (all_more (λ (f : Foretold). IsReasoned f.coming) told one inv.reasoned c.in_ok-one.ensures.reasoned);
+      reasoned = subst (AllByRecursion (λ (f : Foretold). IsReasoned f.coming)) (sym more) (AllByRecursion-push (λ (f : Foretold). IsReasoned f.coming) told one inv.reasoned c.in_ok-one.ensures.reasoned);
       marked =
           subst (λ (l : List Foretold). AreMarkedAfter [] (zip (take (at + 1) plan) l)) (sym more)
           (marked_more plan told at planned one c.loop-at-test.true inv.count c.index-plan-at.is inv.marked here);

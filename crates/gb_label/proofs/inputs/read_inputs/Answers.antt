@@ -7,6 +7,7 @@ use Rattle.gb_core.specs.Place.{is_under}
 use Rattle.gb_folder.proofs.Asked.{asks_nothing, asks_then}
 use Rattle.gb_folder.specs.Files.{Contents}
 use Rattle.gb_history.specs.Remembered.{Prints}
+use Rattle.gb_history.proofs.Lists.{map_twice}
 use Rattle.gb_report.specs.declared.fault.Fault.{Fault}
 use Rattle.gb_plan.specs.declared.task.FileProperty.{FileProperty}
 use Rattle.gb_store.proofs.Machine.{at_err, handed_on, machine_before}
@@ -20,7 +21,7 @@ use Rattle.gb_meaning.specs.Tree.{tree_faults, tree_of, input_faults}
 use Rattle.gb_label.specs.ReadingAnswered.{IsInputAnswered}
 use Rattle.gb_label.specs.Reading.{CannotRead, IsPropertySeen, Read, is_input_of}
 use Rattle.gb_label.proofs.ReadingAnswering.{input_longer}
-use Rattle.gb_label.proofs.Loops.{any_of_one, one_more, name_more, first_of_all, twice}
+use Rattle.gb_label.proofs.Loops.{any_of_one, one_more, name_more, first_of_all}
 use Rattle.gb_label.proofs.Readings.{prints_more, seen_more}
 use Rattle.gb_label.proofs.inputs.read_inputs.Goals as goal
 
@@ -112,7 +113,7 @@ returns-clause-prints g c = λ tells.
     let long : length files ≤ index = omega (arith, c.loop-property-test.false, ap length c.as_slice-property-items.ensures) in
     c.loop-property.invariant.prints tells
     ∙ ap (map (λ (property : FileProperty). (property.name, digests_of (tree_of property old.files)))) (take_all index files long)
-    ∙ twice (λ (property : FileProperty). (property.name, tree_of property old.files)) (λ tree. (tree.0, digests_of tree.1)) files
+    ∙ map_twice (λ (property : FileProperty). (property.name, tree_of property old.files)) (λ tree. (tree.0, digests_of tree.1)) files
 
 pub returns-clause-seen : goal.returns-clause-seen
 returns-clause-seen g c = λ tells.

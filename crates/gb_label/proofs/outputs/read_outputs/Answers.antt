@@ -7,6 +7,7 @@ use Rattle.gb_core.specs.Place.{is_under}
 use Rattle.gb_folder.proofs.Asked.{asks_nothing, asks_then}
 use Rattle.gb_folder.specs.Files.{Contents}
 use Rattle.gb_history.specs.Remembered.{Prints}
+use Rattle.gb_history.proofs.Lists.{map_twice}
 use Rattle.gb_report.specs.declared.fault.Fault.{Fault}
 use Rattle.gb_plan.specs.Task.{is_output_of}
 use Rattle.gb_plan.specs.declared.task.Output.{Output}
@@ -21,7 +22,7 @@ use Rattle.gb_tree.specs.declared.kept.SeenFile.{SeenFile}
 use Rattle.gb_label.specs.ReadingAnswered.{IsOutputAnswered}
 use Rattle.gb_label.specs.Reading.{CannotRead, IsOutputSeen, Read, print_faults, recorded_of}
 use Rattle.gb_label.proofs.ReadingAnswering.{output_longer}
-use Rattle.gb_label.proofs.Loops.{one_more, name_more, first_of_all, twice}
+use Rattle.gb_label.proofs.Loops.{one_more, name_more, first_of_all}
 use Rattle.gb_label.proofs.Readings.{prints_more, seen_more}
 use Rattle.gb_label.proofs.outputs.read_outputs.Goals as goal
 
@@ -113,7 +114,7 @@ returns-clause-prints g c = λ tells.
     let long : length outputs ≤ index = omega (arith, c.loop-output-test.false, ap length c.as_slice-output-items.ensures) in
     c.loop-output.invariant.prints tells
     ∙ ap (map (λ (output : Output). (recorded_of old.files output).prints)) (take_all index outputs long)
-    ∙ twice (recorded_of old.files) (λ made. made.prints) outputs
+    ∙ map_twice (recorded_of old.files) (λ made. made.prints) outputs
 
 pub returns-clause-seen : goal.returns-clause-seen
 returns-clause-seen g c = λ tells.

@@ -6,7 +6,7 @@ use Rattle.std.specs.Prelude.{length}
 use Rattle.gb_folder.specs.Files.{Contents}
 use Rattle.gb_foretell.specs.Foretold.{AreForetold}
 use Rattle.gb_history.specs.Remembered.{Remembered}
-use Rattle.gb_build.proofs.Read.{unread}
+use Rattle.gb_build.proofs.Read.{as_long, unread}
 use Rattle.gb_build.specs.Refusing.{IsUnread}
 use Rattle.gb_plan.proofs.Tests.{each_all}
 use Rattle.gb_plan.specs.Graph.{order}
@@ -15,7 +15,7 @@ use Rattle.gb_plan.specs.declared.plan.Planned.{Planned}
 use Rattle.gb_records.specs.Answered.{WasAnswered}
 use Rattle.gb_records.specs.Said.{IsReadAt}
 use Rattle.gb_why_command.specs.Told.{Answer}
-use Rattle.gb_why_command.proofs.Told.{as_long, foretold_since}
+use Rattle.gb_why_command.proofs.Told.{foretold_since}
 use Rattle.gb_why_command.proofs.telling.tell_planned.Goals as goal
 
 pub returns-in_err-records-clause-unread : goal.returns-in_err-records-clause-unread

@@ -9,8 +9,9 @@ use Rattle.gb_meaning.specs.Edits.{Shown}
 use Rattle.gb_plan.specs.Graph.{Plan}
 use Rattle.gb_plan.specs.declared.plan.Planned.{Planned}
 use Rattle.gb_why_command.specs.Told.{Answer, AreTold, AreToldOf, IsNotTold}
-use Rattle.gb_why_command.proofs.Told.{err_more, ok_more, shows}
+use Rattle.gb_why_command.proofs.Told.{err_more, shows}
 use Rattle.gb_why_command.proofs.telling.tell_requested.Goals as goal
+use Rattle.gb_project.proofs.BeginLemmas.{ok_if}
 
 pub returns-in_err-plan-clause-not_told : goal.returns-in_err-plan-clause-not_told
 returns-in_err-plan-clause-not_told g c =
@@ -31,7 +32,7 @@ returns-clause-told g c =
     let meanings = g.A.Actions.meanings in
     let old : Shown = shows (F.contents c.args.folder.now) (F.failures c.args.folder.now) in
     let after = F.failures c.tell_planned.new.folder in
-    ok_more (λ told. AreTold F.tells meanings c.args.table.now c.args.options old after c.as_slice.result.now told.items)
+    ok_if (λ told. AreTold F.tells meanings c.args.table.now c.args.options old after c.as_slice.result.now told.items)
     (λ told. AreToldOf F.tells meanings c.args.table.now (g.Ts.Tasks.registry c.args.tasks.now) c.args.requested.now c.args.excluded.now c.args.options old after told.items)
     (λ told is. (
       c.in_ok-plan.plan,
