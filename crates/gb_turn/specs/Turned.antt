@@ -41,8 +41,10 @@ setting_by kinds registers may_leave = record {
   may_leave = may_leave;
 }
 
+-- so it is where they say it as a function of the files
 abbrev pub setting_with : Kinds → Registering → Tearing → Setting
-setting_with kinds registry_of may_leave = setting_by kinds (λ files properties said. registry_of files properties ≡ said) may_leave
+setting_with kinds registry_of may_leave =
+    setting_by kinds (λ files properties said. registry_of files properties ≡ said) may_leave
 
 -- the place is at an output of the task, or that of its record
 abbrev pub is_of_turn : Task → Place → Bool
