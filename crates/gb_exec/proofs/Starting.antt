@@ -79,6 +79,7 @@ module _ (plan : List Planned) (progress : Progress) (moment : Moment) (some_pla
           ap (has_path paths) (sym ended.1) ∙ left_of (has_path paths entry.0) (test entry.1) found.3,
           ap ends ended.2 ∙ sym (agree entry.1) ∙ right_of (has_path paths entry.0) (test entry.1) found.3,
         )
+
     module _ (none_to_come : ends ToCome ≡ false) where
       came : (number : ℕ) → ends (ending_in progress.endings number) ≡ true → (entry : Path × Outcome) × (slice_get moment.outcomes number ≡ Some entry)
       came number h = elim (cases_order number (length moment.outcomes)) [

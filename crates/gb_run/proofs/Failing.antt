@@ -38,7 +38,7 @@ use Rattle.gb_run.specs.ChangeLaws.{FailedRunsInventNothing, FailedRunsKeepRight
 use Rattle.gb_run.specs.Steps.{LeadTo, Step, after_steps}
 use Rattle.gb_run.proofs.Looks.{at_left}
 use Rattle.gb_run.proofs.Writer.{IsOfWriter, heads, none_made, tails, writer_made, writer_of}
-use Rattle.gb_run.proofs.Placed.{all_behind, all_front, none_after, none_before}
+use Rattle.gb_run.proofs.Placed.{all_behind, all_front, none_after as behind_none, none_before as front_none}
 
 -- ---- steps
 
@@ -90,7 +90,7 @@ module _ (kinds : Kinds) where
     where
       by : (any_writes xs ≡ true → writers kinds xs ++ writers kinds ys ≡ w ∷ [] → writers kinds ys ≡ []) → (b : Bool) → (b || any_writes xs) ≡ true
           → cond b (x ∷ writers kinds xs) (writers kinds xs) ++ writers kinds ys ≡ w ∷ [] → writers kinds ys ≡ []
-      by again true f q = none_after (writers kinds xs) (writers kinds ys) (tails x w (writers kinds xs ++ writers kinds ys) [] q)
+      by again true f q = behind_none (writers kinds xs) (writers kinds ys) (tails x w (writers kinds xs ++ writers kinds ys) [] q)
       by again false f q = again f q
 
 sorted_free : (outputs : List Output) (made : Result (List Written) Text) → is_sorted byte_order (free_files outputs [] made) ≡ true
@@ -376,7 +376,7 @@ module _ (setting : Setting) (task : Task) (changes : List Changes) (old : Files
       where
         by : (moment.front ++ moment.behind ≡ []) ⊎ IsAtWriter → Stands (file_at (files_then (course_in setting.kinds task changes old) old moment) q)
         by (inl none) =
-            subst (λ (steps : List Step). Stands (file_at (after_steps (ended_files (course_in setting.kinds task changes old) old moment.done) steps) q)) (sym (none_before moment.front moment.behind none)) ended_stands
+            subst (λ (steps : List Step). Stands (file_at (after_steps (ended_files (course_in setting.kinds task changes old) old moment.done) steps) q)) (sym (front_none moment.front moment.behind none)) ended_stands
         by (inr at) =
             steps_stand (λ (left : Option Bytes). Stands left) (target_of at.action) (ended_files (course_in setting.kinds task changes old) old moment.done) q moment.front tt (target_stands at)
             (all_front (λ (step : Step). (step.1 ≡ None) ⊎ (step.1 ≡ file_at (target_of at.action) step.0)) moment.front moment.behind at.leads.meant) ended_stands
@@ -390,7 +390,7 @@ module _ (setting : Setting) (task : Task) (changes : List Changes) (old : Files
         put at (inr there) = subst (λ (left : Option Bytes). Stands left) (sym (there ∙ ap (file_at (target_of at.action)) here)) (target_stands at)
 
         by : (moment.front ++ moment.behind ≡ []) ⊎ IsAtWriter → Stands step.1
-        by (inl none) = absurd (let e : step ∷ later ≡ [] = sym next ∙ none_after moment.front moment.behind none in (cc))
+        by (inl none) = absurd (let e : step ∷ later ≡ [] = sym next ∙ behind_none moment.front moment.behind none in (cc))
         by (inr at) =
             put at (subst (AllByRecursion (λ (s : Step). (s.1 ≡ None) ⊎ (s.1 ≡ file_at (target_of at.action) s.0))) next
             (all_behind (λ (s : Step). (s.1 ≡ None) ⊎ (s.1 ≡ file_at (target_of at.action) s.0)) moment.front moment.behind at.leads.meant)).0

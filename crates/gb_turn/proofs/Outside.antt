@@ -94,10 +94,10 @@ module _ (property : FileProperty) (files : Files) where
       all_in_order IsKept (found_in files (distinct property.roots))
       (all_flat_map IsKept (λ root. entries_in property.naming property.include property.exclude root (places_under files root)) (distinct property.roots) (each_root (distinct property.roots)))
 
-  pub tree_outside : tree_of property (files_where is_kept files) ≡ tree_of property files
+  tree_outside : tree_of property (files_where is_kept files) ≡ tree_of property files
   tree_outside = ap (contents_at (files_where is_kept files)) entries_are ∙ entries_same is_kept files (entries files) all_kept
 
-  pub faults_outside : (odd : List (List ℕ)) → tree_faults property (record { files = files_where is_kept files; odd = odd }) ≡ tree_faults property (record { files = files; odd = odd })
+  faults_outside : (odd : List (List ℕ)) → tree_faults property (record { files = files_where is_kept files; odd = odd }) ≡ tree_faults property (record { files = files; odd = odd })
   faults_outside odd =
       ap₂ (λ (es : Entries) (large : List TreeFault). map told_of_tree ((odd_roots (record { files = files; odd = odd }) (places_of (starts_in property.include (distinct property.roots))) ++ too_many property.name es
       ++ map (trees.DuplicateInput property.name) (doubled (paths_of es))) ++ large)) entries_are

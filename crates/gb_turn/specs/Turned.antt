@@ -27,7 +27,7 @@ use Rattle.gb_store.specs.Changes.{is_at}
 abbrev pub Registering : Type 0
 Registering = Files → List (Name × Text) → Result Registry Fault
 
--- what a build is about, where this is registered
+-- what a build is about, where scripts say it as a function of the files
 abbrev pub setting_with : Kinds → Registering → Tearing → Setting
 setting_with kinds registry_of may_leave =
     setting_by kinds (λ files properties said. registry_of files properties ≡ said) may_leave
