@@ -1,11 +1,11 @@
 -- What becomes of an edit, and of any event over a folder that does not tell what it holds.
 use Rattle.std.specs.Prelude.{Result, Ok, Err, ⊤}
-use Rattle.gb_report.specs.declared.fault.Fault.{Fault}
 use Rattle.gb_meaning.specs.declared.events.Answer.{Answer}
 use Rattle.gb_meaning.specs.declared.events.Answer.TheVariants as answers
 use Rattle.gb_meaning.specs.declared.events.Event.{Event}
 use Rattle.gb_meaning.specs.declared.events.Event.TheVariants as events
 use Rattle.gb_meaning.specs.Outline.{IsOutlined}
+use Rattle.gb_report.specs.declared.fault.Fault.{Fault}
 
 -- what an edit comes to
 abbrev pub Edit : Type 0

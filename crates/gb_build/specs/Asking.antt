@@ -2,6 +2,7 @@
 use Rattle.std.specs.Prelude.{◌≡◌, false, IfErr, IfOk}
 use Rattle.std.specs.List.{AllByRecursion, AllZip}
 use Rattle.gb_action.specs.Meanings.{Meanings}
+use Rattle.gb_exec.specs.Reports.{IsOf}
 use Rattle.gb_graph.specs.Answer.{IsPlanOf}
 use Rattle.gb_meaning.specs.Headline.{is_of_device}
 use Rattle.gb_meaning.specs.declared.events.Invocation.{Invocation}
@@ -9,7 +10,6 @@ use Rattle.gb_plan.specs.Graph.{Plan, Registry}
 use Rattle.gb_plan.specs.Ready.{Rows}
 use Rattle.gb_report.specs.declared.report.Report.{Report}
 use Rattle.gb_turn.specs.Buildable.{IsBuildable}
-use Rattle.gb_exec.specs.Reports.{IsOf}
 
 -- each task that is declared can be built with these actions
 abbrev pub AreBuildable : {S : Type 0} → Meanings S → Rows S → Registry → Type 0

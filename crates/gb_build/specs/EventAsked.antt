@@ -5,12 +5,12 @@ use Rattle.gb_folder.specs.Calls.{Asks, Call, Removes, Writes, no_change, takes_
 use Rattle.gb_folder.specs.Files.{Bytes, Place, Tearing, is_own}
 use Rattle.gb_folder.specs.Limits.{max_file}
 use Rattle.gb_folder.specs.declared.folder.FolderFault.{FolderFault}
-use Rattle.gb_build.specs.InvocationAsked.{InvocationAsks}
 use Rattle.gb_meaning.specs.declared.events.Answer.{Answer}
 use Rattle.gb_meaning.specs.declared.events.Answer.TheVariants as answers
 use Rattle.gb_meaning.specs.declared.events.Event.{Event}
 use Rattle.gb_meaning.specs.declared.events.Event.TheVariants as events
 use Rattle.gb_plan.specs.Ready.{Rows}
+use Rattle.gb_build.specs.InvocationAsked.{InvocationAsks}
 
 -- nothing, or one call and no other
 abbrev pub AsksOnce : {F : Type 0} → (F → Call → F → Type 0) → (Result (Unit {0}) FolderFault → Call) → F → F

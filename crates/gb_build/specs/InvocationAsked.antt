@@ -3,12 +3,12 @@ use Rattle.std.specs.Prelude.{ℕ, Result, Ok, Err}
 use Rattle.gb_action.specs.Meanings.{Meanings}
 use Rattle.gb_folder.specs.Calls.{Asks, Call, no_change}
 use Rattle.gb_folder.specs.Files.{Tearing}
-use Rattle.gb_build.specs.RequestAsked.{PlanAsks}
 use Rattle.gb_meaning.specs.Outline.{IsOutlined}
 use Rattle.gb_meaning.specs.declared.events.Invocation.{Invocation}
 use Rattle.gb_plan.specs.Ready.{Rows}
 use Rattle.gb_report.specs.declared.fault.Fault.{Fault}
 use Rattle.gb_report.specs.declared.report.Report.{Report}
+use Rattle.gb_build.specs.RequestAsked.{PlanAsks}
 
 -- a refused build asks for no change, and another what the plan does that it is outlined by
 abbrev pub InvocationAsks : {F S : Type 0} → (F → ℕ) → (F → Tearing) → (F → Call → F → Type 0) → Meanings S

@@ -1,9 +1,9 @@
 -- Laws of what folders say.
 use Rattle.std.specs.Prelude.{ℕ, ◌≡◌, ◌↔◌, not, List, Result}
 use Rattle.gb_folder.specs.Files.{Files, files_where, is_own}
-use Rattle.gb_report.specs.declared.fault.Fault.{Fault}
 use Rattle.gb_registry.specs.Source.{Source}
 use Rattle.gb_registry.specs.Tables.{Tables}
+use Rattle.gb_report.specs.declared.fault.Fault.{Fault}
 use Rattle.gb_build.specs.Scripts.{FolderSays}
 
 -- a folder says no two things

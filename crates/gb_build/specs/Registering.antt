@@ -1,14 +1,14 @@
 -- What an invocation is about, where the scripts of a folder say what is registered.
 use Rattle.std.specs.Prelude.{◌≡◌, Ok, Err}
+use Rattle.gb_declare.specs.Registered.{registry_said}
 use Rattle.gb_folder.specs.Files.{Tearing}
 use Rattle.gb_meaning.specs.Events.{Setting}
 use Rattle.gb_meaning.specs.Headline.{Registering}
 use Rattle.gb_meaning.specs.Kinds.{Kinds}
+use Rattle.gb_records.specs.Setting.{setting_by}
 use Rattle.gb_registry.specs.Source.{Source}
 use Rattle.gb_registry.specs.Tables.{Tables}
-use Rattle.gb_records.specs.Setting.{setting_by}
 use Rattle.gb_build.specs.Scripts.{FolderSays}
-use Rattle.gb_declare.specs.Registered.{registry_said}
 
 -- what the scripts of a folder register with these tables: the tasks of what they say, or their first fault
 abbrev pub registers_in : {M F Z S A : Type 0} → Tables M F Z S A → Registering

@@ -4,13 +4,13 @@ use Rattle.std.specs.Prelude.{Err, bytes_eq, codes}
 use Rattle.std.specs.List.{AllZip, after_last}
 use Rattle.gb_core.specs.Place.{joined}
 use Rattle.gb_folder.specs.Files.{Place, Files}
-use Rattle.gb_report.specs.declared.fault.Fault.{Fault}
-use Rattle.gb_script.specs.Script.{Says, SaysAsSettings}
-use Rattle.gb_script.specs.declared.script.Statement.{Statement}
 use Rattle.gb_registry.specs.Configure.{configure_faults}
 use Rattle.gb_registry.specs.Projects.{Path, projects_of, settings_faults}
 use Rattle.gb_registry.specs.Source.{Source, source_of}
 use Rattle.gb_registry.specs.Tables.{Tables}
+use Rattle.gb_report.specs.declared.fault.Fault.{Fault}
+use Rattle.gb_script.specs.Script.{Says, SaysAsSettings}
+use Rattle.gb_script.specs.declared.script.Statement.{Statement}
 use Rattle.gb_build.specs.Texts.{TextSays}
 use Rattle.gb_build.specs.Turns.{InTurn, Passes}
 

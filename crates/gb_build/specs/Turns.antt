@@ -1,7 +1,7 @@
 -- Of what is said in turn, the first fault counts.
 use Rattle.std.specs.Prelude.{◌≡◌, ◌⊎◌, List, [], Some, Result, Ok, Err}
-use Rattle.gb_report.specs.declared.fault.Fault.{Fault}
 use Rattle.gb_registry.specs.Faults.{first_of}
+use Rattle.gb_report.specs.declared.fault.Fault.{Fault}
 
 -- what has no faults passes; else the first of them is told
 abbrev pub Passes : {X : Type 0} → List Fault → X → Result X Fault → Type 0

@@ -2,8 +2,8 @@
 ghost use Rattle.std.specs.Prelude.{◌≡◌, true, false, length, IfErr, IfOk, IsTrue};
 ghost use Rattle.std.specs.List.{AllZip};
 ghost use Rattle.gb_folder.specs.Calls.{Asks, no_change};
-ghost use Rattle.gb_records.specs.Answered.{WasAnswered};
 ghost use Rattle.gb_plan.specs.Graph.{order};
+ghost use Rattle.gb_records.specs.Answered.{WasAnswered};
 ghost use Rattle.gb_records.specs.Said.{IsReadAt};
 ghost use Rattle.gb_build.specs.Refusing.{IsUnread};
 

@@ -1,11 +1,11 @@
 //! Edits from outside.
 ghost use Rattle.std.specs.Prelude.{◌≡◌, ◌≤◌, IsTrue, MatchResult};
 ghost use Rattle.gb_folder.specs.Files.{SameTearing, is_own};
+ghost use Rattle.gb_folder.specs.Calls.{Asks, Removes, Writes, takes_at};
+ghost use Rattle.gb_folder.specs.Limits.{max_file};
 ghost use Rattle.gb_meaning.specs.Edits.{LossStep, PutStep, RemoveStep, own_place};
 ghost use Rattle.gb_store.specs.Changes.{ChangesOnly};
 ghost use Rattle.gb_store.specs.Faults.{Blames};
-ghost use Rattle.gb_folder.specs.Calls.{Asks, Removes, Writes, takes_at};
-ghost use Rattle.gb_folder.specs.Limits.{max_file};
 ghost use Rattle.gb_build.specs.EventAsked.{AsksOnce};
 ghost use Rattle.gb_build.specs.Answers.{edit_answer};
 

@@ -2,8 +2,6 @@
 ghost use Rattle.std.specs.Prelude.{◌≡◌, ◌≤◌, [], ◌∷◌, IfOk, IsTrue, OnErr, length, map};
 ghost use Rattle.std.specs.List.{AllZip};
 ghost use Rattle.gb_folder.specs.Files.{SameTearing};
-ghost use Rattle.gb_build.specs.Registering.{registers_in, setting_of};
-ghost use Rattle.gb_build.specs.Leading.{Leads};
 ghost use Rattle.gb_meaning.specs.Every.{PromiseHolds};
 ghost use Rattle.gb_meaning.specs.Headline.{AllKeepElsewhere, EventKeeps, EventsHold, HaveHeardAll};
 ghost use Rattle.gb_meaning.specs.Headline.{HasFailed, answer_of, times_blamed};
@@ -11,6 +9,8 @@ ghost use Rattle.gb_meaning.specs.Headline.{times_blamed_in_all};
 ghost use Rattle.gb_meaning.specs.Kinds.{Kinds};
 ghost use Rattle.gb_records.specs.Granted.{IsGranted};
 ghost use Rattle.gb_registry.specs.Tables.{tables_of};
+ghost use Rattle.gb_build.specs.Registering.{registers_in, setting_of};
+ghost use Rattle.gb_build.specs.Leading.{Leads};
 ghost use Rattle.gb_build.specs.EventAsked.{EventAsks, EventsAsk};
 ghost use Rattle.gb_build.specs.Answers.{AnswerIsOutlined, edit_answer};
 

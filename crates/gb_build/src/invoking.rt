@@ -1,9 +1,8 @@
 //! One invocation over the scripts of a folder.
 ghost use Rattle.std.specs.Prelude.{◌≡◌, ◌≤◌, ◌&&◌, ◌∷◌, [], ℕ, List, Ok, map, not, true, IfErr};
 ghost use Rattle.std.specs.Prelude.{IfOk, IsTrue, OnErr};
+ghost use Rattle.gb_declare.specs.Registered.{registry_said};
 ghost use Rattle.gb_folder.specs.Files.{SameTearing, is_own};
-ghost use Rattle.gb_build.specs.Leading.{Leads};
-ghost use Rattle.gb_build.specs.Refusing.{IsNotBegun};
 ghost use Rattle.gb_meaning.specs.declared.events.Event.TheVariants as events;
 ghost use Rattle.gb_meaning.specs.Events.{IsNotBuilt, is_read_first};
 ghost use Rattle.gb_meaning.specs.Every.{PromiseHolds};
@@ -15,7 +14,8 @@ ghost use Rattle.gb_printer.specs.Printing.{Prints, parts_text};
 ghost use Rattle.gb_records.specs.Granted.{IsGranted};
 ghost use Rattle.gb_registry.specs.Tables.{tables_of};
 ghost use Rattle.gb_turn.specs.Turned.{setting_with};
-ghost use Rattle.gb_declare.specs.Registered.{registry_said};
+ghost use Rattle.gb_build.specs.Leading.{Leads};
+ghost use Rattle.gb_build.specs.Refusing.{IsNotBegun};
 ghost use Rattle.gb_build.specs.InvocationAsked.{InvocationAsks};
 ghost use Rattle.gb_build.specs.Registering.{registers_in, setting_of};
 

@@ -1,12 +1,12 @@
 //! Events over a folder in memory that holds nothing yet.
 ghost use Rattle.std.specs.Prelude.{◌≡◌, [], true, IfOk, map};
-ghost use Rattle.gb_build.specs.Registering.{setting_of};
 ghost use Rattle.gb_meaning.specs.Every.{PromiseHolds};
 ghost use Rattle.gb_meaning.specs.Granted.{leaves_nothing};
 ghost use Rattle.gb_meaning.specs.Headline.{Agrees, Stands};
 ghost use Rattle.gb_meaning.specs.Kinds.{Kinds};
 ghost use Rattle.gb_plan.specs.Graph.{no_repeats};
 ghost use Rattle.gb_registry.specs.Tables.{tables_of};
+ghost use Rattle.gb_build.specs.Registering.{setting_of};
 
 use crate::events::run_events;
 use gb_action::actions::Actions;

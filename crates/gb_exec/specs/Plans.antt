@@ -1,14 +1,14 @@
 -- The tasks of a plan by number, and that they start by number as they start by path.
 use Rattle.std.specs.Prelude.{ℕ, ◌≡◌, ◌<◌, ◌≤◌, ◌↔◌, ◌⊎◌, true, List, [], length, Contains, IsTrue}
 use Rattle.std.specs.Prelude.{Some, slice_get, slice_index_or}
-use Rattle.gb_report.specs.Outcome.{is_executed}
-use Rattle.gb_report.specs.declared.report.Outcome.{Outcome}
-use Rattle.gb_report.specs.declared.report.Options.{Options}
+use Rattle.gb_meaning.specs.Label.{Moment, some_outcome}
+use Rattle.gb_meaning.specs.Turn as meant
 use Rattle.gb_plan.specs.declared.plan.Planned.{Planned}
 use Rattle.gb_plan.specs.Task.{Path, has_path}
 use Rattle.gb_plan.specs.Graph.{no_repeats, order, needs_in}
-use Rattle.gb_meaning.specs.Label.{Moment, some_outcome}
-use Rattle.gb_meaning.specs.Turn as meant
+use Rattle.gb_report.specs.Outcome.{is_executed}
+use Rattle.gb_report.specs.declared.report.Outcome.{Outcome}
+use Rattle.gb_report.specs.declared.report.Options.{Options}
 use Rattle.gb_exec.specs.declared.starts.Ending.{Ending}
 use Rattle.gb_exec.specs.declared.starts.Ending.TheVariants.{ToCome}
 use Rattle.gb_exec.specs.Starts.{Progress, DoesStart, ending_in, ending_of, has_executed_need, mark_at, row}

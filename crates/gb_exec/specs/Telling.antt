@@ -1,12 +1,12 @@
 -- What a call leaves of what listeners have heard.
 use Rattle.std.specs.Prelude.{ℕ, ◌≡◌, ◌↔◌, Bool, true, not, ◌&&◌, List, ◌++◌, Option, None, Some}
 use Rattle.std.specs.List.{AllZip}
+use Rattle.std.specs.Borrow.{Bor}
+use Rattle.gb_meaning.specs.Turn.{heard_of}
+use Rattle.gb_meaning.specs.Headline.{Ear, HaveHeard, HearsAll, HearsSome, counted}
 use Rattle.gb_report.specs.declared.report.Heard.{Heard}
 use Rattle.gb_report.specs.declared.report.Heard.TheVariants as heard
 use Rattle.gb_report.specs.declared.report.Report.{Report}
-use Rattle.gb_meaning.specs.Turn.{heard_of}
-use Rattle.gb_meaning.specs.Headline.{Ear, HaveHeard, HearsAll, HearsSome, counted}
-use Rattle.std.specs.Borrow.{Bor}
 use Rattle.gb_report.specs.declared.report.Outcome.{Outcome}
 
 -- what is told of a task: that its turn has come, or with which outcome it ended

@@ -1,7 +1,7 @@
 //! What a listener is, and one that keeps what it hears.
 ghost use Rattle.std.specs.Prelude.{◌≡◌, ◌++◌, [], ◌∷◌, OnOk, OnErr};
-ghost use Rattle.gb_report.specs.declared.report.Heard.TheVariants.{Start, End};
 ghost use Rattle.gb_meaning.specs.Headline.{HearsAll};
+ghost use Rattle.gb_report.specs.declared.report.Heard.TheVariants.{Start, End};
 ghost use Rattle.gb_exec.specs.Telling.{Refuses};
 
 use gb_core::path::TaskPath;

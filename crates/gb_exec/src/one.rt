@@ -1,23 +1,23 @@
 //! The turn of one task of a plan.
 ghost use Rattle.std.specs.Prelude.{◌≡◌, ◌<◌, [], ◌∷◌, ℕ, List, None, Some, false, map, length};
 ghost use Rattle.std.specs.Prelude.{slice_get, slice_index_or, IsTrue};
-ghost use Rattle.gb_records.specs.Granted.{IsGranted};
-ghost use Rattle.gb_turn.specs.Case.{IsKnown};
 ghost use Rattle.gb_folder.specs.Calls.{Asks, changes_at};
 ghost use Rattle.gb_folder.specs.Files.{HasRisen};
-ghost use Rattle.gb_exec.specs.Telling.{AllTold};
 ghost use Rattle.gb_meaning.specs.Kinds.{Kinds};
 ghost use Rattle.gb_meaning.specs.Label.{Moment};
 ghost use Rattle.gb_meaning.specs.Outline.{IsOutline};
 ghost use Rattle.gb_meaning.specs.TrueRecord.{outside};
 ghost use Rattle.gb_meaning.specs.Turn.{heard_of};
 ghost use Rattle.gb_plan.specs.declared.plan.Planned.{Planned};
+ghost use Rattle.gb_records.specs.Granted.{IsGranted};
 ghost use Rattle.gb_records.specs.Standing.{Standing};
 ghost use Rattle.gb_report.specs.declared.report.Outcome.TheVariants.{Failed, NotRun};
-ghost use Rattle.gb_exec.specs.Plans.{AreEndings, AreOfPlan};
 ghost use Rattle.gb_store.specs.Changes.{ChangesOnly};
+ghost use Rattle.gb_turn.specs.Case.{IsKnown};
 ghost use Rattle.gb_turn.specs.Current.{IsToldCurrent};
 ghost use Rattle.gb_turn.specs.Turned.{Registering, is_of_turn, setting_with};
+ghost use Rattle.gb_exec.specs.Telling.{AllTold};
+ghost use Rattle.gb_exec.specs.Plans.{AreEndings, AreOfPlan};
 ghost use Rattle.gb_exec.specs.Asking.{in_turns};
 ghost use Rattle.gb_exec.specs.Building.{CanBuild, is_of_turns};
 ghost use Rattle.gb_exec.specs.Built.{IsTurnOf};

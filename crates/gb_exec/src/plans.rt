@@ -1,8 +1,8 @@
 //! The tasks of a plan, numbered as they stand in it.
 ghost use Rattle.std.specs.Prelude.{◌≡◌, ◌<◌, ◌⊎◌, ◌↔◌, [], ℕ, true, map, length, replicate};
 ghost use Rattle.std.specs.Prelude.{Contains, IfOk, vec_len};
-ghost use Rattle.gb_plan.specs.Graph.{no_repeats, order, stuck};
 ghost use Rattle.gb_graph.specs.Ranked.{numbers_in};
+ghost use Rattle.gb_plan.specs.Graph.{no_repeats, order, stuck};
 ghost use Rattle.gb_exec.specs.Plans.{AreOfPlan};
 ghost use Rattle.gb_exec.specs.Starts.{mark_at, row, rows};
 ghost use Rattle.gb_exec.specs.declared.starts.Ending.TheVariants.{ToCome};

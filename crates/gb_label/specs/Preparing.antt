@@ -3,11 +3,11 @@ use Rattle.std.specs.Prelude.{◌≡◌, true, false, Option, Some, None, ⊤}
 use Rattle.std.specs.List.{list_any}
 use Rattle.gb_folder.specs.Files.{Contents, Files, is_empty}
 use Rattle.gb_history.specs.Remembered.{Remembered}
+use Rattle.gb_history.specs.declared.decide.Decision.{Decision}
+use Rattle.gb_history.specs.declared.decide.Decision.TheVariants as decisions
 use Rattle.gb_meaning.specs.Label.{HasNoActions, HasNoSource, Skips, early_case}
 use Rattle.gb_plan.specs.declared.task.TaskDeclaration.{TaskDeclaration as Task}
 use Rattle.gb_report.specs.declared.report.Options.{Options}
-use Rattle.gb_history.specs.declared.decide.Decision.{Decision}
-use Rattle.gb_history.specs.declared.decide.Decision.TheVariants as decisions
 use Rattle.gb_label.specs.Reading.{AreInputs, AreInputsSeen, AreOutputs, AreOutputsSeen}
 use Rattle.gb_label.specs.Deciding.{IsDecided, MayDecide}
 use Rattle.gb_label.specs.declared.prepare.Prepared.{Prepared}

@@ -1,25 +1,25 @@
 -- What a turn reads, once, and why it does not get to.
 use Rattle.std.specs.Prelude.{ℕ, ◌≡◌, ◌⊎◌, Bool, List, Some, map, IsTrue}
 use Rattle.std.specs.List.{AllByRecursion, AllZip, list_any, zip}
+use Rattle.gb_action.specs.Files.{Trees}
+use Rattle.gb_action.specs.declared.output.OutputFiles.{OutputFiles}
 use Rattle.gb_core.specs.Lists.{first_of}
 use Rattle.gb_core.specs.Place.{is_under}
 use Rattle.gb_folder.specs.Files.{Contents, Files, Place}
-use Rattle.gb_action.specs.Files.{Trees}
-use Rattle.gb_action.specs.declared.output.OutputFiles.{OutputFiles}
-use Rattle.gb_tree.specs.Prints.{digests_of}
-use Rattle.gb_tree.specs.Property.{entries_of}
-use Rattle.gb_tree.specs.Reading.{AreSeen, digests_seen}
-use Rattle.gb_tree.specs.Tree.{files_from, output_entries, output_faults}
-use Rattle.gb_tree.specs.declared.kept.SeenFile.{SeenFile}
 use Rattle.gb_history.specs.Remembered.{Prints}
 use Rattle.gb_history.specs.declared.record.OutputRecord.{OutputRecord}
 use Rattle.gb_meaning.specs.Tree.{told_of_tree}
 use Rattle.gb_plan.specs.declared.task.FileProperty.{FileProperty}
 use Rattle.gb_plan.specs.declared.task.Output.{Output}
-use Rattle.gb_report.specs.declared.fault.Fault.{Fault}
-use Rattle.gb_store.specs.Faults.{IsOfMachine}
 use Rattle.gb_plan.specs.Task.{is_output_of, roots_of}
 use Rattle.gb_plan.specs.declared.task.TaskDeclaration.{TaskDeclaration as Task}
+use Rattle.gb_report.specs.declared.fault.Fault.{Fault}
+use Rattle.gb_store.specs.Faults.{IsOfMachine}
+use Rattle.gb_tree.specs.Prints.{digests_of}
+use Rattle.gb_tree.specs.Property.{entries_of}
+use Rattle.gb_tree.specs.Reading.{AreSeen, digests_seen}
+use Rattle.gb_tree.specs.Tree.{files_from, output_entries, output_faults}
+use Rattle.gb_tree.specs.declared.kept.SeenFile.{SeenFile}
 
 -- the machine failed between these counts, or it is the first of these faults
 abbrev pub CannotRead : ℕ → ℕ → List Fault → Fault → Type 0

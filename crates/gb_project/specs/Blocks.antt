@@ -6,10 +6,10 @@ use Rattle.std.specs.Global.{Global}
 use Rattle.std.specs.List.{flat_map}
 use Rattle.std.specs.declared.vec.Vec.{Vec}
 use Rattle.gb_core.specs.Lists.{byte_order}
+use Rattle.gb_declare.specs.Borrowed.{now_of}
 use Rattle.gb_registry.specs.Said.{added_clauses}
 use Rattle.gb_script.specs.declared.script.Clause.{Clause}
 use Rattle.gb_script.specs.declared.script.Statement.{Statement}
-use Rattle.gb_declare.specs.Borrowed.{now_of}
 
 -- clauses by the names of tasks, each of them borrowed
 abbrev pub Blocks : Type 0

@@ -1,19 +1,19 @@
 -- All tasks of the scripts are declared, and all that they declare stands in the whole table.
 use Rattle.std.specs.Prelude.{◌≡◌, ℕ, ◌<◌, List, [], ◌∷◌, length, map, Option, Some, None, Ok, Err}
 use Rattle.std.specs.List.{AllByRecursion}
+use Rattle.gb_declare.specs.Declaring.{declared}
+use Rattle.gb_declare.specs.Joined.{Named}
+use Rattle.gb_declare.specs.Whole.{build_folder, trees_of}
+use Rattle.gb_evaluate.specs.Parts.{HavePatterns}
+use Rattle.gb_nodes.specs.Complete.{IsComplete, place_in_whole}
+use Rattle.gb_nodes.specs.Standing.{AreSaid, scripts_made, sites_made}
 use Rattle.gb_provider.specs.declared.expression.Expression.{Expression}
-use Rattle.gb_report.specs.declared.fault.Fault.{Fault}
 use Rattle.gb_registry.specs.Projects.{Path}
 use Rattle.gb_registry.specs.Said.{Registered, tasks_of}
 use Rattle.gb_registry.specs.Source.{Source}
 use Rattle.gb_registry.specs.Tables.{Tables}
+use Rattle.gb_report.specs.declared.fault.Fault.{Fault}
 use Rattle.gb_script.specs.declared.script.Statement.{Statement}
-use Rattle.gb_declare.specs.Declaring.{declared}
-use Rattle.gb_declare.specs.Joined.{Named}
-use Rattle.gb_declare.specs.Whole.{build_folder, trees_of}
-use Rattle.gb_nodes.specs.Complete.{IsComplete, place_in_whole}
-use Rattle.gb_nodes.specs.Standing.{AreSaid, scripts_made, sites_made}
-use Rattle.gb_evaluate.specs.Parts.{HavePatterns}
 use Rattle.gb_project.specs.Stage.{AreAllGood, Entry, Stage, begun, with_scripts}
 
 module _ {M F Z S A : Type 0} (tables : Tables M F Z S A) (source : Source) where

@@ -2,9 +2,9 @@
 use Rattle.std.specs.Prelude.{Bool, true, ◌&&◌}
 use Rattle.gb_core.specs.Name.{is_name}
 use Rattle.gb_core.specs.Path.{is_project_path}
+use Rattle.gb_registry.specs.Said.{Said}
 use Rattle.gb_script.specs.declared.script.Statement.{Statement}
 use Rattle.gb_script.specs.declared.script.Statement.TheVariants as statements
-use Rattle.gb_registry.specs.Said.{Said}
 
 -- a task that is registered has a name
 abbrev pub registers_named : Statement → Bool

@@ -5,9 +5,9 @@ use Rattle.std.specs.List.{AllByRecursion-prop}
 use Rattle.gb_plan.specs.Graph.{IsDeclared, IsRegistry, Registry}
 use Rattle.gb_plan.specs.Task.{Path}
 use Rattle.gb_plan.specs.declared.task.TaskDeclaration.{TaskDeclaration}
+use Rattle.gb_registry.specs.Source.{Source}
 use Rattle.gb_report.specs.declared.fault.Fault.{Fault}
 use Rattle.gb_script.specs.Coding.{tree_code}
-use Rattle.gb_registry.specs.Source.{Source}
 
 bool_set : IsSet Bool
 bool_set = Coded-set coded_bool

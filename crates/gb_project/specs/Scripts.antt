@@ -1,7 +1,7 @@
 -- What scripts register, as a plan asks for it.
 use Rattle.gb_action.specs.Meanings as of_actions
-use Rattle.gb_plan.specs.Graph.{Registry}
 use Rattle.gb_declare.specs.Registered.{registry_said}
+use Rattle.gb_plan.specs.Graph.{Registry}
 use Rattle.gb_provider.specs.Meanings as of_functions
 use Rattle.gb_registry.specs.Tables.{tables_of}
 use Rattle.gb_project.specs.Workspace.{Space}

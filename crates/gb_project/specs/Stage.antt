@@ -3,25 +3,25 @@ use Rattle.std.specs.Prelude.{◌≡◌, ℕ, List, [], ◌∷◌, ◌++◌, ◌
 use Rattle.std.specs.Prelude.{Some, None, Result, Ok, Err, slice_set}
 use Rattle.std.specs.List.{AllByRecursion, flat_map}
 use Rattle.std.specs.Option.{option_to_list}
-use Rattle.gb_provider.specs.Rules.{output_place}
-use Rattle.gb_provider.specs.Table.{Table}
-use Rattle.gb_provider.specs.declared.expression.Expression.{Expression}
-use Rattle.gb_provider.specs.declared.expression.Expression.TheVariants.{OfOutput}
-use Rattle.gb_provider.specs.declared.fault.Chosen.{Chosen}
-use Rattle.gb_report.specs.declared.fault.Fault.{Fault}
-use Rattle.gb_registry.specs.Projects.{Path, with_paths}
-use Rattle.gb_registry.specs.References.{Names}
-use Rattle.gb_registry.specs.Said.{Registered, declared_property}
-use Rattle.gb_registry.specs.Tables.{Tables}
-use Rattle.gb_registry.specs.Wrong.{found_in_all}
-use Rattle.gb_script.specs.Tree.{trees_of}
-use Rattle.gb_script.specs.declared.script.Statement.{Statement}
 use Rattle.gb_declare.specs.Declaring.{faults_within, scope_in, unless}
 use Rattle.gb_declare.specs.Joined.{Joined, Made, Named, joined}
 use Rattle.gb_declare.specs.Whole.{trees_of as expressions_of}
 use Rattle.gb_nodes.specs.Nodes.{Made as These, trees_made}
 use Rattle.gb_nodes.specs.Site.{Site}
 use Rattle.gb_nodes.specs.Wrong.{link_faults, root_faults}
+use Rattle.gb_provider.specs.Rules.{output_place}
+use Rattle.gb_provider.specs.Table.{Table}
+use Rattle.gb_provider.specs.declared.expression.Expression.{Expression}
+use Rattle.gb_provider.specs.declared.expression.Expression.TheVariants.{OfOutput}
+use Rattle.gb_provider.specs.declared.fault.Chosen.{Chosen}
+use Rattle.gb_registry.specs.Projects.{Path, with_paths}
+use Rattle.gb_registry.specs.References.{Names}
+use Rattle.gb_registry.specs.Said.{Registered, declared_property}
+use Rattle.gb_registry.specs.Tables.{Tables}
+use Rattle.gb_registry.specs.Wrong.{found_in_all}
+use Rattle.gb_report.specs.declared.fault.Fault.{Fault}
+use Rattle.gb_script.specs.Tree.{trees_of}
+use Rattle.gb_script.specs.declared.script.Statement.{Statement}
 use Rattle.gb_project.specs.Tasks.{script_tasks}
 
 -- A declared task: the folder of what its project builds, what its clauses say together, and the numbers of

@@ -1,18 +1,18 @@
 -- Tasks declared one after another, as the code declares them.
 use Rattle.std.specs.Prelude.{◌≡◌, ℕ, ◌≤◌, List, [], ◌∷◌, ◌++◌, length, map, Option, Some, None, Result}
-use Rattle.gb_provider.specs.Answers.{Held}
-use Rattle.gb_report.specs.declared.fault.Fault.{Fault}
-use Rattle.gb_registry.specs.Projects.{Path}
-use Rattle.gb_registry.specs.References.{Names}
-use Rattle.gb_registry.specs.Said.{Registered}
-use Rattle.gb_registry.specs.Tables.{Tables}
-use Rattle.gb_registry.specs.Wrong.{Scope}
-use Rattle.gb_script.specs.declared.script.Statement.{Statement}
 use Rattle.gb_declare.specs.Declaring.{faults_within, unless}
 use Rattle.gb_declare.specs.Joined.{Joined, Named, joined}
 use Rattle.gb_nodes.specs.Scripts.{laid_site}
 use Rattle.gb_nodes.specs.Site.{Site}
 use Rattle.gb_nodes.specs.declared.scripts.Laid.{Laid}
+use Rattle.gb_provider.specs.Answers.{Held}
+use Rattle.gb_registry.specs.Projects.{Path}
+use Rattle.gb_registry.specs.References.{Names}
+use Rattle.gb_registry.specs.Said.{Registered}
+use Rattle.gb_registry.specs.Tables.{Tables}
+use Rattle.gb_registry.specs.Wrong.{Scope}
+use Rattle.gb_report.specs.declared.fault.Fault.{Fault}
+use Rattle.gb_script.specs.declared.script.Statement.{Statement}
 use Rattle.gb_project.specs.Stage.{Stage, IsGood, declared_in, with_task}
 use Rattle.gb_project.specs.Views.{stage_of}
 use Rattle.gb_project.specs.declared.entry.Declared.{Declared}

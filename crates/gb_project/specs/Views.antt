@@ -1,8 +1,8 @@
 -- Declared tasks as the code keeps them.
 use Rattle.std.specs.Prelude.{List, map, Option, option_map}
+use Rattle.gb_declare.specs.Views.{joined_of}
 use Rattle.gb_provider.specs.Rules.{numbers_of}
 use Rattle.gb_provider.specs.declared.expression.Expression.{Expression}
-use Rattle.gb_declare.specs.Views.{joined_of}
 use Rattle.gb_project.specs.Stage.{Entry, Stage}
 use Rattle.gb_project.specs.declared.entry.Declared.{Declared}
 use Rattle.gb_project.specs.declared.entry.Entry as kept

@@ -1,7 +1,7 @@
 //! What stands under the names of tasks in a script.
 ghost use Rattle.std.specs.Prelude.{◌≡◌, ℕ, List, ◌++◌, [], IfOk, OnOk, bytes_eq, if◌then◌else◌};
-ghost use Rattle.gb_registry.specs.Said.{added_clauses};
 ghost use Rattle.gb_declare.specs.Borrowed.{now_of};
+ghost use Rattle.gb_registry.specs.Said.{added_clauses};
 ghost use Rattle.gb_project.specs.Blocks.{AreBlocks, clauses_under};
 
 use gb_core::name::Name;

@@ -1,10 +1,10 @@
 //! Registered tasks, with all that their scripts say of them.
 ghost use Rattle.std.specs.Prelude.{◌≡◌, ◌++◌, List, Some, IfOk, OnOk};
 ghost use Rattle.gb_core.specs.Path.{task_in};
-ghost use Rattle.gb_script.specs.declared.script.Statement.{Statement};
-ghost use Rattle.gb_script.specs.declared.script.Statement.TheVariants.{Register};
 ghost use Rattle.gb_declare.specs.Borrowed.{now_of};
 ghost use Rattle.gb_declare.specs.Views.{registered_of};
+ghost use Rattle.gb_script.specs.declared.script.Statement.{Statement};
+ghost use Rattle.gb_script.specs.declared.script.Statement.TheVariants.{Register};
 ghost use Rattle.gb_project.specs.Blocks.{AreBlocks, clauses_under};
 ghost use Rattle.gb_project.specs.Tasks.{registered_in};
 

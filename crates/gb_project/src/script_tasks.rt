@@ -1,11 +1,11 @@
 //! Tasks of scripts, as a plan asks for them.
 ghost use Rattle.std.specs.Prelude.{◌≡◌, IfOk};
+ghost use Rattle.gb_declare.specs.Registered.{registry_said};
 ghost use Rattle.gb_plan.specs.Graph.{IsRegistry};
 ghost use Rattle.gb_registry.specs.Said.{paths_of};
 ghost use Rattle.gb_registry.specs.Select.{default_tasks as default_tasks_said};
 ghost use Rattle.gb_registry.specs.Tables.{tables_of};
 ghost use Rattle.gb_project.specs.Props.{IsRegistry-prop, source_set};
-ghost use Rattle.gb_declare.specs.Registered.{registry_said};
 ghost use Rattle.gb_project.specs.Scripts.{registry_in};
 
 use crate::named::read_names;

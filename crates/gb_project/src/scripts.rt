@@ -1,14 +1,14 @@
 //! The tasks of scripts, declared one after another.
 ghost use Rattle.std.specs.Prelude.{◌≡◌, [], ◌∷◌, length, drop, IfOk, OnOk};
 ghost use Rattle.std.specs.List.{AllByRecursion, flat_map};
-ghost use Rattle.gb_registry.specs.Faults.{TellsFirst};
-ghost use Rattle.gb_registry.specs.Seen.{scripts_in};
-ghost use Rattle.gb_registry.specs.Tables.{tables_of};
-ghost use Rattle.gb_script.specs.declared.script.Statement.TheVariants.{Register};
 ghost use Rattle.gb_nodes.specs.Scripts.{laid_site};
 ghost use Rattle.gb_nodes.specs.Site.{AreThere, site_of};
 ghost use Rattle.gb_nodes.specs.Standing.{scripts_faults, scripts_made, sites_made};
 ghost use Rattle.gb_nodes.specs.Statements.{IsRun};
+ghost use Rattle.gb_registry.specs.Faults.{TellsFirst};
+ghost use Rattle.gb_registry.specs.Seen.{scripts_in};
+ghost use Rattle.gb_registry.specs.Tables.{tables_of};
+ghost use Rattle.gb_script.specs.declared.script.Statement.TheVariants.{Register};
 ghost use Rattle.gb_project.specs.Indexed.{IsIndexed};
 ghost use Rattle.gb_project.specs.Stage.{AreAllGood, AreGood, begun, with_script, with_scripts};
 ghost use Rattle.gb_project.specs.Steps.{Begins, IsAnyGood, IsNext, IsStaged};

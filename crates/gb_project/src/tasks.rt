@@ -1,10 +1,5 @@
 //! Tasks, declared one after another.
 ghost use Rattle.std.specs.Prelude.{◌≡◌, ◌<◌, ◌++◌, ◌∷◌, [], length, All, IfOk, OnOk, Ok, None, Some};
-ghost use Rattle.gb_provider.specs.Rules.{numbers_of};
-ghost use Rattle.gb_registry.specs.Tables.{tables_of};
-ghost use Rattle.gb_registry.specs.Wrong.{found_in_all};
-ghost use Rattle.gb_report.specs.declared.fault.Fault.TheVariants.{OutOfMemory};
-ghost use Rattle.gb_script.specs.Tree.{trees_of};
 ghost use Rattle.gb_declare.specs.Declaring.{scope_in};
 ghost use Rattle.gb_declare.specs.Views.{joined_of, registered_of};
 ghost use Rattle.gb_declare.specs.Whole.{trees_of as expressions_of};
@@ -12,6 +7,11 @@ ghost use Rattle.gb_nodes.specs.Nodes.{AreMade};
 ghost use Rattle.gb_nodes.specs.Site.{AreThere, site_of};
 ghost use Rattle.gb_nodes.specs.Statements.{IsRun};
 ghost use Rattle.gb_nodes.specs.Wrong.{link_faults, root_faults};
+ghost use Rattle.gb_provider.specs.Rules.{numbers_of};
+ghost use Rattle.gb_registry.specs.Tables.{tables_of};
+ghost use Rattle.gb_registry.specs.Wrong.{found_in_all};
+ghost use Rattle.gb_report.specs.declared.fault.Fault.TheVariants.{OutOfMemory};
+ghost use Rattle.gb_script.specs.Tree.{trees_of};
 ghost use Rattle.gb_project.specs.Stage.{IsGood, output_row, row_made, with_declared, with_outputs};
 ghost use Rattle.gb_project.specs.Steps.{IsStaged, declared_within};
 ghost use Rattle.gb_project.specs.Views.{stage_of};

@@ -1,7 +1,7 @@
 //! Facts that follow from the definitions alone.
-ghost use Rattle.gb_project.specs.Kept.{TasksAreGood, TasksStand};
 ghost use Rattle.gb_registry.specs.Source.{Source};
 ghost use Rattle.gb_registry.specs.Tables.{Tables};
+ghost use Rattle.gb_project.specs.Kept.{TasksAreGood, TasksStand};
 
 use gb_action::actions::Actions;
 use gb_provider::transforms::Transforms;

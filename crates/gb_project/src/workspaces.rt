@@ -1,13 +1,5 @@
 //! The tasks of a build, realised as they are asked for.
 ghost use Rattle.std.specs.Prelude.{◌≡◌, [], IfOk, Some, bytes_eq, length, position};
-ghost use Rattle.gb_registry.specs.Seen.{scripts_in};
-ghost use Rattle.gb_nodes.specs.Standing.{scripts_faults, scripts_made, sites_made};
-ghost use Rattle.gb_nodes.specs.Statements.{IsRun};
-ghost use Rattle.gb_project.specs.Steps.{laid_sites};
-ghost use Rattle.gb_registry.specs.Projects.{root_path};
-ghost use Rattle.gb_registry.specs.References.{lookup_faults};
-ghost use Rattle.gb_registry.specs.Tables.{tables_of};
-ghost use Rattle.gb_report.specs.declared.fault.Fault.TheVariants.{TaskNotFound};
 ghost use Rattle.gb_declare.specs.Realised.{evaluated, first_or, realised};
 ghost use Rattle.gb_declare.specs.Views.{joined_of};
 ghost use Rattle.gb_declare.specs.Whole.{spots, trees_of, whole};
@@ -15,6 +7,14 @@ ghost use Rattle.gb_evaluate.specs.Over.{IsFault, Tells, known_names};
 ghost use Rattle.gb_evaluate.specs.Parts.{HavePatterns};
 ghost use Rattle.gb_evaluate.specs.Evaluated.{IsBuiltIn};
 ghost use Rattle.gb_evaluate.specs.Rows.{AreWithin, TellsOf};
+ghost use Rattle.gb_nodes.specs.Standing.{scripts_faults, scripts_made, sites_made};
+ghost use Rattle.gb_nodes.specs.Statements.{IsRun};
+ghost use Rattle.gb_registry.specs.Seen.{scripts_in};
+ghost use Rattle.gb_registry.specs.Projects.{root_path};
+ghost use Rattle.gb_registry.specs.References.{lookup_faults};
+ghost use Rattle.gb_registry.specs.Tables.{tables_of};
+ghost use Rattle.gb_report.specs.declared.fault.Fault.TheVariants.{TaskNotFound};
+ghost use Rattle.gb_project.specs.Steps.{laid_sites};
 ghost use Rattle.gb_project.specs.Views.{stage_of};
 ghost use Rattle.gb_project.specs.Workspace.{IsKeptIn};
 

@@ -10,15 +10,15 @@ use Rattle.gb_history.specs.declared.decide.Decision.{Decision}
 use Rattle.gb_history.specs.declared.decide.Decision.TheVariants as decisions
 use Rattle.gb_history.specs.declared.decide.Present.{Present}
 use Rattle.gb_label.specs.Deciding.{IsPresentOf}
+use Rattle.gb_label.specs.Reading.{digests_in, prints_seen, records_with, seen_of}
+use Rattle.gb_label.specs.declared.inputs.Inputs.{Inputs}
+use Rattle.gb_label.specs.declared.outputs.Outputs.{Outputs}
 use Rattle.gb_meaning.specs.Kinds.{Kinds}
 use Rattle.gb_meaning.specs.Memory.{World}
 use Rattle.gb_meaning.specs.Tree.{trees_of}
 use Rattle.gb_plan.specs.Task.{seen_files, seen_outputs}
 use Rattle.gb_plan.specs.declared.task.TaskDeclaration.{TaskDeclaration as Task}
 use Rattle.gb_report.specs.declared.report.Options.{Options}
-use Rattle.gb_label.specs.Reading.{digests_in, prints_seen, records_with, seen_of}
-use Rattle.gb_label.specs.declared.inputs.Inputs.{Inputs}
-use Rattle.gb_label.specs.declared.outputs.Outputs.{Outputs}
 use Rattle.gb_turn.specs.Turned.{IsDueByChanges}
 use Rattle.gb_turn.specs.declared.anew.Anew.{Anew}
 use Rattle.gb_turn.specs.declared.anew.Anew.TheVariants as anew

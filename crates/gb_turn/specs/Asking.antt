@@ -9,7 +9,8 @@ use Rattle.gb_folder.specs.Files.{Bytes, Files, IsFolder, Tearing, are_placed}
 use Rattle.gb_history.specs.Places.{record_place}
 use Rattle.gb_history.specs.Remembered.{Remembered}
 use Rattle.gb_history.specs.Text.{record_text}
-use Rattle.gb_run.specs.AskingChanges.{GoesOn}
+use Rattle.gb_label.specs.Answered.{WasSourceless}
+use Rattle.gb_label.specs.ReadingAnswered.{AreInputsRead, AreOutputsRead}
 use Rattle.gb_meaning.specs.Headline.{Agrees}
 use Rattle.gb_meaning.specs.Kinds.{Kinds}
 use Rattle.gb_meaning.specs.Label.{has_one_writer}
@@ -17,8 +18,7 @@ use Rattle.gb_plan.specs.Ready.{Rows}
 use Rattle.gb_plan.specs.Task.{is_output_of, seen_files, seen_outputs}
 use Rattle.gb_plan.specs.declared.task.TaskDeclaration.{TaskDeclaration as Task}
 use Rattle.gb_report.specs.declared.report.Options.{Options}
-use Rattle.gb_label.specs.Answered.{WasSourceless}
-use Rattle.gb_label.specs.ReadingAnswered.{AreInputsRead, AreOutputsRead}
+use Rattle.gb_run.specs.AskingChanges.{GoesOn}
 use Rattle.gb_turn.specs.Anew.{AreDecided}
 use Rattle.gb_turn.specs.Keeping.{IsRecordOf}
 use Rattle.gb_turn.specs.Turned.{is_of_turn}

@@ -10,6 +10,7 @@ use Rattle.gb_label.specs.Deciding.{IsDecided, IsPresentOf}
 use Rattle.gb_label.specs.Preparing.{IsPrepared}
 use Rattle.gb_label.specs.declared.prepare.Prepared.{Prepared}
 use Rattle.gb_label.specs.declared.prepare.Prepared.TheVariants as prepared
+use Rattle.gb_label.specs.Reading.{digests_in, print_faults, recorded_of}
 use Rattle.gb_meaning.specs.Kinds.{Kinds}
 use Rattle.gb_meaning.specs.Label.{HasNoActions, HasNoSource, IsCurrent, IsIncremental, Skips}
 use Rattle.gb_meaning.specs.Label.{changes_from, early_case, has_one_writer}
@@ -20,7 +21,6 @@ use Rattle.gb_plan.specs.declared.task.TaskDeclaration.{TaskDeclaration as Task}
 use Rattle.gb_records.specs.Digests.{IsClearTo, IsPresent}
 use Rattle.gb_records.specs.Said.{IsSaidOf}
 use Rattle.gb_report.specs.declared.report.Options.{Options}
-use Rattle.gb_label.specs.Reading.{digests_in, print_faults, recorded_of}
 
 -- What was read of the task is the record of what is remembered of it; and that is true and clear, by what
 -- the task has now.

@@ -10,13 +10,13 @@ use Rattle.gb_history.specs.declared.decide.Decision.TheVariants as decisions
 use Rattle.gb_history.specs.declared.decide.Present.{Present}
 use Rattle.gb_label.specs.Answered.{WasDecided, WasSourceless}
 use Rattle.gb_label.specs.Deciding.{IsPresentOf}
+use Rattle.gb_label.specs.ReadingAnswered.{AreInputsAnswered, AreInputsRead, AreOutputsRead}
+use Rattle.gb_label.specs.Reading.{digests_in, prints_seen, records_with}
 use Rattle.gb_plan.specs.Task.{seen_files, seen_outputs}
 use Rattle.gb_plan.specs.declared.task.TaskDeclaration.{TaskDeclaration as Task}
 use Rattle.gb_report.specs.declared.report.Options.{Options}
 use Rattle.gb_report.specs.declared.report.Outcome.{Outcome}
 use Rattle.gb_report.specs.declared.report.Outcome.TheVariants as outcomes
-use Rattle.gb_label.specs.ReadingAnswered.{AreInputsAnswered, AreInputsRead, AreOutputsRead}
-use Rattle.gb_label.specs.Reading.{digests_in, prints_seen, records_with}
 use Rattle.gb_turn.specs.declared.anew.Anew.{Anew}
 use Rattle.gb_turn.specs.declared.anew.Anew.TheVariants as anew
 use Rattle.gb_turn.specs.declared.settle.Settled.{Settled}

@@ -3,6 +3,7 @@ use Rattle.std.specs.Prelude.{ℕ, ◌≡◌, ◌⊎◌, List, Option, Result, O
 use Rattle.gb_action.specs.Files.{Trees}
 use Rattle.gb_folder.specs.Files.{Bytes, Files, HasRisen, is_empty}
 use Rattle.gb_history.specs.Remembered.{Prints, Remembered}
+use Rattle.gb_label.specs.Reading.{digests_in, recorded_of}
 use Rattle.gb_meaning.specs.Kinds.{Kinds}
 use Rattle.gb_meaning.specs.Made.{made_of}
 use Rattle.gb_meaning.specs.Memory.{Entry, Memory, forget, remember}
@@ -11,7 +12,6 @@ use Rattle.gb_plan.specs.declared.task.TaskDeclaration.{TaskDeclaration as Task}
 use Rattle.gb_records.specs.Standing.{CannotStand, Standing}
 use Rattle.gb_report.specs.declared.fault.Fault.{Fault}
 use Rattle.gb_report.specs.declared.fault.Fault.TheVariants as faults
-use Rattle.gb_label.specs.Reading.{digests_in, recorded_of}
 
 -- a run of the task with these input digests, whose outputs are those of these files
 abbrev pub run_now : Task → List Prints → Files → Remembered

@@ -2,13 +2,12 @@
 use Rattle.std.specs.Prelude.{ℕ, ◌≡◌, ◌≢◌, ◌||◌, Bool, true, false, not, [], Result, Ok, Err, None, Some}
 use Rattle.std.specs.Prelude.{IsTrue, ⊤}
 use Rattle.std.specs.List.{list_any}
-use Rattle.gb_turn.specs.Case.{IsCaseFor}
-use Rattle.gb_turn.specs.Turns.{IsRunFor}
 use Rattle.gb_folder.specs.Files.{Contents, HasRisen, Place, is_empty}
 use Rattle.gb_history.specs.declared.decide.Decision.TheVariants as decisions
 use Rattle.gb_label.specs.Preparing.{IsReadFor, IsSeenFor}
 use Rattle.gb_label.specs.declared.prepare.Prepared.{Prepared}
 use Rattle.gb_label.specs.declared.prepare.Prepared.TheVariants as prepared
+use Rattle.gb_label.specs.Reading.{is_input_of}
 use Rattle.gb_meaning.specs.Events.{Setting, own_files, rules_in}
 use Rattle.gb_meaning.specs.Label.{HasNoSource, Moment, early_case}
 use Rattle.gb_meaning.specs.Outline.{MayAnswer, PrintsNothing}
@@ -23,7 +22,8 @@ use Rattle.gb_report.specs.declared.report.Options.{Options}
 use Rattle.gb_report.specs.declared.report.Outcome.{Outcome}
 use Rattle.gb_report.specs.declared.report.Outcome.TheVariants as outcomes
 use Rattle.gb_report.specs.declared.report.TaskReport.{TaskReport}
-use Rattle.gb_label.specs.Reading.{is_input_of}
+use Rattle.gb_turn.specs.Case.{IsCaseFor}
+use Rattle.gb_turn.specs.Turns.{IsRunFor}
 use Rattle.gb_turn.specs.declared.settle.Settled.{Settled}
 use Rattle.gb_turn.specs.declared.settle.Settled.TheVariants as settled
 

@@ -10,6 +10,8 @@ use Rattle.gb_folder.specs.Calls.{Call}
 use Rattle.gb_folder.specs.Files.{Bytes, Files, Tearing, is_own}
 use Rattle.gb_history.specs.Remembered.{IsRemembered, Remembered}
 use Rattle.gb_history.specs.Text.{record_text}
+use Rattle.gb_label.specs.ReadingAnswered.{AreInputsRead}
+use Rattle.gb_label.specs.Reading.{seen_of}
 use Rattle.gb_meaning.specs.Headline.{Agrees}
 use Rattle.gb_meaning.specs.Kinds.{Kinds}
 use Rattle.gb_meaning.specs.Label.{has_one_writer}
@@ -22,8 +24,6 @@ use Rattle.gb_plan.specs.Task.{output_places, seen_files}
 use Rattle.gb_plan.specs.declared.task.TaskDeclaration.{TaskDeclaration as Task}
 use Rattle.gb_records.specs.Said.{IsSaidOf}
 use Rattle.gb_report.specs.declared.report.Options.{Options}
-use Rattle.gb_label.specs.ReadingAnswered.{AreInputsRead}
-use Rattle.gb_label.specs.Reading.{seen_of}
 use Rattle.gb_turn.specs.Asking.{IsInFull, IsTextOn}
 use Rattle.gb_turn.specs.Current.{IsCurrentOn}
 

@@ -2,7 +2,6 @@
 use Rattle.std.specs.Prelude.{ℕ, ◌≡◌, not, Bool, ◌||◌, List, Result, Ok, Err, None, Some, is_some}
 use Rattle.gb_action.specs.Changes.{Changes}
 use Rattle.gb_folder.specs.Files.{Contents, Files, Place, Tearing, is_empty}
-use Rattle.gb_turn.specs.Case.{IsKnown}
 use Rattle.gb_history.specs.Places.{record_place}
 use Rattle.gb_history.specs.Remembered.{Remembered}
 use Rattle.gb_meaning.specs.Events.{Setting, own_files, rules_in}
@@ -22,6 +21,7 @@ use Rattle.gb_report.specs.declared.report.Outcome.{Outcome}
 use Rattle.gb_report.specs.declared.report.Outcome.TheVariants as outcomes
 use Rattle.gb_report.specs.declared.report.TaskReport.{TaskReport}
 use Rattle.gb_store.specs.Changes.{is_at}
+use Rattle.gb_turn.specs.Case.{IsKnown}
 
 -- what scripts say, as a function of the files
 abbrev pub Registering : Type 0

@@ -3,11 +3,11 @@ ghost use Rattle.std.specs.Prelude.{◌≡◌, ◌++◌, [], length, IfOk, OnOk}
 ghost use Rattle.gb_action.specs.Changes.{changes_between};
 ghost use Rattle.gb_action.specs.Files.{Tree};
 ghost use Rattle.gb_folder.specs.Files.{Files};
+ghost use Rattle.gb_label.specs.Reading.{digests_in};
 ghost use Rattle.gb_meaning.specs.Label.{changes_from};
 ghost use Rattle.gb_meaning.specs.Tree.{trees_of};
-ghost use Rattle.gb_turn.specs.Reading.{added_in};
 ghost use Rattle.gb_tree.specs.Prints.{digests_of};
-ghost use Rattle.gb_label.specs.Reading.{digests_in};
+ghost use Rattle.gb_turn.specs.Reading.{added_in};
 
 use gb_action::change::{ChangeList, ChangeLists};
 use gb_plan::task::{FileProperty, TaskDeclaration};

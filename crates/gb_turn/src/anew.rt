@@ -8,6 +8,8 @@ ghost use Rattle.std.specs.List.{list_any};
 ghost use Rattle.gb_folder.specs.Calls.{Asks, no_change};
 ghost use Rattle.gb_folder.specs.Files.{is_own};
 ghost use Rattle.gb_label.specs.Deciding.{HasNamesInOrder};
+ghost use Rattle.gb_label.specs.ReadingAnswered.{AreInputsAnswered, AreOutputsAnswered};
+ghost use Rattle.gb_label.specs.Reading.{AreInputs, AreInputsSeen, AreOutputs, AreOutputsSeen, is_input_of};
 ghost use Rattle.gb_meaning.specs.Kinds.{Kinds};
 ghost use Rattle.gb_meaning.specs.Memory.{World};
 ghost use Rattle.gb_meaning.specs.TrueRecord.{outside};
@@ -16,8 +18,6 @@ ghost use Rattle.gb_store.specs.Faults.{Blames, BlamesOnly, IsOfMachine};
 ghost use Rattle.gb_turn.specs.Anew.{IsAnew, IsAsBefore, anew_by};
 ghost use Rattle.gb_turn.specs.Current.{WasReadAnew};
 ghost use Rattle.gb_turn.specs.Turned.{IsToGoOn};
-ghost use Rattle.gb_label.specs.ReadingAnswered.{AreInputsAnswered, AreOutputsAnswered};
-ghost use Rattle.gb_label.specs.Reading.{AreInputs, AreInputsSeen, AreOutputs, AreOutputsSeen, is_input_of};
 
 use crate::case_laws::{outside_is_enough, prepared_is_case};
 use gb_action::change::ChangeLists;

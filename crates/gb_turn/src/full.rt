@@ -3,12 +3,14 @@ ghost use Rattle.std.specs.Prelude.{◌≡◌, ◌||◌, [], ℕ, List, false, n
 ghost use Rattle.gb_folder.specs.Calls.{Asks, changes_at, no_change};
 ghost use Rattle.gb_folder.specs.Files.{HasRisen, is_empty};
 ghost use Rattle.gb_label.specs.Deciding.{HasNamesInOrder};
+ghost use Rattle.gb_label.specs.ReadingAnswered.{AreInputsAnswered};
+ghost use Rattle.gb_label.specs.Reading.{AreInputs, AreInputsSeen, digests_in, is_input_of};
 ghost use Rattle.gb_meaning.specs.Headline.{Agrees};
 ghost use Rattle.gb_meaning.specs.Kinds.{Kinds};
 ghost use Rattle.gb_meaning.specs.Label.{Moment};
+ghost use Rattle.gb_meaning.specs.Tree.{trees_of};
 ghost use Rattle.gb_plan.specs.Graph.{Plan, reads_output_of};
 ghost use Rattle.gb_plan.specs.Ready.{IsReady};
-ghost use Rattle.gb_meaning.specs.Tree.{trees_of};
 ghost use Rattle.gb_plan.specs.Task.{is_output_of, seen_files};
 ghost use Rattle.gb_records.specs.Granted.{IsGranted};
 ghost use Rattle.gb_report.specs.declared.report.Options.{Options};
@@ -21,8 +23,6 @@ ghost use Rattle.gb_turn.specs.Buildable.{IsBuildable};
 ghost use Rattle.gb_turn.specs.Keeping.{IsRecordOf};
 ghost use Rattle.gb_turn.specs.Turned.{ComesAt, HasTurned, IsDue, IsToldOf, Registering, is_of_turn};
 ghost use Rattle.gb_turn.specs.Turned.{outcome_of, report_of, setting_with};
-ghost use Rattle.gb_label.specs.ReadingAnswered.{AreInputsAnswered};
-ghost use Rattle.gb_label.specs.Reading.{AreInputs, AreInputsSeen, digests_in, is_input_of};
 
 use crate::adding::all_added;
 use crate::clearing::clear;

@@ -1,7 +1,6 @@
 //! What is settled of a task's turn before anything is changed.
 ghost use Rattle.std.specs.Prelude.{◌≡◌, ◌||◌, false, IsTrue, option_copied};
 ghost use Rattle.std.specs.List.{list_any};
-ghost use Rattle.gb_turn.specs.Case.{IsKnown};
 ghost use Rattle.gb_folder.specs.Calls.{Asks, no_change};
 ghost use Rattle.gb_folder.specs.Files.{is_empty, is_own};
 ghost use Rattle.gb_label.specs.Deciding.{HasNamesInOrder};
@@ -10,6 +9,7 @@ ghost use Rattle.gb_meaning.specs.Label.{Moment, some_outcome};
 ghost use Rattle.gb_meaning.specs.TrueRecord.{outside};
 ghost use Rattle.gb_plan.specs.Graph.{Plan, needs_in};
 ghost use Rattle.gb_report.specs.Outcome.{is_executed};
+ghost use Rattle.gb_turn.specs.Case.{IsKnown};
 ghost use Rattle.gb_turn.specs.Current.{WasSettled};
 ghost use Rattle.gb_turn.specs.Settled.{AnswersAlone, IsOfTask, SettlesTurn, TellsAnswer, idle_outcome};
 ghost use Rattle.gb_turn.specs.Settled.{settled_as, silent_report};
