@@ -22,7 +22,7 @@ use gb_folder::folder::Folder;
 use gb_meaning::events::{Answer, Event};
 use gb_printer::printer::Silent;
 use gb_provider::transforms::Transforms;
-use gb_registry::tables::Handed;
+use gb_registry::tables::Tables;
 use gb_report::fault::Fault;
 use gb_report::report::Report;
 use std::alloc::{AllocError, Global};
@@ -32,7 +32,7 @@ use std::alloc::{AllocError, Global};
 pub fn run_events<A: Actions, T: Transforms, F: Folder, L: TaskListener>(
     alloc: Global,
     folder: &mut F,
-    tables: &Handed<A, T>,
+    tables: &Tables<A, T>,
     events: &[Event],
     listeners: &mut Vec<L>,
 ) -> Result<Vec<Answer>, AllocError>
@@ -89,7 +89,7 @@ pub fn run_events<A: Actions, T: Transforms, F: Folder, L: TaskListener>(
 fn take<A: Actions, T: Transforms, F: Folder, L: TaskListener>(
     alloc: Global,
     folder: &mut F,
-    tables: &Handed<A, T>,
+    tables: &Tables<A, T>,
     event: &Event,
     listeners: &mut Vec<L>,
 ) -> Answer

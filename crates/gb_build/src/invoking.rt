@@ -31,7 +31,7 @@ use gb_printer::printer::Printer;
 use gb_project::script_tasks::ScriptTasks;
 use gb_provider::transforms::Transforms;
 use gb_registry::configured::Configured;
-use gb_registry::tables::Handed;
+use gb_registry::tables::Tables;
 use gb_report::fault::Fault;
 use gb_report::report::Report;
 use std::alloc::{AllocError, Global};
@@ -44,7 +44,7 @@ use std::alloc::{AllocError, Global};
 pub fn invoke<A: Actions, T: Transforms, F: Folder, L: TaskListener, P: Printer>(
     alloc: Global,
     folder: &mut F,
-    tables: &Handed<A, T>,
+    tables: &Tables<A, T>,
     invocation: &Invocation,
     listeners: &mut Vec<L>,
     printer: &mut P,

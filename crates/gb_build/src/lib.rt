@@ -65,7 +65,7 @@ pub use gb_provider::table::TransformTable;
 pub use gb_provider::transforms::Transforms;
 pub use gb_registry::configured::Configured;
 pub use gb_registry::registry::Registry;
-pub use gb_registry::tables::{Handed, Tables};
+pub use gb_registry::tables::Tables;
 pub use gb_report::render::{render, render_fault};
 pub use gb_script::script::{Script, Settings};
 pub use gb_tree::pattern::Pattern;

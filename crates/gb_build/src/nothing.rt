@@ -15,7 +15,7 @@ use gb_folder::memory::MemoryFolder;
 use gb_meaning::events::{Answer, Event};
 use gb_meaning::laws::some_kinds_agree;
 use gb_provider::transforms::Transforms;
-use gb_registry::tables::Handed;
+use gb_registry::tables::Tables;
 use std::alloc::{AllocError, Global};
 
 /// Takes the events in their order over an empty folder in memory, and answers each. All that `run_events`
@@ -23,7 +23,7 @@ use std::alloc::{AllocError, Global};
 /// folder holds the records of an empty memory, and nothing is torn.
 pub fn run_from_nothing<A: Actions, T: Transforms, L: TaskListener>(
     alloc: Global,
-    tables: &Handed<A, T>,
+    tables: &Tables<A, T>,
     events: &[Event],
     listeners: &mut Vec<L>,
 ) -> Result<(MemoryFolder, Vec<Answer>), AllocError>

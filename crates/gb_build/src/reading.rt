@@ -19,7 +19,7 @@ use gb_provider::transforms::Transforms;
 use gb_registry::configured::Configured;
 use gb_registry::projects::projects;
 use gb_registry::registry::Registry;
-use gb_registry::tables::Handed;
+use gb_registry::tables::Tables;
 use gb_report::fault::Fault;
 use gb_script::script::Settings;
 use std::alloc::Global;
@@ -34,7 +34,7 @@ use std::alloc::Global;
 pub fn read_registry<'a, A: Actions, T: Transforms, F: Folder>(
     alloc: Global,
     folder: &mut F,
-    tables: &'a Handed<A, T>,
+    tables: &'a Tables<A, T>,
     given: Vec<(Name, Text)>,
 ) -> Result<Configured<'a, A, T>, Fault>
     ensures asks { Asks F.failures F.may_leave F.asked no_change folder.old folder.new }

@@ -8,7 +8,7 @@ use gb_folder::folder::Folder;
 use gb_folder::memory::MemoryFolder;
 use gb_meaning::events::{Answer, Event};
 use gb_provider::transforms::Transforms;
-use gb_registry::tables::Handed;
+use gb_registry::tables::Tables;
 use gb_report::render::{render, render_fault};
 use gb_words::words::read;
 use std::alloc::Global;
@@ -87,7 +87,7 @@ pub fn is_told(expected: &str, told: &str) -> Result<(), Fail> {
 pub fn go_on<A: Actions, T: Transforms, F: Folder>(
     alloc: Global,
     folder: &mut F,
-    tables: &Handed<A, T>,
+    tables: &Tables<A, T>,
     steps: &[Step<'_>],
 ) -> Result<(), Fail> {
     let events = events(alloc, steps)?;
@@ -106,7 +106,7 @@ pub fn go_on<A: Actions, T: Transforms, F: Folder>(
 pub fn told_beside<A: Actions, T: Transforms, F: Folder, L: TaskListener>(
     alloc: Global,
     folder: &mut F,
-    tables: &Handed<A, T>,
+    tables: &Tables<A, T>,
     words: &str,
     listeners: &mut Vec<L>,
 ) -> Result<String, Fail> {
@@ -127,7 +127,7 @@ fn told_alone(alloc: Global, answers: &[Answer]) -> Result<String, Fail> {
 pub fn told_of<A: Actions, T: Transforms, F: Folder>(
     alloc: Global,
     folder: &mut F,
-    tables: &Handed<A, T>,
+    tables: &Tables<A, T>,
     words: &str,
 ) -> Result<String, Fail> {
     let mut listeners: Vec<Recorder> = Vec::new(alloc);
@@ -138,7 +138,7 @@ pub fn told_of<A: Actions, T: Transforms, F: Folder>(
 pub fn is_told_of<A: Actions, T: Transforms, F: Folder>(
     alloc: Global,
     folder: &mut F,
-    tables: &Handed<A, T>,
+    tables: &Tables<A, T>,
     words: &str,
     expected: &str,
 ) -> Result<(), Fail> {

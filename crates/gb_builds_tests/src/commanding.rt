@@ -11,7 +11,7 @@ use gb_folder::memory::MemoryFolder;
 use gb_kinds::builtin::Builtin;
 use gb_printer::page::Page;
 use gb_provider::transforms::Transforms;
-use gb_registry::tables::Handed;
+use gb_registry::tables::Tables;
 use std::alloc::Global;
 use std::fs;
 use std::test::Fail;
@@ -30,7 +30,7 @@ type Row<'a> = (&'a str, &'a str);
 fn answers<A: Actions, T: Transforms, F: Folder>(
     alloc: Global,
     folder: &mut F,
-    tables: &Handed<A, T>,
+    tables: &Tables<A, T>,
     lines: &str,
 ) -> Result<String, Fail> {
     let mut out = Vec::new(alloc);
@@ -41,7 +41,7 @@ fn answers<A: Actions, T: Transforms, F: Folder>(
 fn take_all<A: Actions, T: Transforms, F: Folder>(
     alloc: Global,
     folder: &mut F,
-    tables: &Handed<A, T>,
+    tables: &Tables<A, T>,
     lines: &str,
     out: &mut Vec<u8>,
 ) -> Result<(), Fail> {
@@ -54,7 +54,7 @@ fn take_all<A: Actions, T: Transforms, F: Folder>(
 fn take<A: Actions, T: Transforms, F: Folder>(
     alloc: Global,
     folder: &mut F,
-    tables: &Handed<A, T>,
+    tables: &Tables<A, T>,
     line: &str,
     out: &mut Vec<u8>,
 ) -> Result<(), Fail> {
@@ -98,7 +98,7 @@ fn push_line(out: &mut Vec<u8>, bytes: &[u8]) -> Result<(), Fail> {
 fn build<A: Actions, T: Transforms, F: Folder>(
     alloc: Global,
     folder: &mut F,
-    tables: &Handed<A, T>,
+    tables: &Tables<A, T>,
     words: &str,
     out: &mut Vec<u8>,
 ) -> Result<u8, Fail> {
@@ -118,7 +118,7 @@ fn build<A: Actions, T: Transforms, F: Folder>(
 fn status<A: Actions, T: Transforms, F: Folder>(
     alloc: Global,
     folder: &mut F,
-    tables: &Handed<A, T>,
+    tables: &Tables<A, T>,
     words: &str,
     out: &mut Vec<u8>,
 ) -> Result<(), Fail> {
@@ -130,7 +130,7 @@ fn status<A: Actions, T: Transforms, F: Folder>(
 fn on_disk<A: Actions, T: Transforms>(
     rt: &HostRuntime,
     name: &str,
-    tables: &Handed<A, T>,
+    tables: &Tables<A, T>,
     lines: &str,
 ) -> Result<String, Fail> {
     let mut folder = DiskFolder::new(rt, String::from_str(rt.alloc(), name)?);
@@ -151,7 +151,7 @@ fn is_answered(row: &Row<'_>, answer: &str) -> Result<(), Fail> {
 fn hold_on_disk<A: Actions, T: Transforms>(
     rt: &HostRuntime,
     name: &str,
-    tables: &Handed<A, T>,
+    tables: &Tables<A, T>,
     rows: &[Row<'_>],
 ) -> Result<(), Fail> {
     for row in rows {
@@ -211,7 +211,7 @@ fn words_ask_for_a_build_or_for_none(rt: HostRuntime) -> Result<(), Fail> {
 }
 
 /// Fails where a build that cannot be printed has a status.
-fn unprinted<A: Actions, T: Transforms>(alloc: Global, tables: &Handed<A, T>) -> Result<(), Fail> {
+fn unprinted<A: Actions, T: Transforms>(alloc: Global, tables: &Tables<A, T>) -> Result<(), Fail> {
     let mut folder = MemoryFolder::new(alloc);
     let words = Ok(Vec::new(alloc));
     let mut page = Page::new(FailingWriter);

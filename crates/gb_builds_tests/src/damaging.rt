@@ -7,7 +7,7 @@ use gb_folder::folder::Folder;
 use gb_folder::memory::MemoryFolder;
 use gb_kinds::builtin::Builtin;
 use gb_provider::transforms::Transforms;
-use gb_registry::tables::Handed;
+use gb_registry::tables::Tables;
 use std::alloc::Global;
 use std::test::Fail;
 
@@ -57,7 +57,7 @@ fn a_record_that_cannot_stand_is_told(rt: HostRuntime) -> Result<(), Fail> {
 /// Fails where a build after the first task's record was damaged at a byte runs anything else than that task.
 fn is_damaged<A: Actions, T: Transforms>(
     alloc: Global,
-    tables: &Handed<A, T>,
+    tables: &Tables<A, T>,
     at: usize,
 ) -> Result<(), Fail> {
     let mut folder = MemoryFolder::new(alloc);

@@ -5,7 +5,7 @@ use gb_kinds::builtin::Builtin;
 use gb_kinds::function_table::FunctionTable;
 use gb_lines::replay::replay;
 use gb_provider::transforms::Transforms;
-use gb_registry::tables::{Handed, Tables};
+use gb_registry::tables::Tables;
 use std::alloc::Global;
 use std::io::{self, ErrorKind, Read, Write};
 use std::test::Fail;
@@ -26,7 +26,7 @@ const ENDED: [Row<'static>; 3] = [
 ];
 
 /// No kinds and no functions.
-fn nothing_handed(alloc: Global) -> Handed<Builtin, Builtin> {
+fn nothing_handed(alloc: Global) -> Tables<Builtin, Builtin> {
     Tables {
         actions: ActionTable::new(alloc),
         transforms: FunctionTable::new(alloc),
@@ -36,7 +36,7 @@ fn nothing_handed(alloc: Global) -> Handed<Builtin, Builtin> {
 /// What is printed of an input, and the status.
 fn replayed<A: Actions, T: Transforms>(
     alloc: Global,
-    tables: &Handed<A, T>,
+    tables: &Tables<A, T>,
     input: &str,
 ) -> Result<(String, u8), Fail> {
     let mut writer = Vec::new(alloc);
@@ -133,7 +133,7 @@ impl Write for FailingWriter {
 }
 
 /// The status of a replay whose lines cannot be read.
-fn unread<A: Actions, T: Transforms>(alloc: Global, tables: &Handed<A, T>) -> u8 {
+fn unread<A: Actions, T: Transforms>(alloc: Global, tables: &Tables<A, T>) -> u8 {
     let mut output = Vec::new(alloc);
     let mut reader = FailingReader { is_begun: false };
     let status = replay::<A, T, _, _>(alloc, &mut reader, &mut output, tables);
@@ -141,12 +141,12 @@ fn unread<A: Actions, T: Transforms>(alloc: Global, tables: &Handed<A, T>) -> u8
 }
 
 /// The status of a replay whose answers cannot be written.
-fn unwritten<A: Actions, T: Transforms>(alloc: Global, tables: &Handed<A, T>) -> u8 {
+fn unwritten<A: Actions, T: Transforms>(alloc: Global, tables: &Tables<A, T>) -> u8 {
     let mut input = b"show a\njump".as_slice();
     replay::<A, T, _, _>(alloc, &mut input, &mut FailingWriter, tables)
 }
 
-fn end_with_1<A: Actions, T: Transforms>(alloc: Global, tables: &Handed<A, T>) -> Result<(), Fail> {
+fn end_with_1<A: Actions, T: Transforms>(alloc: Global, tables: &Tables<A, T>) -> Result<(), Fail> {
     if unread::<A, T>(alloc, tables) == 1 && unwritten::<A, T>(alloc, tables) == 1 {
         Ok(())
     } else {

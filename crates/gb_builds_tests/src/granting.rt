@@ -6,7 +6,7 @@ use gb_build::nothing::run_from_nothing;
 use gb_exec::listener::Recorder;
 use gb_kinds::builtin::Builtin;
 use gb_provider::transforms::Transforms;
-use gb_registry::tables::Handed;
+use gb_registry::tables::Tables;
 use std::alloc::Global;
 use std::test::Fail;
 
@@ -32,7 +32,7 @@ const STEPS: [Step<'static>; 3] = [
 /// Fails where the steps from nothing tell or leave something else.
 fn runs_from_nothing<A: Actions, T: Transforms>(
     alloc: Global,
-    tables: &Handed<A, T>,
+    tables: &Tables<A, T>,
 ) -> Result<(), Fail> {
     let events = events(alloc, &STEPS)?;
     let mut listeners: Vec<Recorder> = Vec::new(alloc);

@@ -9,7 +9,7 @@ use gb_folder::folder::Folder;
 use gb_folder::memory::MemoryFolder;
 use gb_kinds::builtin::Builtin;
 use gb_provider::transforms::Transforms;
-use gb_registry::tables::Handed;
+use gb_registry::tables::Tables;
 use std::alloc::Global;
 use std::test::Fail;
 
@@ -32,7 +32,7 @@ const HEARD: &str = "start :a\nexecuted :a\nstart :b\nexecuted :b\n";
 /// A folder with the script alone.
 fn scripted<A: Actions, T: Transforms>(
     alloc: Global,
-    tables: &Handed<A, T>,
+    tables: &Tables<A, T>,
 ) -> Result<MemoryFolder, Fail> {
     let mut folder = MemoryFolder::new(alloc);
     go_on::<A, T, MemoryFolder>(alloc, &mut folder, tables, &SCRIPTED)?;
@@ -43,7 +43,7 @@ fn scripted<A: Actions, T: Transforms>(
 fn told_and_heard<A: Actions, T: Transforms, F: Folder>(
     alloc: Global,
     folder: &mut F,
-    tables: &Handed<A, T>,
+    tables: &Tables<A, T>,
 ) -> Result<(String, bool), Fail> {
     let mut listeners = vec![in alloc; Recorder::new(alloc)]?;
     let text = told_beside::<A, T, F, Recorder>(alloc, folder, tables, "run a b", &mut listeners)?;
@@ -55,7 +55,7 @@ fn told_and_heard<A: Actions, T: Transforms, F: Folder>(
 fn is_kept<A: Actions, T: Transforms>(
     alloc: Global,
     folder: &mut MemoryFolder,
-    tables: &Handed<A, T>,
+    tables: &Tables<A, T>,
     is_heard: bool,
 ) -> Result<(), Fail> {
     let again = told_of::<A, T, MemoryFolder>(alloc, folder, tables, "run a b")?;
@@ -70,7 +70,7 @@ fn is_kept<A: Actions, T: Transforms>(
 /// executed. Fails where that is not so for the build behind it.
 fn stopped<A: Actions, T: Transforms>(
     alloc: Global,
-    tables: &Handed<A, T>,
+    tables: &Tables<A, T>,
     at: u64,
 ) -> Result<(String, bool), Fail> {
     let mut faulty = FaultyFolder::new(scripted::<A, T>(alloc, tables)?, at, FaultMode::Stop);
@@ -87,7 +87,7 @@ fn heard_by_last<L: TaskListener>(alloc: Global, listeners: &[L]) -> Result<Stri
 }
 
 /// Stops a build at each of its calls, and tells how many of them come behind the end of its first task.
-fn all_stops<A: Actions, T: Transforms>(alloc: Global, tables: &Handed<A, T>) -> Result<u64, Fail> {
+fn all_stops<A: Actions, T: Transforms>(alloc: Global, tables: &Tables<A, T>) -> Result<u64, Fail> {
     let mut behind = 0u64;
     for at in 1..200u64 {
         let (text, is_heard) = stopped::<A, T>(alloc, tables, at)?;
@@ -115,7 +115,7 @@ fn what_was_heard_is_so_after_a_stop(rt: HostRuntime) -> Result<(), Fail> {
 /// Fails where a listener that refuses a call changes more of a build than its success.
 fn refused<A: Actions, T: Transforms>(
     alloc: Global,
-    tables: &Handed<A, T>,
+    tables: &Tables<A, T>,
     at: u64,
     expected: &str,
 ) -> Result<(), Fail> {
@@ -130,7 +130,7 @@ fn refused<A: Actions, T: Transforms>(
 fn is_heard<A: Actions, T: Transforms>(
     alloc: Global,
     folder: &mut MemoryFolder,
-    tables: &Handed<A, T>,
+    tables: &Tables<A, T>,
     at: u64,
     expected: &str,
 ) -> Result<(), Fail> {
@@ -143,7 +143,7 @@ fn is_heard<A: Actions, T: Transforms>(
 fn builds_alike<A: Actions, T: Transforms, L: TaskListener>(
     alloc: Global,
     folder: &mut MemoryFolder,
-    tables: &Handed<A, T>,
+    tables: &Tables<A, T>,
     listeners: &mut Vec<L>,
     expected: &str,
 ) -> Result<(), Fail> {
@@ -154,7 +154,7 @@ fn builds_alike<A: Actions, T: Transforms, L: TaskListener>(
 /// Refuses each of the four calls, and then none.
 fn all_refusals<A: Actions, T: Transforms>(
     alloc: Global,
-    tables: &Handed<A, T>,
+    tables: &Tables<A, T>,
 ) -> Result<(), Fail> {
     for at in 1..5u64 {
         refused::<A, T>(alloc, tables, at, REFUSED)?;
@@ -219,7 +219,7 @@ fn heard_between(alloc: Global, at: usize) -> Result<String, Fail> {
 /// something else.
 fn one_is_missed<A: Actions, T: Transforms>(
     alloc: Global,
-    tables: &Handed<A, T>,
+    tables: &Tables<A, T>,
     at: u64,
 ) -> Result<(), Fail> {
     let mut folder = MemoryFolder::new(alloc);
@@ -245,7 +245,7 @@ fn one_is_missed<A: Actions, T: Transforms>(
 /// Refuses each of the four calls.
 fn each_is_missed<A: Actions, T: Transforms>(
     alloc: Global,
-    tables: &Handed<A, T>,
+    tables: &Tables<A, T>,
 ) -> Result<(), Fail> {
     for at in 1..5u64 {
         one_is_missed::<A, T>(alloc, tables, at)?;

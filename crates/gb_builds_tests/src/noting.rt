@@ -10,7 +10,7 @@ use gb_folder::memory::MemoryFolder;
 use gb_folder::noted::{Note, NotedFolder};
 use gb_kinds::builtin::Builtin;
 use gb_provider::transforms::Transforms;
-use gb_registry::tables::Handed;
+use gb_registry::tables::Tables;
 use std::alloc::Global;
 use std::test::Fail;
 
@@ -36,7 +36,7 @@ const STEPS: [Step<'static>; 6] = [
 /// The folder after these steps.
 fn stepped<A: Actions, T: Transforms>(
     alloc: Global,
-    tables: &Handed<A, T>,
+    tables: &Tables<A, T>,
 ) -> Result<MemoryFolder, Fail> {
     let mut folder = MemoryFolder::new(alloc);
     go_on::<A, T, MemoryFolder>(alloc, &mut folder, tables, &STEPS)?;
@@ -48,7 +48,7 @@ fn stepped<A: Actions, T: Transforms>(
 fn changes<A: Actions, T: Transforms, F: Folder + Drop>(
     alloc: Global,
     folder: F,
-    tables: &Handed<A, T>,
+    tables: &Tables<A, T>,
     words: &str,
 ) -> Result<usize, Fail> {
     let mut noted = NotedFolder::new(alloc, folder);
@@ -79,7 +79,7 @@ fn are_changes(found: usize, wanted: usize) -> Result<(), Fail> {
 /// Stops the build at each of its calls.
 fn all_stopped<A: Actions, T: Transforms>(
     alloc: Global,
-    tables: &Handed<A, T>,
+    tables: &Tables<A, T>,
 ) -> Result<(), Fail> {
     for at in 1..40u64 {
         let folder = FaultyFolder::new(stepped::<A, T>(alloc, tables)?, at, FaultMode::Stop);

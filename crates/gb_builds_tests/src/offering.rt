@@ -10,7 +10,7 @@ use gb_kinds::shapes::{
 };
 use gb_kinds::texts::write_text;
 use gb_provider::transforms::Transforms;
-use gb_registry::tables::{Handed, Tables};
+use gb_registry::tables::Tables;
 use std::alloc::Global;
 use std::test::Fail;
 
@@ -58,7 +58,7 @@ fn actions(alloc: Global) -> Result<ActionTable<StoredAction>, Fail> {
 }
 
 /// What a build is handed: these kinds, and no function of values.
-pub fn offered(alloc: Global) -> Result<Handed<Builtin, Builtin>, Fail> {
+pub fn offered(alloc: Global) -> Result<Tables<Builtin, Builtin>, Fail> {
     let actions = actions(alloc)?;
     Ok(Tables {
         actions,
@@ -67,7 +67,7 @@ pub fn offered(alloc: Global) -> Result<Handed<Builtin, Builtin>, Fail> {
 }
 
 /// What a build is handed by a program in which the kind that writes a text has its next version.
-pub fn offered_anew(alloc: Global) -> Result<Handed<Builtin, Builtin>, Fail> {
+pub fn offered_anew(alloc: Global) -> Result<Tables<Builtin, Builtin>, Fail> {
     let mut actions = ActionTable::new(alloc);
     add(alloc, &mut actions, "writeText", writing_anew(alloc)?)?;
     Ok(Tables {
@@ -77,7 +77,7 @@ pub fn offered_anew(alloc: Global) -> Result<Handed<Builtin, Builtin>, Fail> {
 }
 
 /// What a build is handed whose one kind joins files.
-pub fn offered_joining(alloc: Global) -> Result<Handed<Builtin, Builtin>, Fail> {
+pub fn offered_joining(alloc: Global) -> Result<Tables<Builtin, Builtin>, Fail> {
     let mut actions = ActionTable::new(alloc);
     add(alloc, &mut actions, "concat", joining(alloc)?)?;
     Ok(Tables {

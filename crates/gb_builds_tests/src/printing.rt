@@ -9,7 +9,7 @@ use gb_folder::memory::MemoryFolder;
 use gb_kinds::builtin::Builtin;
 use gb_printer::page::Page;
 use gb_provider::transforms::Transforms;
-use gb_registry::tables::Handed;
+use gb_registry::tables::Tables;
 use std::alloc::Global;
 use std::io::{self, ErrorKind, Write};
 use std::test::Fail;
@@ -88,7 +88,7 @@ fn laid_out(alloc: Global) -> Result<MemoryFolder, Fail> {
 fn built_in<A: Actions, T: Transforms>(
     alloc: Global,
     folder: &mut MemoryFolder,
-    tables: &Handed<A, T>,
+    tables: &Tables<A, T>,
     room: usize,
 ) -> Result<End, Fail> {
     let mut page = Page::new(Scarce {
@@ -114,7 +114,7 @@ fn is_end(end: &End, status: Option<u8>, printed: &[u8]) -> Result<(), Fail> {
 /// than a whole build.
 fn stops_nothing<A: Actions, T: Transforms>(
     alloc: Global,
-    tables: &Handed<A, T>,
+    tables: &Tables<A, T>,
     room: usize,
 ) -> Result<(), Fail> {
     let mut folder = laid_out(alloc)?;
@@ -128,7 +128,7 @@ fn stops_nothing<A: Actions, T: Transforms>(
 
 fn stop_nothing<A: Actions, T: Transforms>(
     alloc: Global,
-    tables: &Handed<A, T>,
+    tables: &Tables<A, T>,
 ) -> Result<(), Fail> {
     for room in 0..=MADE.len() {
         stops_nothing::<A, T>(alloc, tables, room)?;
@@ -146,7 +146,7 @@ fn what_cannot_be_printed_stops_nothing(rt: HostRuntime) -> Result<(), Fail> {
 fn seen_at_flushes<A: Actions, T: Transforms>(
     alloc: Global,
     folder: &mut MemoryFolder,
-    tables: &Handed<A, T>,
+    tables: &Tables<A, T>,
 ) -> Result<Vec<usize>, Fail> {
     let mut page = Page::new(Flushed {
         written: 0,
@@ -162,7 +162,7 @@ fn seen_at_flushes<A: Actions, T: Transforms>(
 }
 
 /// Fails where a first build is not seen part by part, or a later one not at once.
-fn are_seen<A: Actions, T: Transforms>(alloc: Global, tables: &Handed<A, T>) -> Result<(), Fail> {
+fn are_seen<A: Actions, T: Transforms>(alloc: Global, tables: &Tables<A, T>) -> Result<(), Fail> {
     let mut folder = laid_out(alloc)?;
     let made = seen_at_flushes::<A, T>(alloc, &mut folder, tables)?;
     let kept = seen_at_flushes::<A, T>(alloc, &mut folder, tables)?;

@@ -6,7 +6,7 @@ use gb_folder::faulty::{FaultMode, FaultyFolder};
 use gb_folder::memory::MemoryFolder;
 use gb_kinds::builtin::Builtin;
 use gb_provider::transforms::Transforms;
-use gb_registry::tables::Handed;
+use gb_registry::tables::Tables;
 use std::alloc::Global;
 use std::test::Fail;
 
@@ -97,7 +97,7 @@ fn of_removals() -> Trial<'static> {
 /// A folder after the first build.
 fn first<A: Actions, T: Transforms>(
     alloc: Global,
-    tables: &Handed<A, T>,
+    tables: &Tables<A, T>,
 ) -> Result<MemoryFolder, Fail> {
     let mut folder = MemoryFolder::new(alloc);
     go_on::<A, T, MemoryFolder>(alloc, &mut folder, tables, &FIRST)?;
@@ -107,7 +107,7 @@ fn first<A: Actions, T: Transforms>(
 /// A folder after the first build and the edits of a trial.
 fn edited<A: Actions, T: Transforms>(
     alloc: Global,
-    tables: &Handed<A, T>,
+    tables: &Tables<A, T>,
     trial: &Trial<'_>,
 ) -> Result<MemoryFolder, Fail> {
     let mut folder = first::<A, T>(alloc, tables)?;
@@ -118,7 +118,7 @@ fn edited<A: Actions, T: Transforms>(
 /// The text of the record that the first build leaves.
 fn record<A: Actions, T: Transforms>(
     alloc: Global,
-    tables: &Handed<A, T>,
+    tables: &Tables<A, T>,
 ) -> Result<Vec<u8>, Fail> {
     let mut folder = first::<A, T>(alloc, tables)?;
     bytes_at(alloc, &mut folder, ".gb/tasks/cp.record")
@@ -150,7 +150,7 @@ fn is_spared(alloc: Global, folder: &mut MemoryFolder, trial: &Trial<'_>) -> Res
 fn succeeds<A: Actions, T: Transforms>(
     alloc: Global,
     folder: &mut MemoryFolder,
-    tables: &Handed<A, T>,
+    tables: &Tables<A, T>,
     trial: &Trial<'_>,
 ) -> Result<(), Fail> {
     let text = told_of::<A, T, MemoryFolder>(alloc, folder, tables, "run cp")?;
@@ -171,7 +171,7 @@ fn is_success(text: &str, trial: &Trial<'_>) -> Result<(), Fail> {
 fn recovers<A: Actions, T: Transforms>(
     alloc: Global,
     folder: &mut MemoryFolder,
-    tables: &Handed<A, T>,
+    tables: &Tables<A, T>,
     trial: &Trial<'_>,
 ) -> Result<(), Fail> {
     is_spared(alloc, folder, trial)?;
@@ -184,7 +184,7 @@ fn recovers<A: Actions, T: Transforms>(
 /// What is told of a build whose device fails at a call, once the builds behind it have made up for it.
 fn stopped<A: Actions, T: Transforms>(
     alloc: Global,
-    tables: &Handed<A, T>,
+    tables: &Tables<A, T>,
     trial: &Trial<'_>,
     at: u64,
     mode: FaultMode,
@@ -210,7 +210,7 @@ fn blames(text: &str) -> Result<(), Fail> {
 /// Stops a build at each of its calls, and tells the number of the first call that it does not make.
 fn calls<A: Actions, T: Transforms>(
     alloc: Global,
-    tables: &Handed<A, T>,
+    tables: &Tables<A, T>,
     trial: &Trial<'_>,
     kind: u64,
     torn: &[u8],
@@ -229,7 +229,7 @@ fn calls<A: Actions, T: Transforms>(
 /// Stops a build at each of its calls in each of these ways, and fails where one of them goes unseen.
 fn all_stops<A: Actions, T: Transforms>(
     alloc: Global,
-    tables: &Handed<A, T>,
+    tables: &Tables<A, T>,
     trial: &Trial<'_>,
     kinds: &[u64],
 ) -> Result<(), Fail> {
@@ -239,7 +239,7 @@ fn all_stops<A: Actions, T: Transforms>(
 
 fn stops_alike<A: Actions, T: Transforms>(
     alloc: Global,
-    tables: &Handed<A, T>,
+    tables: &Tables<A, T>,
     trial: &Trial<'_>,
     kinds: &[u64],
     torn: &[u8],

@@ -7,7 +7,7 @@ use gb_folder::folder::Folder;
 use gb_folder::memory::MemoryFolder;
 use gb_kinds::builtin::Builtin;
 use gb_provider::transforms::Transforms;
-use gb_registry::tables::Handed;
+use gb_registry::tables::Tables;
 use std::alloc::Global;
 use std::test::Fail;
 
@@ -34,7 +34,7 @@ const OLDER: &str =
 /// The folder after the first build.
 fn first<A: Actions, T: Transforms>(
     alloc: Global,
-    tables: &Handed<A, T>,
+    tables: &Tables<A, T>,
 ) -> Result<MemoryFolder, Fail> {
     let mut folder = MemoryFolder::new(alloc);
     go_on::<A, T, MemoryFolder>(alloc, &mut folder, tables, &FIRST)?;

@@ -9,7 +9,7 @@ use gb_folder::memory::MemoryFolder;
 use gb_kinds::builtin::Builtin;
 use gb_printer::page::Page;
 use gb_provider::transforms::Transforms;
-use gb_registry::tables::Handed;
+use gb_registry::tables::Tables;
 use gb_why_command::run::run;
 use std::alloc::Global;
 use std::test::Fail;
@@ -24,7 +24,7 @@ const BUILT: [Step<'static>; 2] = [("put build.gb", SCRIPT, ""), ("run gen", "",
 fn answered<A: Actions, T: Transforms>(
     alloc: Global,
     folder: &mut MemoryFolder,
-    tables: &Handed<A, T>,
+    tables: &Tables<A, T>,
     words: &str,
 ) -> Result<(String, u8), Fail> {
     let given = words_of(alloc, words)?;
@@ -46,7 +46,7 @@ fn answered<A: Actions, T: Transforms>(
 fn is_why<A: Actions, T: Transforms>(
     alloc: Global,
     folder: &mut MemoryFolder,
-    tables: &Handed<A, T>,
+    tables: &Tables<A, T>,
     words: &str,
     expected: &str,
 ) -> Result<(), Fail> {
@@ -57,7 +57,7 @@ fn is_why<A: Actions, T: Transforms>(
 /// The folder after these events.
 fn folder_after<A: Actions, T: Transforms>(
     alloc: Global,
-    tables: &Handed<A, T>,
+    tables: &Tables<A, T>,
     steps: &[Step<'_>],
 ) -> Result<MemoryFolder, Fail> {
     let mut folder = MemoryFolder::new(alloc);
@@ -85,7 +85,7 @@ const WORDS: [Row<'static>; 6] = [
 fn holds<A: Actions, T: Transforms>(
     alloc: Global,
     folder: &mut MemoryFolder,
-    tables: &Handed<A, T>,
+    tables: &Tables<A, T>,
     row: &Row<'_>,
 ) -> Result<(), Fail> {
     let (text, status) = answered::<A, T>(alloc, folder, tables, row.0)?;
@@ -168,7 +168,7 @@ fn put(alloc: Global, folder: &mut MemoryFolder, place: &str, bytes: &[u8]) -> R
 fn counts<A: Actions, T: Transforms>(
     alloc: Global,
     folder: &mut MemoryFolder,
-    tables: &Handed<A, T>,
+    tables: &Tables<A, T>,
     row: &Recorded<'_>,
 ) -> Result<(), Fail> {
     let text = record(alloc, row.0, row.1, row.2)?;
@@ -204,7 +204,7 @@ fn an_output_that_is_too_large_is_told(rt: HostRuntime) -> Result<(), Fail> {
 }
 
 /// Fails where what cannot be printed has a status.
-fn unprinted<A: Actions, T: Transforms>(alloc: Global, tables: &Handed<A, T>) -> Result<(), Fail> {
+fn unprinted<A: Actions, T: Transforms>(alloc: Global, tables: &Tables<A, T>) -> Result<(), Fail> {
     let mut folder = MemoryFolder::new(alloc);
     let words = Ok(Vec::new(alloc));
     let mut page = Page::new(FailingWriter);

@@ -18,7 +18,7 @@ use gb_folder::folder::Folder;
 use gb_meaning::events::Invocation;
 use gb_printer::printer::Printer;
 use gb_provider::transforms::Transforms;
-use gb_registry::tables::Handed;
+use gb_registry::tables::Tables;
 use gb_report::fault::Fault;
 use gb_report::report::Report;
 use gb_words::words::read;
@@ -36,7 +36,7 @@ pub fn run<A: Actions, T: Transforms, F: Folder, W: Printer>(
     folder: &mut F,
     words: Result<Vec<String>, Fault>,
     writer: &mut W,
-    tables: &Handed<A, T>,
+    tables: &Tables<A, T>,
 ) -> Option<u8>
     ensures count { F.failures folder.old ≤ F.failures folder.new }
     // There is an answer, whether it could be printed or not. Where it could, its text and nothing else is
@@ -70,7 +70,7 @@ fn answered<A: Actions, T: Transforms, F: Folder, W: Printer>(
     alloc: Global,
     folder: &mut F,
     words: Result<Vec<String>, Fault>,
-    tables: &Handed<A, T>,
+    tables: &Tables<A, T>,
     writer: &mut W,
 ) -> Result<Report, Fault>
     ensures printed { Prints W.contents W.whole (parts_of result) writer.old writer.new }

@@ -13,11 +13,12 @@ pub record Configured (M F Z S A : Type 0) : Type 0 where
   pub kinds : List (List ℕ × A)
   pub source : Source
 
-module _ {M F Z S A : Type 0} where
-  -- of the tables that a program hands in
-  abbrev pub configured : handed.Tables A M F Z S → Source → Configured M F Z S A
-  configured tables source = record { functions = tables.transforms; kinds = tables.actions; source = source }
+-- of the tables that a program hands in
+abbrev pub configured : {N U M F Z S A : Type 0} → handed.Tables N U A M F Z S → Source
+    → Configured M F Z S A
+configured tables source = record { functions = tables.transforms; kinds = tables.actions; source = source }
 
+module _ {M F Z S A : Type 0} where
   abbrev pub tables_in : of_functions.Meanings M F Z S → of_actions.Meanings A → Configured M F Z S A
       → Tables M F Z S A
   tables_in means shapes w =

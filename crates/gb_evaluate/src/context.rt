@@ -2,7 +2,7 @@
 use gb_action::actions::Actions;
 use gb_provider::transforms::Transforms;
 use gb_registry::projects::ProjectSet;
-use gb_registry::tables::Handed;
+use gb_registry::tables::Tables;
 use gb_registry::texts::TextSet;
 use gb_report::fault::Fault;
 
@@ -10,7 +10,7 @@ use gb_report::fault::Fault;
 #[derive(Drop)]
 pub struct Context<'a, A: Actions, T: Transforms> {
     /// The actions and functions that scripts may name.
-    pub tables: &'a Handed<A, T>,
+    pub tables: &'a Tables<A, T>,
     /// The projects that there are.
     pub projects: &'a ProjectSet,
     /// The paths of registered tasks, in the order of registration.

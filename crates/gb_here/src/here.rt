@@ -11,7 +11,7 @@ use gb_disk::disk::DiskFolder;
 use gb_printer::page::Page;
 use gb_provider::table::TransformTable;
 use gb_provider::transforms::Transforms;
-use gb_registry::tables::{Handed, Tables};
+use gb_registry::tables::Tables;
 use std::alloc::AllocError;
 use std::fs::File;
 use std::io::{self, BufWriter};
@@ -52,7 +52,7 @@ pub fn build_here<A: Actions, T: Transforms, R: Files<File = File> + Env + Print
 /// Builds it with these tables, while no other build of it goes on.
 fn built<A: Actions, T: Transforms, R: Files<File = File> + Env + Print + AllocGlobal>(
     rt: &R,
-    tables: Handed<A, T>,
+    tables: Tables<A, T>,
 ) -> Result<u8, AllocError>
     ensures { IfOk result (λ status. status ≤ 2) }
 {
@@ -65,7 +65,7 @@ fn built<A: Actions, T: Transforms, R: Files<File = File> + Env + Print + AllocG
 /// Builds it with these tables.
 fn built_alone<A: Actions, T: Transforms, R: Files + Env + Print + AllocGlobal>(
     rt: &R,
-    tables: &Handed<A, T>,
+    tables: &Tables<A, T>,
 ) -> Result<u8, AllocError>
     ensures { IfOk result (λ status. status ≤ 2) }
 {

@@ -22,7 +22,7 @@ use gb_meaning::events::Event;
 use gb_printer::page::Page;
 use gb_printer::printer::Printer;
 use gb_provider::transforms::Transforms;
-use gb_registry::tables::Handed;
+use gb_registry::tables::Tables;
 use gb_report::fault::Fault;
 use gb_report::report::Report;
 use gb_words::words::read;
@@ -41,7 +41,7 @@ pub fn replay<A: Actions, T: Transforms, R: Read, W: Write>(
     alloc: Global,
     reader: &mut R,
     writer: &mut W,
-    tables: &Handed<A, T>,
+    tables: &Tables<A, T>,
 ) -> u8 {
     let mut page = Page::new(writer);
     match try_replay::<A, T, R, Page<&mut W>>(alloc, reader, &mut page, tables) {
@@ -55,7 +55,7 @@ fn try_replay<A: Actions, T: Transforms, R: Read, P: Printer>(
     alloc: Global,
     reader: &mut R,
     printer: &mut P,
-    tables: &Handed<A, T>,
+    tables: &Tables<A, T>,
 ) -> Result<(), Stop> {
     let input = read_input(alloc, reader)?;
     let taken = take_input::<A, T, P>(alloc, printer, tables, input.as_slice());
@@ -114,7 +114,7 @@ fn is_too_large(input: &[u8]) -> bool {
 fn take_input<A: Actions, T: Transforms, P: Printer>(
     alloc: Global,
     printer: &mut P,
-    tables: &Handed<A, T>,
+    tables: &Tables<A, T>,
     input: &[u8],
 ) -> Result<(), Stop> {
     if is_too_large(input) {
@@ -141,7 +141,7 @@ fn take_line<A: Actions, T: Transforms, F: Folder, P: Printer>(
     alloc: Global,
     folder: &mut F,
     printer: &mut P,
-    tables: &Handed<A, T>,
+    tables: &Tables<A, T>,
     line: &[u8],
     lines_before: u64,
 ) -> Result<(), Stop> {
@@ -177,7 +177,7 @@ fn build<A: Actions, T: Transforms, F: Folder, P: Printer>(
     alloc: Global,
     folder: &mut F,
     printer: &mut P,
-    tables: &Handed<A, T>,
+    tables: &Tables<A, T>,
     words: Vec<String>,
 ) {
     let answer = built::<A, T, F, P>(alloc, folder, printer, tables, words);
@@ -190,7 +190,7 @@ fn built<A: Actions, T: Transforms, F: Folder, P: Printer>(
     alloc: Global,
     folder: &mut F,
     printer: &mut P,
-    tables: &Handed<A, T>,
+    tables: &Tables<A, T>,
     words: Vec<String>,
 ) -> Result<Report, Fault>
     ensures { Prints P.contents P.whole (parts_of result) printer.old printer.new }
@@ -209,7 +209,7 @@ fn edit<A: Actions, T: Transforms, F: Folder, P: Printer>(
     alloc: Global,
     folder: &mut F,
     printer: &mut P,
-    tables: &Handed<A, T>,
+    tables: &Tables<A, T>,
     event: Event,
 ) -> Result<(), Stop> {
     let text = event_text::<A, T, F>(alloc, folder, tables, event)?;
@@ -223,7 +223,7 @@ fn edit<A: Actions, T: Transforms, F: Folder, P: Printer>(
 fn event_text<A: Actions, T: Transforms, F: Folder>(
     alloc: Global,
     folder: &mut F,
-    tables: &Handed<A, T>,
+    tables: &Tables<A, T>,
     event: Event,
 ) -> Result<Vec<u8>, Stop> {
     let mut listeners: Vec<Recorder> = Vec::new(alloc);

@@ -7,6 +7,6 @@ use Rattle.gb_registry.specs.Tables.{tables_of}
 use Rattle.gb_project.specs.Workspace.{Space}
 
 -- what the scripts of a workspace register
-abbrev pub registry_in : {M F Z S A : Type 0} → of_functions.Meanings M F Z S → of_actions.Meanings A
-    → Space A M F Z S → Registry
+abbrev pub registry_in : {N U M F Z S A : Type 0} → of_functions.Meanings M F Z S → of_actions.Meanings A
+    → Space N U A M F Z S → Registry
 registry_in means shapes space = registry_said (tables_of means shapes space.tables) space.source

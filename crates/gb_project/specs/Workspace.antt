@@ -8,8 +8,8 @@ use Rattle.gb_project.specs.Kept.{AreDeclared}
 use Rattle.gb_project.specs.Stage.{Stage}
 
 -- What is handed in with what scripts say.
-pub record Space (A M F Z S : Type 0) : Type 0 where
-  pub tables : handed.Tables A M F Z S
+pub record Space (N U A M F Z S : Type 0) : Type 0 where
+  pub tables : handed.Tables N U A M F Z S
   pub source : Source
 
 -- What a workspace keeps is what its scripts declare, and the names of tasks are those of the scripts.

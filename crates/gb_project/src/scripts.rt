@@ -30,7 +30,7 @@ use gb_provider::providers::Providers;
 use gb_provider::transforms::Transforms;
 use gb_registry::checking::Scripted;
 use gb_registry::names::Names;
-use gb_registry::tables::Handed;
+use gb_registry::tables::Tables;
 use gb_registry::texts::TextSet;
 use gb_report::fault::Fault;
 use gb_script::script::{Registration, Statement};
@@ -72,7 +72,7 @@ fn look_up<'a>(
 /// Declares the task that a registration registers, whose path is the next one.
 fn declare_registered<'a, A: Actions, T: Transforms>(
     alloc: Global,
-    tables: &Handed<A, T>,
+    tables: &Tables<A, T>,
     names: &Names<'_>,
     site: &Site<'_>,
     script: &Indexed<'a>,
@@ -115,7 +115,7 @@ fn declare_registered<'a, A: Actions, T: Transforms>(
 /// Declares the task that a statement registers, if it registers one.
 fn declare_statement<'a, A: Actions, T: Transforms>(
     alloc: Global,
-    tables: &Handed<A, T>,
+    tables: &Tables<A, T>,
     names: &Names<'_>,
     site: &Site<'_>,
     script: &Indexed<'a>,
@@ -155,7 +155,7 @@ fn declare_statement<'a, A: Actions, T: Transforms>(
 /// Declares the tasks that the statements of a script register.
 fn declare_each<'a, A: Actions, T: Transforms>(
     alloc: Global,
-    tables: &Handed<A, T>,
+    tables: &Tables<A, T>,
     names: &Names<'_>,
     site: &Site<'_>,
     script: &Indexed<'a>,
@@ -187,7 +187,7 @@ fn declare_each<'a, A: Actions, T: Transforms>(
 /// Declares all tasks of a script, whose paths are the next ones.
 pub(crate) fn declare_script<'a, A: Actions, T: Transforms>(
     alloc: Global,
-    tables: &Handed<A, T>,
+    tables: &Tables<A, T>,
     names: &Names<'_>,
     site: &Site<'_>,
     scripted: &'a Scripted,
@@ -213,7 +213,7 @@ pub(crate) fn declare_script<'a, A: Actions, T: Transforms>(
 /// Declares all tasks of scripts that are laid, one script after another.
 pub(crate) fn declare_scripts<'a, A: Actions, T: Transforms>(
     alloc: Global,
-    tables: &Handed<A, T>,
+    tables: &Tables<A, T>,
     names: &Names<'_>,
     given: &BTreeMap<Text, Text>,
     scripts: &'a [Scripted],

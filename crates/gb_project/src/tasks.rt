@@ -29,7 +29,7 @@ use gb_provider::expression::Node;
 use gb_provider::providers::Providers;
 use gb_provider::transforms::Transforms;
 use gb_registry::names::Names;
-use gb_registry::tables::Handed;
+use gb_registry::tables::Tables;
 use gb_registry::texts::TextSet;
 use gb_registry::wrong::Scope;
 use gb_report::fault::Fault;
@@ -122,7 +122,7 @@ fn add_fault(declared: &mut Declared<'_>, fault: Fault) -> Result<(), AllocError
 /// Declares a task, or keeps its first fault.
 pub(crate) fn declare_task<'a, A: Actions, T: Transforms>(
     alloc: Global,
-    tables: &Handed<A, T>,
+    tables: &Tables<A, T>,
     names: &Names<'_>,
     properties: &TextSet,
     site: &Site<'_>,

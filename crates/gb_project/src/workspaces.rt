@@ -36,7 +36,7 @@ use gb_registry::configured::Configured;
 use gb_registry::names::Names;
 use gb_registry::projects::ProjectSet;
 use gb_registry::registry::Registry;
-use gb_registry::tables::Handed;
+use gb_registry::tables::Tables;
 use gb_registry::texts::TextSet;
 use gb_report::fault::Fault;
 use std::alloc::{AllocError, Global};
@@ -47,7 +47,7 @@ use std::marker::Model;
 /// in with what scripts say.
 #[derive(Drop)]
 pub struct Workspace<'a, A: Actions, T: Transforms> {
-    tables: &'a Handed<A, T>,
+    tables: &'a Tables<A, T>,
     registry: &'a Registry,
     providers: Providers<'a, T>,
     declared: Declared<'a>,
@@ -58,7 +58,7 @@ impl<'a, A: Actions, T: Transforms> Model for Workspace<'a, A, T> {
     ghost use Rattle.gb_script.specs.Coding.{tree_code};
     ghost use Rattle.gb_project.specs.Workspace.{Space};
 
-    ghost Value = { Space A.Stored T.Map T.FlatMap T.Zip T.Test };
+    ghost Value = { Space A T A.Stored T.Map T.FlatMap T.Zip T.Test };
 
     ghost coded = { Prim.hlevel (codes, tree_code) };
 
@@ -124,7 +124,7 @@ fn evaluated_entry<A: Actions, T: Transforms>(
 /// What the task of a number comes to.
 fn realised_at<A: Actions, T: Transforms>(
     alloc: Global,
-    tables: &Handed<A, T>,
+    tables: &Tables<A, T>,
     registry: &Registry,
     providers: &mut Providers<'_, T>,
     declared: &Declared<'_>,
@@ -156,7 +156,7 @@ fn realised_at<A: Actions, T: Transforms>(
 /// What the task at a path comes to.
 fn realised<A: Actions, T: Transforms>(
     alloc: Global,
-    tables: &Handed<A, T>,
+    tables: &Tables<A, T>,
     registry: &Registry,
     providers: &mut Providers<'_, T>,
     declared: &Declared<'_>,

@@ -13,7 +13,7 @@ pub record Tables (M F Z S A : Type 0) : Type 0 where
   pub shapes : of_actions.Meanings A
 
 -- those that a program hands in
-abbrev pub tables_of : {M F Z S A : Type 0} → of_functions.Meanings M F Z S → of_actions.Meanings A
-    → handed.Tables A M F Z S → Tables M F Z S A
+abbrev pub tables_of : {N U M F Z S A : Type 0} → of_functions.Meanings M F Z S → of_actions.Meanings A
+    → handed.Tables N U A M F Z S → Tables M F Z S A
 tables_of means shapes tables =
     record { functions = tables.transforms; means = means; kinds = tables.actions; shapes = shapes }

@@ -12,7 +12,7 @@ use crate::missing::Missing;
 use crate::names::Names;
 use crate::project::Project;
 use crate::seen::Seen;
-use crate::tables::Handed;
+use crate::tables::Tables;
 use crate::walk::look_along;
 use crate::wrong::Scope;
 use gb_action::actions::Actions;
@@ -34,7 +34,7 @@ pub struct Scripted {
 /// The first fault of a statement, in the order of its text.
 fn check_statement<A: Actions, T: Transforms>(
     alloc: Global,
-    tables: &Handed<A, T>,
+    tables: &Tables<A, T>,
     project: &Project,
     seen: &mut Seen,
     statement: &Statement,
@@ -60,7 +60,7 @@ fn check_statement<A: Actions, T: Transforms>(
 
 fn check_assignment<A: Actions, T: Transforms>(
     alloc: Global,
-    tables: &Handed<A, T>,
+    tables: &Tables<A, T>,
     project: &Project,
     seen: &Seen,
     assignment: &Assignment,
@@ -75,7 +75,7 @@ fn check_assignment<A: Actions, T: Transforms>(
 
 fn check_value<'s, A: Actions, T: Transforms>(
     alloc: Global,
-    tables: &'s Handed<A, T>,
+    tables: &'s Tables<A, T>,
     project: &'s Project,
     seen: &'s Seen,
     value: &Expression,
@@ -96,7 +96,7 @@ fn check_value<'s, A: Actions, T: Transforms>(
 /// The first fault of a script, in the order of its statements.
 fn check_script<A: Actions, T: Transforms>(
     alloc: Global,
-    tables: &Handed<A, T>,
+    tables: &Tables<A, T>,
     seen: &mut Seen,
     scripted: &Scripted,
 ) -> Result<(), Fault>
@@ -115,7 +115,7 @@ fn check_script<A: Actions, T: Transforms>(
 /// The first fault of scripts, one after another.
 pub(crate) fn check_scripts<A: Actions, T: Transforms>(
     alloc: Global,
-    tables: &Handed<A, T>,
+    tables: &Tables<A, T>,
     seen: &mut Seen,
     scripts: &[Scripted],
 ) -> Result<(), Fault>

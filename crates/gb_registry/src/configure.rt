@@ -15,7 +15,7 @@ use crate::names::Names;
 use crate::project::Project;
 use crate::projects::{ProjectSet, projects_in};
 use crate::seen::Seen;
-use crate::tables::Handed;
+use crate::tables::Tables;
 use crate::tasks::Tasks;
 use gb_action::actions::Actions;
 use gb_core::path::ProjectPath;
@@ -67,7 +67,7 @@ fn copy_folder(folder: &Option<Place>) -> Result<Option<Place>, AllocError>
 /// that they register.
 pub fn checked<A: Actions, T: Transforms>(
     alloc: Global,
-    tables: &Handed<A, T>,
+    tables: &Tables<A, T>,
     projects: &ProjectSet,
     scripts: &[Scripted],
 ) -> Result<Tasks, Fault>
@@ -84,7 +84,7 @@ pub fn checked<A: Actions, T: Transforms>(
 
 fn checked_in_turn<A: Actions, T: Transforms>(
     alloc: Global,
-    tables: &Handed<A, T>,
+    tables: &Tables<A, T>,
     scripts: &[Scripted],
 ) -> Result<Tasks, Fault>
     requires { AreNew [] (scripts_in scripts.now) }

@@ -4,7 +4,7 @@ ghost use Rattle.gb_registry.specs.Configure.{configure_faults};
 ghost use Rattle.gb_registry.specs.Tables.{tables_of};
 
 use crate::registry::Registry;
-use crate::tables::Handed;
+use crate::tables::Tables;
 use gb_action::actions::Actions;
 use gb_provider::transforms::Transforms;
 
@@ -12,7 +12,7 @@ use gb_provider::transforms::Transforms;
 #[derive(Drop)]
 pub struct Configured<'a, A: Actions, T: Transforms> {
     /// The actions and functions that they may name.
-    pub tables: &'a Handed<A, T>,
+    pub tables: &'a Tables<A, T>,
     /// What they register.
     pub registry: Registry,
     // They have no fault by these tables.

@@ -23,7 +23,7 @@ use crate::configured::Configured;
 use crate::names::Names;
 use crate::paths::absolute;
 use crate::projects::{ProjectSet, projects_in};
-use crate::tables::Handed;
+use crate::tables::Tables;
 use crate::tasks::Tasks;
 use gb_action::actions::Actions;
 use gb_core::name::{Name, NameFault, is_name};
@@ -83,7 +83,7 @@ impl Registry {
         settings: &Settings,
         scripts: Vec<Script>,
         given: Vec<(Name, Text)>,
-        tables: &'a Handed<A, T>,
+        tables: &'a Tables<A, T>,
     ) -> Result<Configured<'a, A, T>, Fault>
         requires good { settings_faults settings.now ≡ [] }
         requires one_each { length scripts.items ≡ length (project_paths settings.now) }

@@ -6,7 +6,7 @@ ghost use Rattle.gb_registry.specs.Wrong.{count_faults, property_faults, task_fa
 
 use crate::names::{Names, check_name};
 use crate::project::Project;
-use crate::tables::Handed;
+use crate::tables::Tables;
 use crate::texts::TextSet;
 use crate::walk::Look;
 use gb_action::actions::Actions;
@@ -22,7 +22,7 @@ use std::alloc::Global;
 #[derive(Drop)]
 pub struct Scope<'a, A: Actions, T: Transforms> {
     /// The actions and functions that may be named.
-    pub tables: &'a Handed<A, T>,
+    pub tables: &'a Tables<A, T>,
     /// The project that its places lie in, and its tasks are named from.
     pub project: &'a Project,
     /// The properties that are declared above it.

@@ -6,7 +6,7 @@ use gb_action::actions::Actions;
 use gb_folder::memory::MemoryFolder;
 use gb_kinds::builtin::Builtin;
 use gb_provider::transforms::Transforms;
-use gb_registry::tables::Handed;
+use gb_registry::tables::Tables;
 use std::alloc::Global;
 use std::test::Fail;
 
@@ -80,7 +80,7 @@ const TWO_OF_ONE_NAME: [Step<'static>; 2] = [
 /// Fails where these steps behind those of the site tell something else.
 fn are_told<A: Actions, T: Transforms>(
     alloc: Global,
-    tables: &Handed<A, T>,
+    tables: &Tables<A, T>,
     steps: &[Step<'_>],
 ) -> Result<(), Fail> {
     let mut folder = written::<A, T>(alloc, tables)?;

@@ -5,7 +5,7 @@ use gb_action::actions::Actions;
 use gb_folder::memory::MemoryFolder;
 use gb_kinds::builtin::Builtin;
 use gb_provider::transforms::Transforms;
-use gb_registry::tables::Handed;
+use gb_registry::tables::Tables;
 use std::alloc::Global;
 use std::test::Fail;
 
@@ -58,7 +58,7 @@ const OTHERS: [Step<'static>; 6] = [
 /// Fails where something else is told or stands.
 fn are_renamed<A: Actions, T: Transforms>(
     alloc: Global,
-    tables: &Handed<A, T>,
+    tables: &Tables<A, T>,
 ) -> Result<(), Fail> {
     let mut folder = MemoryFolder::new(alloc);
     go_on::<A, T, MemoryFolder>(alloc, &mut folder, tables, &PAGES)?;

@@ -7,7 +7,7 @@ use gb_folder::memory::MemoryFolder;
 use gb_folder::noted::{Note, NotedFolder};
 use gb_kinds::builtin::Builtin;
 use gb_provider::transforms::Transforms;
-use gb_registry::tables::Handed;
+use gb_registry::tables::Tables;
 use std::alloc::{AllocError, Global};
 use std::test::Fail;
 
@@ -75,7 +75,7 @@ fn shown(alloc: Global, notes: &[Note]) -> Result<String, AllocError> {
 fn changes<A: Actions, T: Transforms>(
     alloc: Global,
     mut folder: MemoryFolder,
-    tables: &Handed<A, T>,
+    tables: &Tables<A, T>,
     edit: &[Step<'_>],
     build: &[Step<'_>],
     expected: &str,
@@ -91,7 +91,7 @@ fn changes<A: Actions, T: Transforms>(
 /// A site with three pages.
 fn built<A: Actions, T: Transforms>(
     alloc: Global,
-    tables: &Handed<A, T>,
+    tables: &Tables<A, T>,
 ) -> Result<MemoryFolder, Fail> {
     let mut folder = written::<A, T>(alloc, tables)?;
     go_on::<A, T, MemoryFolder>(alloc, &mut folder, tables, &BUILT)?;

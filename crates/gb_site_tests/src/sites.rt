@@ -5,7 +5,7 @@ use gb_action::actions::Actions;
 use gb_folder::memory::MemoryFolder;
 use gb_kinds::builtin::Builtin;
 use gb_provider::transforms::Transforms;
-use gb_registry::tables::Handed;
+use gb_registry::tables::Tables;
 use std::alloc::Global;
 use std::test::Fail;
 
@@ -80,7 +80,7 @@ MODIFIED index.html\nBUILD SUCCESSFUL\n4 actionable tasks: 4 executed\n",
 /// A folder in memory with the site.
 pub fn written<A: Actions, T: Transforms>(
     alloc: Global,
-    tables: &Handed<A, T>,
+    tables: &Tables<A, T>,
 ) -> Result<MemoryFolder, Fail> {
     let mut folder = MemoryFolder::new(alloc);
     go_on::<A, T, MemoryFolder>(alloc, &mut folder, tables, &PAGES)?;
@@ -91,7 +91,7 @@ pub fn written<A: Actions, T: Transforms>(
 fn is_first<A: Actions, T: Transforms>(
     alloc: Global,
     folder: &mut MemoryFolder,
-    tables: &Handed<A, T>,
+    tables: &Tables<A, T>,
 ) -> Result<(), Fail> {
     go_on::<A, T, MemoryFolder>(alloc, folder, tables, &BUILDS)?;
     stands(
@@ -112,7 +112,7 @@ fn is_first<A: Actions, T: Transforms>(
 fn follows<A: Actions, T: Transforms>(
     alloc: Global,
     folder: &mut MemoryFolder,
-    tables: &Handed<A, T>,
+    tables: &Tables<A, T>,
 ) -> Result<(), Fail> {
     go_on::<A, T, MemoryFolder>(alloc, folder, tables, &EDIT)?;
     stands(

@@ -8,7 +8,7 @@ use gb_folder::folder::Folder;
 use gb_folder::memory::MemoryFolder;
 use gb_printer::printer::Silent;
 use gb_provider::transforms::Transforms;
-use gb_registry::tables::Handed;
+use gb_registry::tables::Tables;
 use gb_report::fault::Fault;
 use gb_report::report::Report;
 use gb_words::words::read;
@@ -27,7 +27,7 @@ pub enum Step<'a> {
 pub fn go_on<A: Actions, T: Transforms, F: Folder>(
     alloc: Global,
     folder: &mut F,
-    tables: &Handed<A, T>,
+    tables: &Tables<A, T>,
     steps: &[Step<'_>],
 ) -> Result<(), Fail> {
     for step in steps {
@@ -39,7 +39,7 @@ pub fn go_on<A: Actions, T: Transforms, F: Folder>(
 fn take<A: Actions, T: Transforms, F: Folder>(
     alloc: Global,
     folder: &mut F,
-    tables: &Handed<A, T>,
+    tables: &Tables<A, T>,
     step: &Step<'_>,
 ) -> Result<(), Fail> {
     match step {
@@ -61,7 +61,7 @@ fn take<A: Actions, T: Transforms, F: Folder>(
 fn build<A: Actions, T: Transforms, F: Folder>(
     alloc: Global,
     folder: &mut F,
-    tables: &Handed<A, T>,
+    tables: &Tables<A, T>,
     words: &str,
     executed: u64,
     text: &str,
@@ -76,7 +76,7 @@ fn build<A: Actions, T: Transforms, F: Folder>(
 fn told_beside<A: Actions, T: Transforms, F: Folder>(
     alloc: Global,
     folder: &mut F,
-    tables: &Handed<A, T>,
+    tables: &Tables<A, T>,
     words: &str,
     listeners: &mut Vec<Counting>,
 ) -> Result<String, Fail> {

@@ -6,7 +6,7 @@ use gb_folder::memory::MemoryFolder;
 use gb_kinds::builtin::Builtin;
 use gb_kinds::function_table::FunctionTable;
 use gb_pages::kinds::Markdown;
-use gb_registry::tables::{Handed, Tables};
+use gb_registry::tables::Tables;
 use gb_with::beside::only;
 use gb_with::by_file::ByFile;
 use std::alloc::Global;
@@ -16,7 +16,7 @@ use std::test::Fail;
 type Kind = ByFile<Markdown>;
 
 /// A table with the kind in this version, and no function of values.
-fn offered(alloc: Global, version: u32) -> Result<Handed<Kind, Builtin>, Fail>
+fn offered(alloc: Global, version: u32) -> Result<Tables<Kind, Builtin>, Fail>
     requires { 1 ≤ version }
 {
     Ok(Tables {

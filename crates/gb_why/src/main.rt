@@ -9,7 +9,7 @@ use gb_disk::disk::DiskFolder;
 use gb_here::words::command_words;
 use gb_kinds::builtin::{Builtin, StoredAction};
 use gb_printer::page::Page;
-use gb_registry::tables::{Handed, Tables};
+use gb_registry::tables::Tables;
 use gb_why_command::run::run;
 use std::alloc::AllocError;
 use std::io::{self, BufWriter};
@@ -37,7 +37,7 @@ fn told_with(rt: &HostRuntime, actions: ActionTable<StoredAction>) -> Result<u8,
 }
 
 /// Tells it with these tables. The status is 1 also where memory runs out, or nothing can be printed.
-fn told_by(rt: &HostRuntime, tables: &Handed<Builtin, Builtin>) -> Result<u8, AllocError> {
+fn told_by(rt: &HostRuntime, tables: &Tables<Builtin, Builtin>) -> Result<u8, AllocError> {
     let alloc = rt.alloc();
     let mut folder = DiskFolder::new(rt, String::new(alloc));
     let Ok(writer) = BufWriter::new(alloc, io::writer(rt)) else {

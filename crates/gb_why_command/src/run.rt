@@ -15,7 +15,7 @@ use gb_folder::folder::Folder;
 use gb_meaning::events::Invocation;
 use gb_printer::printer::Printer;
 use gb_provider::transforms::Transforms;
-use gb_registry::tables::Handed;
+use gb_registry::tables::Tables;
 use gb_report::fault::Fault;
 use std::alloc::Global;
 
@@ -29,7 +29,7 @@ pub fn run<A: Actions, T: Transforms, F: Folder, W: Printer>(
     folder: &mut F,
     words: Result<Vec<String>, Fault>,
     writer: &mut W,
-    tables: &Handed<A, T>,
+    tables: &Tables<A, T>,
 ) -> Option<u8>
     // Over any folder no change is asked for.
     ensures asks { Asks F.failures F.may_leave F.asked no_change folder.old folder.new }
@@ -62,7 +62,7 @@ fn answered<A: Actions, T: Transforms, F: Folder>(
     alloc: Global,
     folder: &mut F,
     words: Result<Vec<String>, Fault>,
-    tables: &Handed<A, T>,
+    tables: &Tables<A, T>,
 ) -> Answer
     ensures asks { Asks F.failures F.may_leave F.asked no_change folder.old folder.new }
     ensures same { IsTrue F.tells → F.contents folder.new ≡ F.contents folder.old }

@@ -27,7 +27,7 @@ use gb_project::script_tasks::ScriptTasks;
 use gb_provider::transforms::Transforms;
 use gb_records::reading::read_records;
 use gb_registry::configured::Configured;
-use gb_registry::tables::Handed;
+use gb_registry::tables::Tables;
 use gb_report::report::Options;
 use std::alloc::{AllocError, Global};
 
@@ -36,7 +36,7 @@ use std::alloc::{AllocError, Global};
 pub(crate) fn tell<A: Actions, T: Transforms, F: Folder>(
     alloc: Global,
     folder: &mut F,
-    tables: &Handed<A, T>,
+    tables: &Tables<A, T>,
     asked: &Invocation,
 ) -> Answer
     ensures asks { Asks F.failures F.may_leave F.asked no_change folder.old folder.new }

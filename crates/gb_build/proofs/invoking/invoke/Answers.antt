@@ -67,11 +67,11 @@ returns-clause-leads g c = λ tells kinds granted.
     c.build_registered.result new c.build_registered.ensures.count
     (subst (λ (contents : Contents). Leads (setting_by kinds (always (registry_said tables source)) second) (shows contents later) (events.Invoke c.args.invocation.now) (answer_of c.build_registered.result) new)
     (c.read_registry.ensures.same tells)
-    (subst (λ (given : handed.Tables _ _ _ _ _). Leads (setting_by kinds (always (registry_said (tables_of g.T.Transforms.meanings g.A.Actions.meanings given) source)) second)
+    (subst (λ (given : handed.Tables _ _ _ _ _ _ _). Leads (setting_by kinds (always (registry_said (tables_of g.T.Transforms.meanings g.A.Actions.meanings given) source)) second)
     (shows (F.contents c.read_registry.new.folder) later) (events.Invoke c.args.invocation.now) (answer_of c.build_registered.result) new)
     same
     (c.build_registered.ensures.leads tells kinds
-    (subst (λ (given : handed.Tables _ _ _ _ _). IsGranted g.A.Actions.meanings given.actions kinds second) (sym same)
+    (subst (λ (given : handed.Tables _ _ _ _ _ _ _). IsGranted g.A.Actions.meanings given.actions kinds second) (sym same)
     (granted_later first second c.read_registry.ensures.asks.tearing granted)))))
 
 pub returns-in_err-copied-clause-holds : goal.returns-in_err-copied-clause-holds
@@ -107,7 +107,7 @@ returns-clause-keeps g c = λ tells.
     invoked_keeps (registers_in tables) c.args.invocation.now c.build_registered.result before (F.contents c.build_registered.new.folder) (registry_said tables source)
     (registered tables before c.into_vec-given.result.items c.args.invocation.now.properties (c.into_vec-given.ensures ∙ c.in_ok-copied.ensures) source (c.in_ok-configured.ensures.said tells))
     (subst (λ (contents : Contents). KeepsElsewhere (registry_said tables source) contents (F.contents c.build_registered.new.folder)) (c.read_registry.ensures.same tells)
-    (subst (λ (given : handed.Tables _ _ _ _ _). KeepsElsewhere (registry_said (tables_of g.T.Transforms.meanings g.A.Actions.meanings given) source)
+    (subst (λ (given : handed.Tables _ _ _ _ _ _ _). KeepsElsewhere (registry_said (tables_of g.T.Transforms.meanings g.A.Actions.meanings given) source)
     (F.contents c.read_registry.new.folder) (F.contents c.build_registered.new.folder))
     c.in_ok-configured.ensures.tables (c.build_registered.ensures.keeps tells)))
     (subst (λ (contents : Contents). OnErr c.build_registered.result (F.contents c.build_registered.new.folder ≡ contents)) (c.read_registry.ensures.same tells)
@@ -204,7 +204,7 @@ returns-clause-not_built g c = λ tells.
     (registered tables old.contents c.into_vec-given.result.items c.args.invocation.now.properties (c.into_vec-given.ensures ∙ c.in_ok-copied.ensures) source (c.in_ok-configured.ensures.said tells))
     (begun_before (registry_said tables source) c.args.invocation.now old.failures later after c.read_registry.ensures.asks.count c.build_registered.ensures.count fault why))
     c.build_registered.result
-    (subst (λ (given : handed.Tables _ _ _ _ _). IfErr c.build_registered.result
+    (subst (λ (given : handed.Tables _ _ _ _ _ _ _). IfErr c.build_registered.result
     (IsNotBegun (registry_said (tables_of g.T.Transforms.meanings g.A.Actions.meanings given) source) c.args.invocation.now later after))
     c.in_ok-configured.ensures.tables c.build_registered.ensures.not_begun)
 
@@ -254,6 +254,6 @@ pub returns-clause-asks : goal.returns-clause-asks
 returns-clause-asks g c =
     scripts_before g.F.Folder.failures g.F.Folder.may_leave g.F.Folder.asked g.A.Actions.meanings c.args.tables.now.actions c.args.invocation.now c.build_registered.result c.args.folder.now c.read_registry.new.folder c.build_registered.new.folder
     c.read_registry.ensures.asks
-    (subst (λ (given : handed.Tables _ _ _ _ _). InvocationAsks g.F.Folder.failures g.F.Folder.may_leave g.F.Folder.asked g.A.Actions.meanings given.actions c.args.invocation.now
+    (subst (λ (given : handed.Tables _ _ _ _ _ _ _). InvocationAsks g.F.Folder.failures g.F.Folder.may_leave g.F.Folder.asked g.A.Actions.meanings given.actions c.args.invocation.now
     c.build_registered.result c.read_registry.new.folder c.build_registered.new.folder)
     c.in_ok-configured.ensures.tables c.build_registered.ensures.asks)

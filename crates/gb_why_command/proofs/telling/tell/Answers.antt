@@ -44,13 +44,13 @@ returns-clause-answer g c =
     let after = F.failures c.tell_registered.new.folder in
     let result : Answer = c.tell_registered.result in
     let same = c.in_ok-configured.ensures.tables in
-    let registry_by : handed.Tables _ _ _ _ _ → Registry = λ given. registry_said (tables_of g.T.Transforms.meanings M given) source in
+    let registry_by : handed.Tables _ _ _ _ _ _ _ → Registry = λ given. registry_said (tables_of g.T.Transforms.meanings M given) source in
     let tables = tables_of g.T.Transforms.meanings M c.args.tables.now in
     answers_it tables F.tells asked old mid (F.failures c.args.folder.now) later after
     c.read_registry.ensures.same c.read_registry.ensures.asks.count c.tell_registered.ensures.asks.count (registry_said tables source)
     (λ tells. registered tables old c.into_vec-given.result.items asked.properties (c.into_vec-given.ensures ∙ c.in_ok-copied.ensures) source (c.in_ok-configured.ensures.said tells))
     result
     (subst (λ given. IfOk result (λ told. IsRegistry (registry_by given))) same c.tell_registered.ensures.sound)
-    (subst (λ (given : handed.Tables _ _ _ _ _). IfOk result (λ told. AreToldOf F.tells M given.actions (registry_by given) asked.requested asked.excluded asked.options (shows mid later) after told.items))
+    (subst (λ (given : handed.Tables _ _ _ _ _ _ _). IfOk result (λ told. AreToldOf F.tells M given.actions (registry_by given) asked.requested asked.excluded asked.options (shows mid later) after told.items))
     same c.tell_registered.ensures.told)
     (subst (λ given. IfErr result (IsNotTold (registry_by given) asked.requested asked.excluded later after)) same c.tell_registered.ensures.not_told)

@@ -21,10 +21,10 @@ invariant_of-result g c =
     read_named source (scripts_in c.scripts.result.now) c.scripts.ensures.read
     (sym (ap (list_all is_named) c.scripts.ensures.said) ∙ c.read_names.ensures) in
     record {
-      source = ap (λ (s : Space _ _ _ _ _). s.source) space;
-      tasks = subst (λ (s : Space _ _ _ _ _). s.source.names.tasks ≡ paths_of s.source.said) (sym space) named.tasks;
-      words = c.in_ok-default_tasks.ensures ∙ sym (ap (λ (s : Space _ _ _ _ _). default_tasks s.source.said) space);
+      source = ap (λ (s : Space _ _ _ _ _ _ _). s.source) space;
+      tasks = subst (λ (s : Space _ _ _ _ _ _ _). s.source.names.tasks ≡ paths_of s.source.said) (sym space) named.tasks;
+      words = c.in_ok-default_tasks.ensures ∙ sym (ap (λ (s : Space _ _ _ _ _ _ _). default_tasks s.source.said) space);
       ordered =
-          subst (λ (s : Space _ _ _ _ _). IsRegistry (registry_said (tables s.tables) s.source)) (sym space)
+          subst (λ (s : Space _ _ _ _ _ _ _). IsRegistry (registry_said (tables s.tables) s.source)) (sym space)
           (registry_is_sound (tables c.args.configured.now.tables.now) source named c.args.configured.now.good);
     }
