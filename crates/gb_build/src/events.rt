@@ -80,7 +80,7 @@ pub fn run_events<A: Actions, T: Transforms, F: Folder, L: TaskListener>(
 {
     let mut answers = Vec::with_capacity(alloc, events.len())?;
     for event in events.iter() {
-        answers.push(take::<A, T, F, L>(alloc, folder, tables, event, listeners))?;
+        answers.push(take(alloc, folder, tables, event, listeners))?;
     }
     Ok(answers)
 }
@@ -115,7 +115,7 @@ fn take<A: Actions, T: Transforms, F: Folder, L: TaskListener>(
         Event::Put(place, bytes) => edited(put(folder, place, bytes)),
         Event::Remove(place) => edited(remove(folder, place)),
         Event::Lost => edited(lose(alloc, folder)),
-        Event::Invoke(invocation) => built(invoke::<A, T, F, L, Silent>(
+        Event::Invoke(invocation) => built(invoke(
             alloc,
             folder,
             tables,

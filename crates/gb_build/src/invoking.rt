@@ -112,8 +112,8 @@ pub fn invoke<A: Actions, T: Transforms, F: Folder, L: TaskListener, P: Printer>
 {
     let copied = invocation.properties.copy(alloc)?;
     let given = copied.into_vec();
-    let configured = read_registry::<A, T, F>(alloc, folder, tables, given)?;
-    build_registered::<A, T, F, L, P>(alloc, folder, &configured, invocation, listeners, printer)
+    let configured = read_registry(alloc, folder, tables, given)?;
+    build_registered(alloc, folder, &configured, invocation, listeners, printer)
 }
 
 /// Builds what is asked of the tasks of these scripts.

@@ -38,12 +38,6 @@ pub fn run_from_nothing<A: Actions, T: Transforms, L: TaskListener>(
 {
     some_kinds_agree::<A>();
     let mut folder = MemoryFolder::new(alloc);
-    let answers = run_events::<A, T, MemoryFolder, L>(
-        alloc,
-        &mut folder,
-        tables,
-        events,
-        listeners,
-    )?;
+    let answers = run_events(alloc, &mut folder, tables, events, listeners)?;
     Ok((folder, answers))
 }

@@ -52,7 +52,7 @@ pub fn read_registry<'a, A: Actions, T: Transforms, F: Folder>(
     let settings = read_settings_of(alloc, folder)?;
     let projects = projects(alloc, &settings)?;
     let scripts = read_scripts(alloc, folder, projects.as_slice())?;
-    Registry::configure::<A, T>(alloc, &settings, scripts, given, tables)
+    Registry::configure(alloc, &settings, scripts, given, tables)
 }
 
 /// The settings of a folder.

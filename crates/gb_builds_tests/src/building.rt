@@ -92,13 +92,7 @@ pub fn go_on<A: Actions, T: Transforms, F: Folder>(
 ) -> Result<(), Fail> {
     let events = events(alloc, steps)?;
     let mut listeners: Vec<Recorder> = Vec::new(alloc);
-    let answers = run_events::<A, T, F, Recorder>(
-        alloc,
-        folder,
-        tables,
-        events.as_slice(),
-        &mut listeners,
-    )?;
+    let answers = run_events(alloc, folder, tables, events.as_slice(), &mut listeners)?;
     are_told(alloc, steps, answers.as_slice())
 }
 
@@ -111,7 +105,7 @@ pub fn told_beside<A: Actions, T: Transforms, F: Folder, L: TaskListener>(
     listeners: &mut Vec<L>,
 ) -> Result<String, Fail> {
     let events = vec![in alloc; event(alloc, words, "")?]?;
-    let answers = run_events::<A, T, F, L>(alloc, folder, tables, events.as_slice(), listeners)?;
+    let answers = run_events(alloc, folder, tables, events.as_slice(), listeners)?;
     told_alone(alloc, answers.as_slice())
 }
 
@@ -131,7 +125,7 @@ pub fn told_of<A: Actions, T: Transforms, F: Folder>(
     words: &str,
 ) -> Result<String, Fail> {
     let mut listeners: Vec<Recorder> = Vec::new(alloc);
-    told_beside::<A, T, F, Recorder>(alloc, folder, tables, words, &mut listeners)
+    told_beside(alloc, folder, tables, words, &mut listeners)
 }
 
 /// Fails where something else is told of these words while none listens.
@@ -142,7 +136,7 @@ pub fn is_told_of<A: Actions, T: Transforms, F: Folder>(
     words: &str,
     expected: &str,
 ) -> Result<(), Fail> {
-    let text = told_of::<A, T, F>(alloc, folder, tables, words)?;
+    let text = told_of(alloc, folder, tables, words)?;
     is_told(expected, text.as_str())
 }
 

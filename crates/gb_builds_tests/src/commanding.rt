@@ -34,7 +34,7 @@ fn answers<A: Actions, T: Transforms, F: Folder>(
     lines: &str,
 ) -> Result<String, Fail> {
     let mut out = Vec::new(alloc);
-    take_all::<A, T, F>(alloc, folder, tables, lines, &mut out)?;
+    take_all(alloc, folder, tables, lines, &mut out)?;
     Ok(String::from_utf8(out)?)
 }
 
@@ -46,7 +46,7 @@ fn take_all<A: Actions, T: Transforms, F: Folder>(
     out: &mut Vec<u8>,
 ) -> Result<(), Fail> {
     for line in lines.split('\n') {
-        take::<A, T, F>(alloc, folder, tables, line, out)?;
+        take(alloc, folder, tables, line, out)?;
     }
     Ok(())
 }
@@ -63,10 +63,10 @@ fn take<A: Actions, T: Transforms, F: Folder>(
         "put" => put(alloc, folder, rest),
         "read" => read(alloc, folder, rest, out),
         "run" => {
-            build::<A, T, F>(alloc, folder, tables, rest, out)?;
+            build(alloc, folder, tables, rest, out)?;
             Ok(())
         }
-        _ => status::<A, T, F>(alloc, folder, tables, rest, out),
+        _ => status(alloc, folder, tables, rest, out),
     }
 }
 
@@ -103,13 +103,7 @@ fn build<A: Actions, T: Transforms, F: Folder>(
     out: &mut Vec<u8>,
 ) -> Result<u8, Fail> {
     let given = words_of(alloc, words)?;
-    match run::<A, T, F, Page<&mut Vec<u8>>>(
-        alloc,
-        folder,
-        Ok(given),
-        &mut Page::new(out),
-        tables,
-    ) {
+    match run(alloc, folder, Ok(given), &mut Page::new(out), tables) {
         Some(status) => Ok(status),
         None => Err(Fail::new("not printed")),
     }
@@ -122,7 +116,7 @@ fn status<A: Actions, T: Transforms, F: Folder>(
     words: &str,
     out: &mut Vec<u8>,
 ) -> Result<(), Fail> {
-    let status = build::<A, T, F>(alloc, folder, tables, words, &mut Vec::new(alloc))?;
+    let status = build(alloc, folder, tables, words, &mut Vec::new(alloc))?;
     Ok(out.extend_from_slice(format!(in alloc; "{status}")?.as_bytes())?)
 }
 
@@ -135,7 +129,7 @@ fn on_disk<A: Actions, T: Transforms>(
 ) -> Result<String, Fail> {
     let mut folder = DiskFolder::new(rt, String::from_str(rt.alloc(), name)?);
     put(rt.alloc(), &mut folder, GEN)?;
-    answers::<A, T, DiskFolder<&HostRuntime>>(rt.alloc(), &mut folder, tables, lines)
+    answers(rt.alloc(), &mut folder, tables, lines)
 }
 
 /// Fails where something else was answered than a row has.
@@ -156,7 +150,7 @@ fn hold_on_disk<A: Actions, T: Transforms>(
 ) -> Result<(), Fail> {
     for row in rows {
         fs::create_dir(rt, name)?;
-        is_answered(row, on_disk::<A, T>(rt, name, tables, row.0)?.as_str())?;
+        is_answered(row, on_disk(rt, name, tables, row.0)?.as_str())?;
         fs::remove_dir_all(rt, name)?;
     }
     Ok(())
@@ -215,7 +209,7 @@ fn unprinted<A: Actions, T: Transforms>(alloc: Global, tables: &Tables<A, T>) ->
     let mut folder = MemoryFolder::new(alloc);
     let words = Ok(Vec::new(alloc));
     let mut page = Page::new(FailingWriter);
-    match run::<A, T, _, _>(alloc, &mut folder, words, &mut page, tables) {
+    match run(alloc, &mut folder, words, &mut page, tables) {
         None => Ok(()),
         Some(status) => Err(Fail::new(status)),
     }

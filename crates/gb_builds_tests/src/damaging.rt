@@ -61,7 +61,7 @@ fn is_damaged<A: Actions, T: Transforms>(
     at: usize,
 ) -> Result<(), Fail> {
     let mut folder = MemoryFolder::new(alloc);
-    go_on::<A, T, MemoryFolder>(alloc, &mut folder, tables, &OF_TWO)?;
+    go_on(alloc, &mut folder, tables, &OF_TWO)?;
     let mut text = bytes_at(alloc, &mut folder, ".gb/tasks/a.record")?;
     match text.get_mut(at) {
         Some(byte) => *byte = byte.wrapping_add(1),
@@ -72,7 +72,7 @@ fn is_damaged<A: Actions, T: Transforms>(
         &Place::read(alloc, ".gb/tasks/a.record")?,
         text.as_slice(),
     )?;
-    is_told_of::<A, T, MemoryFolder>(alloc, &mut folder, tables, "run a b", FIRST_ALONE)
+    is_told_of(alloc, &mut folder, tables, "run a b", FIRST_ALONE)
 }
 
 #[test]

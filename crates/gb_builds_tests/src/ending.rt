@@ -41,7 +41,7 @@ fn replayed<A: Actions, T: Transforms>(
 ) -> Result<(String, u8), Fail> {
     let mut writer = Vec::new(alloc);
     let mut reader = input.as_bytes();
-    let status = replay::<A, T, _, _>(alloc, &mut reader, &mut writer, tables);
+    let status = replay(alloc, &mut reader, &mut writer, tables);
     Ok((String::from_utf8(writer)?, status))
 }
 
@@ -136,18 +136,18 @@ impl Write for FailingWriter {
 fn unread<A: Actions, T: Transforms>(alloc: Global, tables: &Tables<A, T>) -> u8 {
     let mut output = Vec::new(alloc);
     let mut reader = FailingReader { is_begun: false };
-    let status = replay::<A, T, _, _>(alloc, &mut reader, &mut output, tables);
+    let status = replay(alloc, &mut reader, &mut output, tables);
     if output.is_empty() { status } else { 0 }
 }
 
 /// The status of a replay whose answers cannot be written.
 fn unwritten<A: Actions, T: Transforms>(alloc: Global, tables: &Tables<A, T>) -> u8 {
     let mut input = b"show a\njump".as_slice();
-    replay::<A, T, _, _>(alloc, &mut input, &mut FailingWriter, tables)
+    replay(alloc, &mut input, &mut FailingWriter, tables)
 }
 
 fn end_with_1<A: Actions, T: Transforms>(alloc: Global, tables: &Tables<A, T>) -> Result<(), Fail> {
-    if unread::<A, T>(alloc, tables) == 1 && unwritten::<A, T>(alloc, tables) == 1 {
+    if unread(alloc, tables) == 1 && unwritten(alloc, tables) == 1 {
         Ok(())
     } else {
         Err(Fail::new("another status"))

@@ -36,12 +36,7 @@ fn runs_from_nothing<A: Actions, T: Transforms>(
 ) -> Result<(), Fail> {
     let events = events(alloc, &STEPS)?;
     let mut listeners: Vec<Recorder> = Vec::new(alloc);
-    let (mut folder, answers) = run_from_nothing::<A, T, Recorder>(
-        alloc,
-        tables,
-        events.as_slice(),
-        &mut listeners,
-    )?;
+    let (mut folder, answers) = run_from_nothing(alloc, tables, events.as_slice(), &mut listeners)?;
     are_told(alloc, &STEPS, answers.as_slice())?;
     are_held(alloc, &mut folder, "build", "build/x=A")
 }

@@ -35,7 +35,7 @@ fn scripted<A: Actions, T: Transforms>(
     tables: &Tables<A, T>,
 ) -> Result<MemoryFolder, Fail> {
     let mut folder = MemoryFolder::new(alloc);
-    go_on::<A, T, MemoryFolder>(alloc, &mut folder, tables, &SCRIPTED)?;
+    go_on(alloc, &mut folder, tables, &SCRIPTED)?;
     Ok(folder)
 }
 
@@ -46,7 +46,7 @@ fn told_and_heard<A: Actions, T: Transforms, F: Folder>(
     tables: &Tables<A, T>,
 ) -> Result<(String, bool), Fail> {
     let mut listeners = vec![in alloc; Recorder::new(alloc)]?;
-    let text = told_beside::<A, T, F, Recorder>(alloc, folder, tables, "run a b", &mut listeners)?;
+    let text = told_beside(alloc, folder, tables, "run a b", &mut listeners)?;
     let heard = heard_by_last(alloc, listeners.as_slice())?;
     Ok((text, heard.contains("executed :a\n")))
 }
@@ -58,7 +58,7 @@ fn is_kept<A: Actions, T: Transforms>(
     tables: &Tables<A, T>,
     is_heard: bool,
 ) -> Result<(), Fail> {
-    let again = told_of::<A, T, MemoryFolder>(alloc, folder, tables, "run a b")?;
+    let again = told_of(alloc, folder, tables, "run a b")?;
     if !is_heard || again.starts_with("> Task :a UP-TO-DATE\n") {
         Ok(())
     } else {
@@ -73,9 +73,9 @@ fn stopped<A: Actions, T: Transforms>(
     tables: &Tables<A, T>,
     at: u64,
 ) -> Result<(String, bool), Fail> {
-    let mut faulty = FaultyFolder::new(scripted::<A, T>(alloc, tables)?, at, FaultMode::Stop);
-    let told = told_and_heard::<A, T, FaultyFolder<MemoryFolder>>(alloc, &mut faulty, tables)?;
-    is_kept::<A, T>(alloc, &mut faulty.into_inner(), tables, told.1)?;
+    let mut faulty = FaultyFolder::new(scripted(alloc, tables)?, at, FaultMode::Stop);
+    let told = told_and_heard(alloc, &mut faulty, tables)?;
+    is_kept(alloc, &mut faulty.into_inner(), tables, told.1)?;
     Ok(told)
 }
 
@@ -90,7 +90,7 @@ fn heard_by_last<L: TaskListener>(alloc: Global, listeners: &[L]) -> Result<Stri
 fn all_stops<A: Actions, T: Transforms>(alloc: Global, tables: &Tables<A, T>) -> Result<u64, Fail> {
     let mut behind = 0u64;
     for at in 1..200u64 {
-        let (text, is_heard) = stopped::<A, T>(alloc, tables, at)?;
+        let (text, is_heard) = stopped(alloc, tables, at)?;
         if text.as_str() == EXECUTED {
             return Ok(behind);
         }
@@ -119,10 +119,10 @@ fn refused<A: Actions, T: Transforms>(
     at: u64,
     expected: &str,
 ) -> Result<(), Fail> {
-    let mut folder = scripted::<A, T>(alloc, tables)?;
-    is_heard::<A, T>(alloc, &mut folder, tables, at, expected)?;
+    let mut folder = scripted(alloc, tables)?;
+    is_heard(alloc, &mut folder, tables, at, expected)?;
     are_held(alloc, &mut folder, "build", "build/x=A build/y=B")?;
-    is_told_of::<A, T, MemoryFolder>(alloc, &mut folder, tables, "run a b", UP_TO_DATE)
+    is_told_of(alloc, &mut folder, tables, "run a b", UP_TO_DATE)
 }
 
 /// Fails where a build beside a listener that refuses a call prints something else, or another one behind it
@@ -135,7 +135,7 @@ fn is_heard<A: Actions, T: Transforms>(
     expected: &str,
 ) -> Result<(), Fail> {
     let mut listeners = vec![in alloc; Refusing::new(alloc, at), Refusing::new(alloc, 0)]?;
-    builds_alike::<A, T, Refusing>(alloc, folder, tables, &mut listeners, expected)?;
+    builds_alike(alloc, folder, tables, &mut listeners, expected)?;
     is_told(HEARD, heard_by_last(alloc, listeners.as_slice())?.as_str())
 }
 
@@ -147,7 +147,7 @@ fn builds_alike<A: Actions, T: Transforms, L: TaskListener>(
     listeners: &mut Vec<L>,
     expected: &str,
 ) -> Result<(), Fail> {
-    let text = told_beside::<A, T, MemoryFolder, L>(alloc, folder, tables, "run a b", listeners)?;
+    let text = told_beside(alloc, folder, tables, "run a b", listeners)?;
     is_told(expected, text.as_str())
 }
 
@@ -157,9 +157,9 @@ fn all_refusals<A: Actions, T: Transforms>(
     tables: &Tables<A, T>,
 ) -> Result<(), Fail> {
     for at in 1..5u64 {
-        refused::<A, T>(alloc, tables, at, REFUSED)?;
+        refused(alloc, tables, at, REFUSED)?;
     }
-    refused::<A, T>(alloc, tables, 5, EXECUTED)
+    refused(alloc, tables, 5, EXECUTED)
 }
 
 #[test]
@@ -223,18 +223,12 @@ fn one_is_missed<A: Actions, T: Transforms>(
     at: u64,
 ) -> Result<(), Fail> {
     let mut folder = MemoryFolder::new(alloc);
-    go_on::<A, T, MemoryFolder>(alloc, &mut folder, tables, &FINALIZED)?;
+    go_on(alloc, &mut folder, tables, &FINALIZED)?;
     let mut listeners = Vec::<Box<dyn TaskListener>>::new(alloc);
     listeners.push(Box::new(alloc, Recorder::new(alloc))?)?;
     listeners.push(Box::new(alloc, Refusing::new(alloc, at))?)?;
     listeners.push(Box::new(alloc, Recorder::new(alloc))?)?;
-    let text = told_beside::<A, T, MemoryFolder, Box<dyn TaskListener>>(
-        alloc,
-        &mut folder,
-        tables,
-        "run bad",
-        &mut listeners,
-    )?;
+    let text = told_beside(alloc, &mut folder, tables, "run bad", &mut listeners)?;
     is_told(FAILED_AND_REFUSED, text.as_str())?;
     is_told(
         heard_between(alloc, at as usize)?.as_str(),
@@ -248,7 +242,7 @@ fn each_is_missed<A: Actions, T: Transforms>(
     tables: &Tables<A, T>,
 ) -> Result<(), Fail> {
     for at in 1..5u64 {
-        one_is_missed::<A, T>(alloc, tables, at)?;
+        one_is_missed(alloc, tables, at)?;
     }
     Ok(())
 }

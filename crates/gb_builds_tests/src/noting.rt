@@ -39,7 +39,7 @@ fn stepped<A: Actions, T: Transforms>(
     tables: &Tables<A, T>,
 ) -> Result<MemoryFolder, Fail> {
     let mut folder = MemoryFolder::new(alloc);
-    go_on::<A, T, MemoryFolder>(alloc, &mut folder, tables, &STEPS)?;
+    go_on(alloc, &mut folder, tables, &STEPS)?;
     Ok(folder)
 }
 
@@ -52,7 +52,7 @@ fn changes<A: Actions, T: Transforms, F: Folder + Drop>(
     words: &str,
 ) -> Result<usize, Fail> {
     let mut noted = NotedFolder::new(alloc, folder);
-    let _told = told_of::<A, T, NotedFolder<F>>(alloc, &mut noted, tables, words)?;
+    let _told = told_of(alloc, &mut noted, tables, words)?;
     are_of_task(noted.notes())?;
     Ok(noted.notes().len())
 }
@@ -82,8 +82,8 @@ fn all_stopped<A: Actions, T: Transforms>(
     tables: &Tables<A, T>,
 ) -> Result<(), Fail> {
     for at in 1..40u64 {
-        let folder = FaultyFolder::new(stepped::<A, T>(alloc, tables)?, at, FaultMode::Stop);
-        changes::<A, T, FaultyFolder<MemoryFolder>>(alloc, folder, tables, "run cp")?;
+        let folder = FaultyFolder::new(stepped(alloc, tables)?, at, FaultMode::Stop);
+        changes(alloc, folder, tables, "run cp")?;
     }
     Ok(())
 }

@@ -96,7 +96,7 @@ fn built_in<A: Actions, T: Transforms>(
         room,
     });
     let words = Ok(words_of(alloc, "a b")?);
-    let status = run::<A, T, MemoryFolder, Page<Scarce>>(alloc, folder, words, &mut page, tables);
+    let status = run(alloc, folder, words, &mut page, tables);
     let Scarce { text, room: _ } = page.into_writer();
     Ok((status, text))
 }
@@ -120,9 +120,9 @@ fn stops_nothing<A: Actions, T: Transforms>(
     let mut folder = laid_out(alloc)?;
     let whole = MADE.as_bytes();
     let status = if room < whole.len() { None } else { Some(0) };
-    let end = built_in::<A, T>(alloc, &mut folder, tables, room)?;
+    let end = built_in(alloc, &mut folder, tables, room)?;
     is_end(&end, status, &whole[..room.min(whole.len())])?;
-    let next = built_in::<A, T>(alloc, &mut folder, tables, 10_000)?;
+    let next = built_in(alloc, &mut folder, tables, 10_000)?;
     is_end(&next, Some(0), KEPT.as_bytes())
 }
 
@@ -131,7 +131,7 @@ fn stop_nothing<A: Actions, T: Transforms>(
     tables: &Tables<A, T>,
 ) -> Result<(), Fail> {
     for room in 0..=MADE.len() {
-        stops_nothing::<A, T>(alloc, tables, room)?;
+        stops_nothing(alloc, tables, room)?;
     }
     Ok(())
 }
@@ -153,7 +153,7 @@ fn seen_at_flushes<A: Actions, T: Transforms>(
         seen: Vec::new(alloc),
     });
     let words = Ok(words_of(alloc, "a b")?);
-    let status = run::<A, T, MemoryFolder, Page<Flushed>>(alloc, folder, words, &mut page, tables);
+    let status = run(alloc, folder, words, &mut page, tables);
     let Flushed { written: _, seen } = page.into_writer();
     match status {
         Some(0) => Ok(seen),
@@ -164,8 +164,8 @@ fn seen_at_flushes<A: Actions, T: Transforms>(
 /// Fails where a first build is not seen part by part, or a later one not at once.
 fn are_seen<A: Actions, T: Transforms>(alloc: Global, tables: &Tables<A, T>) -> Result<(), Fail> {
     let mut folder = laid_out(alloc)?;
-    let made = seen_at_flushes::<A, T>(alloc, &mut folder, tables)?;
-    let kept = seen_at_flushes::<A, T>(alloc, &mut folder, tables)?;
+    let made = seen_at_flushes(alloc, &mut folder, tables)?;
+    let kept = seen_at_flushes(alloc, &mut folder, tables)?;
     if made.as_slice() == [10, 20, MADE.len()].as_slice()
         && kept.as_slice() == [KEPT.len()].as_slice()
     {

@@ -100,7 +100,7 @@ fn first<A: Actions, T: Transforms>(
     tables: &Tables<A, T>,
 ) -> Result<MemoryFolder, Fail> {
     let mut folder = MemoryFolder::new(alloc);
-    go_on::<A, T, MemoryFolder>(alloc, &mut folder, tables, &FIRST)?;
+    go_on(alloc, &mut folder, tables, &FIRST)?;
     Ok(folder)
 }
 
@@ -110,8 +110,8 @@ fn edited<A: Actions, T: Transforms>(
     tables: &Tables<A, T>,
     trial: &Trial<'_>,
 ) -> Result<MemoryFolder, Fail> {
-    let mut folder = first::<A, T>(alloc, tables)?;
-    go_on::<A, T, MemoryFolder>(alloc, &mut folder, tables, trial.edits)?;
+    let mut folder = first(alloc, tables)?;
+    go_on(alloc, &mut folder, tables, trial.edits)?;
     Ok(folder)
 }
 
@@ -120,7 +120,7 @@ fn record<A: Actions, T: Transforms>(
     alloc: Global,
     tables: &Tables<A, T>,
 ) -> Result<Vec<u8>, Fail> {
-    let mut folder = first::<A, T>(alloc, tables)?;
+    let mut folder = first(alloc, tables)?;
     bytes_at(alloc, &mut folder, ".gb/tasks/cp.record")
 }
 
@@ -153,7 +153,7 @@ fn succeeds<A: Actions, T: Transforms>(
     tables: &Tables<A, T>,
     trial: &Trial<'_>,
 ) -> Result<(), Fail> {
-    let text = told_of::<A, T, MemoryFolder>(alloc, folder, tables, "run cp")?;
+    let text = told_of(alloc, folder, tables, "run cp")?;
     is_success(text.as_str(), trial)?;
     are_held(alloc, folder, "build/o", trial.outputs)
 }
@@ -175,8 +175,8 @@ fn recovers<A: Actions, T: Transforms>(
     trial: &Trial<'_>,
 ) -> Result<(), Fail> {
     is_spared(alloc, folder, trial)?;
-    succeeds::<A, T>(alloc, folder, tables, trial)?;
-    is_told_of::<A, T, MemoryFolder>(alloc, folder, tables, "run cp", trial.later)?;
+    succeeds(alloc, folder, tables, trial)?;
+    is_told_of(alloc, folder, tables, "run cp", trial.later)?;
     are_held(alloc, folder, "src", trial.sources)?;
     are_held(alloc, folder, "build/o", trial.outputs)
 }
@@ -189,10 +189,10 @@ fn stopped<A: Actions, T: Transforms>(
     at: u64,
     mode: FaultMode,
 ) -> Result<String, Fail> {
-    let folder = edited::<A, T>(alloc, tables, trial)?;
+    let folder = edited(alloc, tables, trial)?;
     let mut faulty = FaultyFolder::new(folder, at, mode);
-    let text = told_of::<A, T, FaultyFolder<MemoryFolder>>(alloc, &mut faulty, tables, "run cp")?;
-    recovers::<A, T>(alloc, &mut faulty.into_inner(), tables, trial)?;
+    let text = told_of(alloc, &mut faulty, tables, "run cp")?;
+    recovers(alloc, &mut faulty.into_inner(), tables, trial)?;
     Ok(text)
 }
 
@@ -217,7 +217,7 @@ fn calls<A: Actions, T: Transforms>(
 ) -> Result<u64, Fail> {
     for at in 1..200u64 {
         let mode = mode(alloc, kind, torn)?;
-        let text = stopped::<A, T>(alloc, tables, trial, at, mode)?;
+        let text = stopped(alloc, tables, trial, at, mode)?;
         if text.as_str() == trial.told {
             return Ok(at);
         }
@@ -233,8 +233,8 @@ fn all_stops<A: Actions, T: Transforms>(
     trial: &Trial<'_>,
     kinds: &[u64],
 ) -> Result<(), Fail> {
-    let torn = record::<A, T>(alloc, tables)?;
-    stops_alike::<A, T>(alloc, tables, trial, kinds, torn.as_slice())
+    let torn = record(alloc, tables)?;
+    stops_alike(alloc, tables, trial, kinds, torn.as_slice())
 }
 
 fn stops_alike<A: Actions, T: Transforms>(
@@ -244,9 +244,9 @@ fn stops_alike<A: Actions, T: Transforms>(
     kinds: &[u64],
     torn: &[u8],
 ) -> Result<(), Fail> {
-    let count = calls::<A, T>(alloc, tables, trial, 1, torn)?;
+    let count = calls(alloc, tables, trial, 1, torn)?;
     for kind in kinds {
-        if calls::<A, T>(alloc, tables, trial, *kind, torn)? != count {
+        if calls(alloc, tables, trial, *kind, torn)? != count {
             return Err(Fail::new("another count of calls"));
         }
     }

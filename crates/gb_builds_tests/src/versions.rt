@@ -37,7 +37,7 @@ fn first<A: Actions, T: Transforms>(
     tables: &Tables<A, T>,
 ) -> Result<MemoryFolder, Fail> {
     let mut folder = MemoryFolder::new(alloc);
-    go_on::<A, T, MemoryFolder>(alloc, &mut folder, tables, &FIRST)?;
+    go_on(alloc, &mut folder, tables, &FIRST)?;
     Ok(folder)
 }
 

@@ -29,13 +29,7 @@ fn answered<A: Actions, T: Transforms>(
 ) -> Result<(String, u8), Fail> {
     let given = words_of(alloc, words)?;
     let mut out = Vec::new(alloc);
-    let status = run::<A, T, MemoryFolder, Page<&mut Vec<u8>>>(
-        alloc,
-        folder,
-        Ok(given),
-        &mut Page::new(&mut out),
-        tables,
-    );
+    let status = run(alloc, folder, Ok(given), &mut Page::new(&mut out), tables);
     match status {
         Some(status) => Ok((String::from_utf8(out)?, status)),
         None => Err(Fail::new("not printed")),
@@ -50,7 +44,7 @@ fn is_why<A: Actions, T: Transforms>(
     words: &str,
     expected: &str,
 ) -> Result<(), Fail> {
-    let (text, _) = answered::<A, T>(alloc, folder, tables, words)?;
+    let (text, _) = answered(alloc, folder, tables, words)?;
     is_told(expected, text.as_str())
 }
 
@@ -61,7 +55,7 @@ fn folder_after<A: Actions, T: Transforms>(
     steps: &[Step<'_>],
 ) -> Result<MemoryFolder, Fail> {
     let mut folder = MemoryFolder::new(alloc);
-    go_on::<A, T, MemoryFolder>(alloc, &mut folder, tables, steps)?;
+    go_on(alloc, &mut folder, tables, steps)?;
     Ok(folder)
 }
 
@@ -88,7 +82,7 @@ fn holds<A: Actions, T: Transforms>(
     tables: &Tables<A, T>,
     row: &Row<'_>,
 ) -> Result<(), Fail> {
-    let (text, status) = answered::<A, T>(alloc, folder, tables, row.0)?;
+    let (text, status) = answered(alloc, folder, tables, row.0)?;
     is_told(row.1, text.as_str())?;
     if status == row.2 {
         Ok(())
@@ -173,7 +167,7 @@ fn counts<A: Actions, T: Transforms>(
 ) -> Result<(), Fail> {
     let text = record(alloc, row.0, row.1, row.2)?;
     put(alloc, folder, ".gb/tasks/gen.record", text.as_bytes())?;
-    is_why::<A, T>(alloc, folder, tables, "gen", row.3)
+    is_why(alloc, folder, tables, "gen", row.3)
 }
 
 #[test]
@@ -208,7 +202,7 @@ fn unprinted<A: Actions, T: Transforms>(alloc: Global, tables: &Tables<A, T>) ->
     let mut folder = MemoryFolder::new(alloc);
     let words = Ok(Vec::new(alloc));
     let mut page = Page::new(FailingWriter);
-    match run::<A, T, _, _>(alloc, &mut folder, words, &mut page, tables) {
+    match run(alloc, &mut folder, words, &mut page, tables) {
         None => Ok(()),
         Some(status) => Err(Fail::new(status)),
     }

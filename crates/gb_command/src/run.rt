@@ -54,7 +54,7 @@ pub fn run<A: Actions, T: Transforms, F: Folder, W: Printer>(
         Appends (W.contents writer.old) (W.contents writer.new) (answer_text answer)
         × (status ≡ status_of answer)) }
 {
-    let answer = answered::<A, T, F, W>(alloc, folder, words, tables, writer);
+    let answer = answered(alloc, folder, words, tables, writer);
     let status = status_of(&answer);
     print_rest(alloc, writer, &answer);
     drop(answer);
@@ -87,7 +87,7 @@ fn answered<A: Actions, T: Transforms, F: Folder, W: Printer>(
     match asked_by(alloc, words) {
         Ok(asked) => {
             let mut listeners: Vec<Recorder> = Vec::new(alloc);
-            invoke::<A, T, F, Recorder, W>(alloc, folder, tables, &asked, &mut listeners, writer)
+            invoke(alloc, folder, tables, &asked, &mut listeners, writer)
         }
         Err(fault) => Err(fault),
     }

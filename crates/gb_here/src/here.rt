@@ -37,7 +37,7 @@ pub fn build_here<A: Actions, T: Transforms, R: Files<File = File> + Env + Print
     ensures { result ≤ 2 }
 {
     let answered = match actions {
-        Ok(actions) => built::<A, T, R>(
+        Ok(actions) => built(
             rt,
             Tables {
                 actions,
@@ -57,7 +57,7 @@ fn built<A: Actions, T: Transforms, R: Files<File = File> + Env + Print + AllocG
     ensures { IfOk result (λ status. status ≤ 2) }
 {
     let held = lock_for(rt)?;
-    let status = built_alone::<A, T, R>(rt, &tables);
+    let status = built_alone(rt, &tables);
     drop(held);
     status
 }
@@ -76,7 +76,7 @@ fn built_alone<A: Actions, T: Transforms, R: Files + Env + Print + AllocGlobal>(
     };
     let mut page = Page::new(writer);
     let words = command_words(rt);
-    let status = run::<A, T, _, _>(alloc, &mut folder, words, &mut page, tables);
+    let status = run(alloc, &mut folder, words, &mut page, tables);
     Ok(status.unwrap_or(UNPRINTED))
 }
 

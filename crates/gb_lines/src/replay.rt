@@ -44,7 +44,7 @@ pub fn replay<A: Actions, T: Transforms, R: Read, W: Write>(
     tables: &Tables<A, T>,
 ) -> u8 {
     let mut page = Page::new(writer);
-    match try_replay::<A, T, R, Page<&mut W>>(alloc, reader, &mut page, tables) {
+    match try_replay(alloc, reader, &mut page, tables) {
         Ok(()) => 0,
         Err(Stop::BadLine(_)) => 2,
         Err(_) => 1,
@@ -58,7 +58,7 @@ fn try_replay<A: Actions, T: Transforms, R: Read, P: Printer>(
     tables: &Tables<A, T>,
 ) -> Result<(), Stop> {
     let input = read_input(alloc, reader)?;
-    let taken = take_input::<A, T, P>(alloc, printer, tables, input.as_slice());
+    let taken = take_input(alloc, printer, tables, input.as_slice());
     if let Err(Stop::BadLine(number)) = taken {
         let text = bad_line_text(alloc, number)?;
         printer.print(text.as_slice());
@@ -123,14 +123,7 @@ fn take_input<A: Actions, T: Transforms, P: Printer>(
     let mut folder = MemoryFolder::new(alloc);
     let mut lines_before = 0u64;
     for line in input.split(|byte| *byte == b'\n') {
-        take_line::<A, T, MemoryFolder, P>(
-            alloc,
-            &mut folder,
-            printer,
-            tables,
-            line,
-            lines_before,
-        )?;
+        take_line(alloc, &mut folder, printer, tables, line, lines_before)?;
         lines_before = lines_before.saturating_add(1);
     }
     Ok(())
@@ -147,15 +140,15 @@ fn take_line<A: Actions, T: Transforms, F: Folder, P: Printer>(
 ) -> Result<(), Stop> {
     match read_numbered(alloc, line, lines_before)? {
         Line::Empty => {}
-        Line::Run(words) => build::<A, T, F, P>(alloc, folder, printer, tables, words),
+        Line::Run(words) => build(alloc, folder, printer, tables, words),
         Line::Show(place) => printer.print(shown_files(alloc, folder, &place)?.as_slice()),
         Line::Put(place, bytes) => {
-            edit::<A, T, F, P>(alloc, folder, printer, tables, Event::Put(place, bytes))?;
+            edit(alloc, folder, printer, tables, Event::Put(place, bytes))?;
         }
         Line::Remove(place) => {
-            edit::<A, T, F, P>(alloc, folder, printer, tables, Event::Remove(place))?;
+            edit(alloc, folder, printer, tables, Event::Remove(place))?;
         }
-        Line::Lost => edit::<A, T, F, P>(alloc, folder, printer, tables, Event::Lost)?,
+        Line::Lost => edit(alloc, folder, printer, tables, Event::Lost)?,
     }
     is_printed(printer)
 }
@@ -180,7 +173,7 @@ fn build<A: Actions, T: Transforms, F: Folder, P: Printer>(
     tables: &Tables<A, T>,
     words: Vec<String>,
 ) {
-    let answer = built::<A, T, F, P>(alloc, folder, printer, tables, words);
+    let answer = built(alloc, folder, printer, tables, words);
     print_rest(alloc, printer, &answer);
     drop(answer);
 }
@@ -198,7 +191,7 @@ fn built<A: Actions, T: Transforms, F: Folder, P: Printer>(
     match read(alloc, words) {
         Ok(asked) => {
             let mut listeners: Vec<Recorder> = Vec::new(alloc);
-            invoke::<A, T, F, Recorder, P>(alloc, folder, tables, &asked, &mut listeners, printer)
+            invoke(alloc, folder, tables, &asked, &mut listeners, printer)
         }
         Err(fault) => Err(fault),
     }
@@ -212,7 +205,7 @@ fn edit<A: Actions, T: Transforms, F: Folder, P: Printer>(
     tables: &Tables<A, T>,
     event: Event,
 ) -> Result<(), Stop> {
-    let text = event_text::<A, T, F>(alloc, folder, tables, event)?;
+    let text = event_text(alloc, folder, tables, event)?;
     if !text.is_empty() {
         printer.print(text.as_slice());
     }
@@ -227,7 +220,7 @@ fn event_text<A: Actions, T: Transforms, F: Folder>(
     event: Event,
 ) -> Result<Vec<u8>, Stop> {
     let mut listeners: Vec<Recorder> = Vec::new(alloc);
-    let answers = run_events::<A, T, F, Recorder>(alloc, folder, tables, &[event], &mut listeners)?;
+    let answers = run_events(alloc, folder, tables, &[event], &mut listeners)?;
     match answers.as_slice().first() {
         Some(answer) => Ok(answer_text(alloc, answer)?),
         None => Ok(Vec::new(alloc)),

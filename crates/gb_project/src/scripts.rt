@@ -100,7 +100,7 @@ fn declare_registered<'a, A: Actions, T: Transforms>(
     let path = &script.paths[declared.faults.len()];
     let project = script.scripted.project.path();
     let task = registered(alloc, project, path, registration, &script.blocks)?;
-    declare_task::<A, T>(
+    declare_task(
         alloc,
         tables,
         names,
@@ -138,7 +138,7 @@ fn declare_statement<'a, A: Actions, T: Transforms>(
         (registered_in script.now.scripted.now.project script.now.scripted.now.script statement.now))) }
 {
     match statement {
-        Statement::Register(registration) => declare_registered::<A, T>(
+        Statement::Register(registration) => declare_registered(
             alloc,
             tables,
             names,
@@ -177,7 +177,7 @@ fn declare_each<'a, A: Actions, T: Transforms>(
         (script.now.scripted.now.project, script.now.scripted.now.script))) }
 {
     for statement in script.scripted.script.statements() {
-        declare_statement::<A, T>(
+        declare_statement(
             alloc, tables, names, site, script, statement, providers, declared,
         )?;
     }
@@ -207,7 +207,7 @@ pub(crate) fn declare_script<'a, A: Actions, T: Transforms>(
         (stage_of providers.old.nodes declared.old) (scripted.now.project, scripted.now.script))) }
 {
     let script = look_up(alloc, scripted, paths)?;
-    declare_each::<A, T>(alloc, tables, names, site, &script, providers, declared)
+    declare_each(alloc, tables, names, site, &script, providers, declared)
 }
 
 /// Declares all tasks of scripts that are laid, one script after another.
@@ -247,7 +247,7 @@ pub(crate) fn declare_scripts<'a, A: Actions, T: Transforms>(
             properties: &one.properties,
             given,
         };
-        declare_script::<A, T>(
+        declare_script(
             alloc,
             tables,
             names,

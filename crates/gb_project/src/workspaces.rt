@@ -150,7 +150,7 @@ fn realised_at<A: Actions, T: Transforms>(
         tasks: registry.tasks().paths(),
         faults: declared.faults.as_slice(),
     };
-    evaluated_entry::<A, T>(alloc, &context, providers, path, entry)
+    evaluated_entry(alloc, &context, providers, path, entry)
 }
 
 /// What the task at a path comes to.
@@ -172,7 +172,7 @@ fn realised<A: Actions, T: Transforms>(
         let tasks = registry.tasks().paths();
         return Err(unknown(alloc, registry.projects(), tasks, path)?);
     };
-    realised_at::<A, T>(alloc, tables, registry, providers, declared, path, index)
+    realised_at(alloc, tables, registry, providers, declared, path, index)
 }
 
 /// Adds the nodes of scripts with which nothing is wrong.
@@ -218,7 +218,7 @@ fn declared<'a, A: Actions, T: Transforms>(
         tasks: tasks.paths(),
     };
     let paths = tasks.as_slice();
-    declare_scripts::<A, T>(
+    declare_scripts(
         alloc, tables, &names, &given, scripts, &laid, paths, providers,
     )
 }
@@ -231,7 +231,7 @@ impl<'a, A: Actions, T: Transforms> Workspace<'a, A, T> {
     {
         let tables = configured.tables;
         let mut providers = Providers::new(alloc, &tables.transforms);
-        let declared = declared::<A, T>(alloc, configured, &mut providers)?;
+        let declared = declared(alloc, configured, &mut providers)?;
         Ok(Workspace {
             tables,
             registry: &configured.registry,
@@ -250,7 +250,7 @@ impl<'a, A: Actions, T: Transforms> Workspace<'a, A, T> {
     {
         let tables = self.tables;
         let registry = self.registry;
-        realised::<A, T>(
+        realised(
             alloc,
             tables,
             registry,

@@ -47,7 +47,7 @@ fn check_statement<A: Actions, T: Transforms>(
         Statement::DefaultTasks(_) => Ok(()),
         Statement::Property(name) => seen.declare(name),
         Statement::Set(assignment) | Statement::Convention(assignment) => {
-            check_assignment::<A, T>(alloc, tables, project, seen, assignment)
+            check_assignment(alloc, tables, project, seen, assignment)
         }
         Statement::Unset(name) => seen.check_change(name),
         Statement::DisallowChanges(name) => seen.finish(name),
@@ -70,7 +70,7 @@ fn check_assignment<A: Actions, T: Transforms>(
         assignment.now) result }
 {
     seen.check_change(&assignment.name)?;
-    check_value::<A, T>(alloc, tables, project, seen, &assignment.value)
+    check_value(alloc, tables, project, seen, &assignment.value)
 }
 
 fn check_value<'s, A: Actions, T: Transforms>(
@@ -107,7 +107,7 @@ fn check_script<A: Actions, T: Transforms>(
 {
     let statements = scripted.script.statements();
     for statement in statements {
-        check_statement::<A, T>(alloc, tables, &scripted.project, seen, statement)?;
+        check_statement(alloc, tables, &scripted.project, seen, statement)?;
     }
     Ok(())
 }
@@ -126,7 +126,7 @@ pub(crate) fn check_scripts<A: Actions, T: Transforms>(
 {
     for scripted in scripts {
         seen.begin(alloc);
-        check_script::<A, T>(alloc, tables, seen, scripted)?;
+        check_script(alloc, tables, seen, scripted)?;
     }
     Ok(())
 }

@@ -77,7 +77,7 @@ pub fn checked<A: Actions, T: Transforms>(
         (configure_faults (tables_of T.meanings A.meanings tables.now)
         (source_in projects.now scripts.now)) result }
 {
-    let tasks = checked_in_turn::<A, T>(alloc, tables, scripts)?;
+    let tasks = checked_in_turn(alloc, tables, scripts)?;
     check_names(alloc, projects, &tasks, scripts)?;
     Ok(tasks)
 }
@@ -94,7 +94,7 @@ fn checked_in_turn<A: Actions, T: Transforms>(
         (said_in scripts.now)) result }
 {
     let mut seen = Seen::new(alloc);
-    check_scripts::<A, T>(alloc, tables, &mut seen, scripts)?;
+    check_scripts(alloc, tables, &mut seen, scripts)?;
     Ok(seen.tasks)
 }
 

@@ -96,7 +96,7 @@ impl Registry {
     {
         let projects = projects_in(alloc, settings.includes())?;
         let scripts = with_projects(alloc, &projects, scripts)?;
-        let tasks = checked::<A, T>(alloc, tables, &projects, scripts.as_slice())?;
+        let tasks = checked(alloc, tables, &projects, scripts.as_slice())?;
         let registry = Registry {
             projects,
             scripts,

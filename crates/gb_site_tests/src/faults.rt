@@ -83,8 +83,8 @@ fn are_told<A: Actions, T: Transforms>(
     tables: &Tables<A, T>,
     steps: &[Step<'_>],
 ) -> Result<(), Fail> {
-    let mut folder = written::<A, T>(alloc, tables)?;
-    go_on::<A, T, MemoryFolder>(alloc, &mut folder, tables, steps)
+    let mut folder = written(alloc, tables)?;
+    go_on(alloc, &mut folder, tables, steps)
 }
 
 #[test]

@@ -64,11 +64,11 @@ fn may_be_left_out<A: Actions, T: Transforms>(
     tables: &Tables<A, T>,
 ) -> Result<(), Fail> {
     let mut folder = MemoryFolder::new(alloc);
-    go_on::<A, T, MemoryFolder>(alloc, &mut folder, tables, &LEFT_OUT)?;
+    go_on(alloc, &mut folder, tables, &LEFT_OUT)?;
     stands(alloc, &mut folder, "build/t/a.html", "<p>A</p>\n")?;
-    go_on::<A, T, MemoryFolder>(alloc, &mut folder, tables, &GIVEN)?;
+    go_on(alloc, &mut folder, tables, &GIVEN)?;
     stands(alloc, &mut folder, "build/t/a.html", "<p>A</p>\n")?;
-    go_on::<A, T, MemoryFolder>(alloc, &mut folder, tables, &OTHERS)
+    go_on(alloc, &mut folder, tables, &OTHERS)
 }
 
 #[test]

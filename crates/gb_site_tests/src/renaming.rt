@@ -61,7 +61,7 @@ fn are_renamed<A: Actions, T: Transforms>(
     tables: &Tables<A, T>,
 ) -> Result<(), Fail> {
     let mut folder = MemoryFolder::new(alloc);
-    go_on::<A, T, MemoryFolder>(alloc, &mut folder, tables, &PAGES)?;
+    go_on(alloc, &mut folder, tables, &PAGES)?;
     stand(
         alloc,
         &mut folder,
@@ -69,8 +69,8 @@ fn are_renamed<A: Actions, T: Transforms>(
         "build/p/a.html\nbuild/p/d/b.html\n",
     )?;
     stands(alloc, &mut folder, "build/p/a.html", "<h1>A</h1>\n")?;
-    go_on::<A, T, MemoryFolder>(alloc, &mut folder, tables, &MET)?;
-    go_on::<A, T, MemoryFolder>(alloc, &mut folder, tables, &OTHERS)?;
+    go_on(alloc, &mut folder, tables, &MET)?;
+    go_on(alloc, &mut folder, tables, &OTHERS)?;
     stand(alloc, &mut folder, "build/p", "build/p/d/b.html\n")
 }
 

@@ -80,9 +80,9 @@ fn changes<A: Actions, T: Transforms>(
     build: &[Step<'_>],
     expected: &str,
 ) -> Result<MemoryFolder, Fail> {
-    go_on::<A, T, MemoryFolder>(alloc, &mut folder, tables, edit)?;
+    go_on(alloc, &mut folder, tables, edit)?;
     let mut noted = NotedFolder::new(alloc, folder);
-    go_on::<A, T, NotedFolder<MemoryFolder>>(alloc, &mut noted, tables, build)?;
+    go_on(alloc, &mut noted, tables, build)?;
     let text = shown(alloc, noted.notes())?;
     is_told(expected, text.as_str())?;
     Ok(noted.into_inner())
@@ -93,8 +93,8 @@ fn built<A: Actions, T: Transforms>(
     alloc: Global,
     tables: &Tables<A, T>,
 ) -> Result<MemoryFolder, Fail> {
-    let mut folder = written::<A, T>(alloc, tables)?;
-    go_on::<A, T, MemoryFolder>(alloc, &mut folder, tables, &BUILT)?;
+    let mut folder = written(alloc, tables)?;
+    go_on(alloc, &mut folder, tables, &BUILT)?;
     Ok(folder)
 }
 

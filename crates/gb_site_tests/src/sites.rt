@@ -83,7 +83,7 @@ pub fn written<A: Actions, T: Transforms>(
     tables: &Tables<A, T>,
 ) -> Result<MemoryFolder, Fail> {
     let mut folder = MemoryFolder::new(alloc);
-    go_on::<A, T, MemoryFolder>(alloc, &mut folder, tables, &PAGES)?;
+    go_on(alloc, &mut folder, tables, &PAGES)?;
     Ok(folder)
 }
 
@@ -93,7 +93,7 @@ fn is_first<A: Actions, T: Transforms>(
     folder: &mut MemoryFolder,
     tables: &Tables<A, T>,
 ) -> Result<(), Fail> {
-    go_on::<A, T, MemoryFolder>(alloc, folder, tables, &BUILDS)?;
+    go_on(alloc, folder, tables, &BUILDS)?;
     stands(
         alloc,
         folder,
@@ -114,14 +114,14 @@ fn follows<A: Actions, T: Transforms>(
     folder: &mut MemoryFolder,
     tables: &Tables<A, T>,
 ) -> Result<(), Fail> {
-    go_on::<A, T, MemoryFolder>(alloc, folder, tables, &EDIT)?;
+    go_on(alloc, folder, tables, &EDIT)?;
     stands(
         alloc,
         folder,
         "build/site/b.html",
         "<body><h1>B</h1>\n<p><em>new</em></p>\n</body>\n",
     )?;
-    go_on::<A, T, MemoryFolder>(alloc, folder, tables, &REMOVAL)?;
+    go_on(alloc, folder, tables, &REMOVAL)?;
     stand(
         alloc,
         folder,

@@ -31,7 +31,7 @@ pub fn go_on<A: Actions, T: Transforms, F: Folder>(
     steps: &[Step<'_>],
 ) -> Result<(), Fail> {
     for step in steps {
-        take::<A, T, F>(alloc, folder, tables, step)?;
+        take(alloc, folder, tables, step)?;
     }
     Ok(())
 }
@@ -51,9 +51,7 @@ fn take<A: Actions, T: Transforms, F: Folder>(
             let place = Place::read(alloc, place)?;
             Ok(folder.remove(&place)?)
         }
-        Step::Run(words, executed, text) => {
-            build::<A, T, F>(alloc, folder, tables, words, *executed, text)
-        }
+        Step::Run(words, executed, text) => { build(alloc, folder, tables, words, *executed, text) }
     }
 }
 
@@ -67,7 +65,7 @@ fn build<A: Actions, T: Transforms, F: Folder>(
     text: &str,
 ) -> Result<(), Fail> {
     let mut listeners = vec![in alloc; Counting::new(alloc)]?;
-    let told = told_beside::<A, T, F>(alloc, folder, tables, words, &mut listeners)?;
+    let told = told_beside(alloc, folder, tables, words, &mut listeners)?;
     is_told(text, told.as_str())?;
     have_counted(executed, listeners.as_slice())
 }
@@ -81,14 +79,7 @@ fn told_beside<A: Actions, T: Transforms, F: Folder>(
     listeners: &mut Vec<Counting>,
 ) -> Result<String, Fail> {
     let invocation = read(alloc, words_of(alloc, words)?)?;
-    let answer = invoke::<A, T, F, Counting, Silent>(
-        alloc,
-        folder,
-        tables,
-        &invocation,
-        listeners,
-        &mut Silent,
-    );
+    let answer = invoke(alloc, folder, tables, &invocation, listeners, &mut Silent);
     drop(invocation);
     told(alloc, answer)
 }

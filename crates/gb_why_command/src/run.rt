@@ -46,7 +46,7 @@ pub fn run<A: Actions, T: Transforms, F: Folder, W: Printer>(
         Appends (W.contents writer.old) (W.contents writer.new) (why_text answer)
         × (status ≡ status_of answer)) }
 {
-    let answer = answered::<A, T, F>(alloc, folder, words, tables);
+    let answer = answered(alloc, folder, words, tables);
     let status = status_of(&answer);
     print_answer(alloc, writer, &answer);
     drop(answer);
@@ -72,7 +72,7 @@ fn answered<A: Actions, T: Transforms, F: Folder>(
         result (F.failures folder.new) }
 {
     match asked_by(alloc, words) {
-        Ok(asked) => tell::<A, T, F>(alloc, folder, tables, &asked),
+        Ok(asked) => tell(alloc, folder, tables, &asked),
         Err(fault) => Err(fault),
     }
 }

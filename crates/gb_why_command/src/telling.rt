@@ -47,8 +47,8 @@ pub(crate) fn tell<A: Actions, T: Transforms, F: Folder>(
 {
     let copied = asked.properties.copy(alloc)?;
     let given = copied.into_vec();
-    let configured = read_registry::<A, T, F>(alloc, folder, tables, given)?;
-    tell_registered::<A, T, F>(alloc, folder, &configured, asked)
+    let configured = read_registry(alloc, folder, tables, given)?;
+    tell_registered(alloc, folder, &configured, asked)
 }
 
 /// Tells what is asked of the tasks of these scripts.
