@@ -37,7 +37,7 @@ pub fn build_here<A: Actions, T: Transforms, R: Files<File = File> + Env + Print
     ensures { result ≤ 2 }
 {
     let answered = match actions {
-        Ok(actions) => built(
+        Ok(actions) => built::<A, T, R>(
             rt,
             Tables {
                 actions,
