@@ -15,14 +15,31 @@ use std::rt::{Env, Files};
 pub fn lock_for<R: Files<File = File> + Env + AllocGlobal>(
     rt: &R,
 ) -> Result<Option<File>, AllocError> {
-    let is_build = match command_words(rt) {
+    let asked = match command_words(rt) {
         Ok(words) => is_build(rt.alloc(), words),
         Err(fault) => Err(fault),
     };
-    match &is_build {
-        Ok(true) => Ok(locked(rt)),
-        Err(Fault::OutOfMemory) => Err(AllocError),
-        _ => Ok(None),
+    if wants_lock(asked)? {
+        Ok(locked(rt))
+    } else {
+        Ok(None)
+    }
+}
+
+/// Whether a folder is to be locked, where its words are asked for a build so: what is refused locks none.
+fn wants_lock(asked: Result<bool, Fault>) -> Result<bool, AllocError> {
+    match asked {
+        Ok(is_build) => Ok(is_build),
+        Err(fault) => refused(&fault),
+    }
+}
+
+/// Nothing is to be locked, but that out of memory is told as such.
+fn refused(fault: &Fault) -> Result<bool, AllocError> {
+    if fault.number() == Fault::OutOfMemory.number() {
+        Err(AllocError)
+    } else {
+        Ok(false)
     }
 }
 
