@@ -91,11 +91,14 @@ fn foretold<A: Actions, F: Folder>(
         → IfOk result (λ one. IsForetold kinds options planned.now.task (F.contents folder.old)
         (option_copied last.entry) (F.failures folder.old) (F.failures folder.new) one.coming) }
 {
+    let path = planned.task.path.copy()?;
     let coming = coming_of::<A, F>(alloc, folder, &planned.task, table, options, last);
-    let after = mark(before, told, &planned.task, &coming)?;
-    Ok(Foretold {
-        path: planned.task.path.copy()?,
-        coming,
-        after,
-    })
+    match mark(before, told, &planned.task, &coming) {
+        Ok(after) => Ok(Foretold {
+            path,
+            coming,
+            after,
+        }),
+        Err(fault) => Err(fault),
+    }
 }
