@@ -30,12 +30,12 @@ pub fn lock_for<R: Files<File = File> + Env + AllocGlobal>(
 fn wants_lock(asked: Result<bool, Fault>) -> Result<bool, AllocError> {
     match asked {
         Ok(is_build) => Ok(is_build),
-        Err(fault) => refused(fault),
+        Err(fault) => refused(&fault),
     }
 }
 
 /// Nothing is to be locked, but that out of memory is told as such.
-fn refused(fault: Fault) -> Result<bool, AllocError> {
+fn refused(fault: &Fault) -> Result<bool, AllocError> {
     if fault.number() == Fault::OutOfMemory.number() {
         Err(AllocError)
     } else {
