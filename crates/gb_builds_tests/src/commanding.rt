@@ -177,7 +177,11 @@ const BUILDS: [Row<'static>; 3] = [
 
 #[test]
 fn a_folder_on_a_disk_is_built(rt: HostRuntime) -> Result<(), Fail> {
-    let tables = offered(rt.alloc())?;
+    let (actions, transforms) = offered(rt.alloc())?;
+    let tables = Tables::<Builtin, Builtin> {
+        actions,
+        transforms,
+    };
     hold_on_disk::<Builtin, Builtin>(&rt, "built", &tables, &BUILDS)
 }
 
@@ -200,7 +204,11 @@ const WORDS: [Row<'static>; 14] = [
 
 #[test]
 fn words_ask_for_a_build_or_for_none(rt: HostRuntime) -> Result<(), Fail> {
-    let tables = offered(rt.alloc())?;
+    let (actions, transforms) = offered(rt.alloc())?;
+    let tables = Tables::<Builtin, Builtin> {
+        actions,
+        transforms,
+    };
     hold_on_disk::<Builtin, Builtin>(&rt, "worded", &tables, &WORDS)
 }
 
@@ -217,6 +225,10 @@ fn unprinted<A: Actions, T: Transforms>(alloc: Global, tables: &Tables<A, T>) ->
 
 #[test]
 fn what_cannot_be_printed_has_no_status(rt: HostRuntime) -> Result<(), Fail> {
-    let tables = offered(rt.alloc())?;
+    let (actions, transforms) = offered(rt.alloc())?;
+    let tables = Tables::<Builtin, Builtin> {
+        actions,
+        transforms,
+    };
     unprinted::<Builtin, Builtin>(rt.alloc(), &tables)
 }

@@ -43,7 +43,11 @@ fn put(folder: &mut MemoryFolder, place: &Place, bytes: &[u8]) -> Result<(), Fai
 #[test]
 fn a_record_that_cannot_stand_is_told(rt: HostRuntime) -> Result<(), Fail> {
     let alloc = rt.alloc();
-    let tables = offered(alloc)?;
+    let (actions, transforms) = offered(alloc)?;
+    let tables = Tables::<Builtin, Builtin> {
+        actions,
+        transforms,
+    };
     let mut folder = MemoryFolder::new(alloc);
     put(&mut folder, &Place::read(alloc, ".gb")?, b"in the way")?;
     put(
@@ -78,7 +82,11 @@ fn is_damaged<A: Actions, T: Transforms>(
 #[test]
 fn a_damaged_record_concerns_its_task_alone(rt: HostRuntime) -> Result<(), Fail> {
     let alloc = rt.alloc();
-    let tables = offered(alloc)?;
+    let (actions, transforms) = offered(alloc)?;
+    let tables = Tables::<Builtin, Builtin> {
+        actions,
+        transforms,
+    };
     for at in [0usize, 10, 100, 200] {
         is_damaged::<Builtin, Builtin>(alloc, &tables, at)?;
     }
@@ -88,7 +96,11 @@ fn a_damaged_record_concerns_its_task_alone(rt: HostRuntime) -> Result<(), Fail>
 #[test]
 fn what_is_made_too_large_is_told(rt: HostRuntime) -> Result<(), Fail> {
     let alloc = rt.alloc();
-    let tables = offered_joining(alloc)?;
+    let (actions, transforms) = offered_joining(alloc)?;
+    let tables = Tables::<Builtin, Builtin> {
+        actions,
+        transforms,
+    };
     let mut folder = MemoryFolder::new(alloc);
     let half = vec![in alloc; b'x'; 5_242_880]?;
     put(&mut folder, &Place::read(alloc, "m/a")?, half.as_slice())?;

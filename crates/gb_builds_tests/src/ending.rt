@@ -1,7 +1,7 @@
 //! Replays that end early: at a line that is none, and where something fails outside.
 use gb_action::actions::Actions;
 use gb_action::table::ActionTable;
-use gb_kinds::builtin::Builtin;
+use gb_kinds::builtin::{Builtin, StoredAction};
 use gb_kinds::function_table::FunctionTable;
 use gb_lines::replay::replay;
 use gb_provider::transforms::Transforms;
@@ -26,11 +26,8 @@ const ENDED: [Row<'static>; 3] = [
 ];
 
 /// No kinds and no functions.
-fn nothing_handed(alloc: Global) -> Tables<Builtin, Builtin> {
-    Tables {
-        actions: ActionTable::new(alloc),
-        transforms: FunctionTable::new(alloc),
-    }
+fn nothing_handed(alloc: Global) -> (ActionTable<StoredAction>, FunctionTable) {
+    (ActionTable::new(alloc), FunctionTable::new(alloc))
 }
 
 /// What is printed of an input, and the status.
@@ -46,7 +43,11 @@ fn replayed<A: Actions, T: Transforms>(
 }
 
 fn replayed_with_nothing(alloc: Global, input: &str) -> Result<(String, u8), Fail> {
-    let tables = nothing_handed(alloc);
+    let (actions, transforms) = nothing_handed(alloc);
+    let tables = Tables::<Builtin, Builtin> {
+        actions,
+        transforms,
+    };
     replayed::<Builtin, Builtin>(alloc, &tables, input)
 }
 
@@ -156,6 +157,10 @@ fn end_with_1<A: Actions, T: Transforms>(alloc: Global, tables: &Tables<A, T>) -
 
 #[test]
 fn a_failing_device_ends_the_replay(rt: HostRuntime) -> Result<(), Fail> {
-    let tables = nothing_handed(rt.alloc());
+    let (actions, transforms) = nothing_handed(rt.alloc());
+    let tables = Tables::<Builtin, Builtin> {
+        actions,
+        transforms,
+    };
     end_with_1::<Builtin, Builtin>(rt.alloc(), &tables)
 }

@@ -44,6 +44,10 @@ fn runs_from_nothing<A: Actions, T: Transforms>(
 #[test]
 fn a_run_from_nothing_takes_the_events(rt: HostRuntime) -> Result<(), Fail> {
     let alloc = rt.alloc();
-    let tables = offered(alloc)?;
+    let (actions, transforms) = offered(alloc)?;
+    let tables = Tables::<Builtin, Builtin> {
+        actions,
+        transforms,
+    };
     runs_from_nothing::<Builtin, Builtin>(alloc, &tables)
 }

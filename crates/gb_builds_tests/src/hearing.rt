@@ -104,7 +104,11 @@ fn all_stops<A: Actions, T: Transforms>(alloc: Global, tables: &Tables<A, T>) ->
 #[test]
 fn what_was_heard_is_so_after_a_stop(rt: HostRuntime) -> Result<(), Fail> {
     let alloc = rt.alloc();
-    let tables = offered(alloc)?;
+    let (actions, transforms) = offered(alloc)?;
+    let tables = Tables::<Builtin, Builtin> {
+        actions,
+        transforms,
+    };
     if all_stops::<Builtin, Builtin>(alloc, &tables)? > 0 {
         Ok(())
     } else {
@@ -165,7 +169,11 @@ fn all_refusals<A: Actions, T: Transforms>(
 #[test]
 fn one_that_refuses_changes_only_the_success(rt: HostRuntime) -> Result<(), Fail> {
     let alloc = rt.alloc();
-    let tables = offered(alloc)?;
+    let (actions, transforms) = offered(alloc)?;
+    let tables = Tables::<Builtin, Builtin> {
+        actions,
+        transforms,
+    };
     all_refusals::<Builtin, Builtin>(alloc, &tables)
 }
 
@@ -250,6 +258,10 @@ fn each_is_missed<A: Actions, T: Transforms>(
 #[test]
 fn one_that_refuses_a_call_hears_all_else(rt: HostRuntime) -> Result<(), Fail> {
     let alloc = rt.alloc();
-    let tables = offered(alloc)?;
+    let (actions, transforms) = offered(alloc)?;
+    let tables = Tables::<Builtin, Builtin> {
+        actions,
+        transforms,
+    };
     each_is_missed::<Builtin, Builtin>(alloc, &tables)
 }

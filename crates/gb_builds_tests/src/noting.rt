@@ -92,7 +92,11 @@ fn all_stopped<A: Actions, T: Transforms>(
 #[test]
 fn builds_ask_for_their_own_alone(rt: HostRuntime) -> Result<(), Fail> {
     let alloc = rt.alloc();
-    let tables = offered(alloc)?;
+    let (actions, transforms) = offered(alloc)?;
+    let tables = Tables::<Builtin, Builtin> {
+        actions,
+        transforms,
+    };
     let folder = stepped::<Builtin, Builtin>(alloc, &tables)?;
     let found = changes::<Builtin, Builtin, MemoryFolder>(alloc, folder, &tables, "run cp")?;
     are_changes(found, 4)?;
@@ -102,7 +106,11 @@ fn builds_ask_for_their_own_alone(rt: HostRuntime) -> Result<(), Fail> {
 #[test]
 fn dry_and_refused_builds_ask_for_no_change(rt: HostRuntime) -> Result<(), Fail> {
     let alloc = rt.alloc();
-    let tables = offered(alloc)?;
+    let (actions, transforms) = offered(alloc)?;
+    let tables = Tables::<Builtin, Builtin> {
+        actions,
+        transforms,
+    };
     let folder = stepped::<Builtin, Builtin>(alloc, &tables)?;
     let dry = changes::<Builtin, Builtin, MemoryFolder>(
         alloc,
@@ -119,7 +127,11 @@ fn dry_and_refused_builds_ask_for_no_change(rt: HostRuntime) -> Result<(), Fail>
 #[test]
 fn a_disturbed_build_asks_for_its_own_alone(rt: HostRuntime) -> Result<(), Fail> {
     let alloc = rt.alloc();
-    let tables = offered(alloc)?;
+    let (actions, transforms) = offered(alloc)?;
+    let tables = Tables::<Builtin, Builtin> {
+        actions,
+        transforms,
+    };
     let folder = stepped::<Builtin, Builtin>(alloc, &tables)?;
     let disturbed = Disturbed::new(alloc, folder, "src/a")?;
     changes::<Builtin, Builtin, Disturbed>(alloc, disturbed, &tables, "run cp")?;

@@ -2,7 +2,7 @@
 use gb_action::actions::Actions;
 use gb_action::table::ActionTable;
 use gb_core::name::Name;
-use gb_kinds::builtin::{Builtin, StoredAction};
+use gb_kinds::builtin::StoredAction;
 use gb_kinds::files::{concat, copy_files};
 use gb_kinds::function_table::FunctionTable;
 use gb_kinds::shapes::{
@@ -10,7 +10,6 @@ use gb_kinds::shapes::{
 };
 use gb_kinds::texts::write_text;
 use gb_provider::transforms::Transforms;
-use gb_registry::tables::Tables;
 use std::alloc::Global;
 use std::test::Fail;
 
@@ -58,30 +57,21 @@ fn actions(alloc: Global) -> Result<ActionTable<StoredAction>, Fail> {
 }
 
 /// What a build is handed: these kinds, and no function of values.
-pub fn offered(alloc: Global) -> Result<Tables<Builtin, Builtin>, Fail> {
+pub fn offered(alloc: Global) -> Result<(ActionTable<StoredAction>, FunctionTable), Fail> {
     let actions = actions(alloc)?;
-    Ok(Tables {
-        actions,
-        transforms: FunctionTable::new(alloc),
-    })
+    Ok((actions, FunctionTable::new(alloc)))
 }
 
 /// What a build is handed by a program in which the kind that writes a text has its next version.
-pub fn offered_anew(alloc: Global) -> Result<Tables<Builtin, Builtin>, Fail> {
+pub fn offered_anew(alloc: Global) -> Result<(ActionTable<StoredAction>, FunctionTable), Fail> {
     let mut actions = ActionTable::new(alloc);
     add(alloc, &mut actions, "writeText", writing_anew(alloc)?)?;
-    Ok(Tables {
-        actions,
-        transforms: FunctionTable::new(alloc),
-    })
+    Ok((actions, FunctionTable::new(alloc)))
 }
 
 /// What a build is handed whose one kind joins files.
-pub fn offered_joining(alloc: Global) -> Result<Tables<Builtin, Builtin>, Fail> {
+pub fn offered_joining(alloc: Global) -> Result<(ActionTable<StoredAction>, FunctionTable), Fail> {
     let mut actions = ActionTable::new(alloc);
     add(alloc, &mut actions, "concat", joining(alloc)?)?;
-    Ok(Tables {
-        actions,
-        transforms: FunctionTable::new(alloc),
-    })
+    Ok((actions, FunctionTable::new(alloc)))
 }

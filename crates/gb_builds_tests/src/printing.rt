@@ -138,7 +138,11 @@ fn stop_nothing<A: Actions, T: Transforms>(
 
 #[test]
 fn what_cannot_be_printed_stops_nothing(rt: HostRuntime) -> Result<(), Fail> {
-    let tables = offered(rt.alloc())?;
+    let (actions, transforms) = offered(rt.alloc())?;
+    let tables = Tables::<Builtin, Builtin> {
+        actions,
+        transforms,
+    };
     stop_nothing::<Builtin, Builtin>(rt.alloc(), &tables)
 }
 
@@ -177,6 +181,10 @@ fn are_seen<A: Actions, T: Transforms>(alloc: Global, tables: &Tables<A, T>) -> 
 
 #[test]
 fn each_part_is_seen_once_its_turn_has_ended(rt: HostRuntime) -> Result<(), Fail> {
-    let tables = offered(rt.alloc())?;
+    let (actions, transforms) = offered(rt.alloc())?;
+    let tables = Tables::<Builtin, Builtin> {
+        actions,
+        transforms,
+    };
     are_seen::<Builtin, Builtin>(rt.alloc(), &tables)
 }

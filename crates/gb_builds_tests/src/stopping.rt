@@ -256,13 +256,21 @@ fn stops_alike<A: Actions, T: Transforms>(
 #[test]
 fn a_build_makes_up_for_a_stopped_one(rt: HostRuntime) -> Result<(), Fail> {
     let alloc = rt.alloc();
-    let tables = offered(alloc)?;
+    let (actions, transforms) = offered(alloc)?;
+    let tables = Tables::<Builtin, Builtin> {
+        actions,
+        transforms,
+    };
     all_stops::<Builtin, Builtin>(alloc, &tables, &of_changes(), &[0, 2, 3, 4])
 }
 
 #[test]
 fn what_was_made_of_no_source_is_taken_away(rt: HostRuntime) -> Result<(), Fail> {
     let alloc = rt.alloc();
-    let tables = offered(alloc)?;
+    let (actions, transforms) = offered(alloc)?;
+    let tables = Tables::<Builtin, Builtin> {
+        actions,
+        transforms,
+    };
     all_stops::<Builtin, Builtin>(alloc, &tables, &of_removals(), &[2])
 }

@@ -44,16 +44,28 @@ fn first<A: Actions, T: Transforms>(
 #[test]
 fn a_newer_version_of_a_kind_runs_once_more(rt: HostRuntime) -> Result<(), Fail> {
     let alloc = rt.alloc();
-    let tables = offered(alloc)?;
+    let (actions, transforms) = offered(alloc)?;
+    let tables = Tables::<Builtin, Builtin> {
+        actions,
+        transforms,
+    };
     let mut folder = first::<Builtin, Builtin>(alloc, &tables)?;
-    let newer = offered_anew(alloc)?;
+    let (actions, transforms) = offered_anew(alloc)?;
+    let newer = Tables::<Builtin, Builtin> {
+        actions,
+        transforms,
+    };
     go_on::<Builtin, Builtin, MemoryFolder>(alloc, &mut folder, &newer, &NEXT)
 }
 
 #[test]
 fn a_record_in_the_older_form_counts(rt: HostRuntime) -> Result<(), Fail> {
     let alloc = rt.alloc();
-    let tables = offered(alloc)?;
+    let (actions, transforms) = offered(alloc)?;
+    let tables = Tables::<Builtin, Builtin> {
+        actions,
+        transforms,
+    };
     let mut folder = first::<Builtin, Builtin>(alloc, &tables)?;
     let place = Place::read(alloc, ".gb/tasks/gen.record")?;
     if folder.write(&place, OLDER.as_bytes(), 1000).is_err() {

@@ -94,7 +94,11 @@ fn holds<A: Actions, T: Transforms>(
 #[test]
 fn words_are_answered_with_a_status(rt: HostRuntime) -> Result<(), Fail> {
     let alloc = rt.alloc();
-    let tables = offered(alloc)?;
+    let (actions, transforms) = offered(alloc)?;
+    let tables = Tables::<Builtin, Builtin> {
+        actions,
+        transforms,
+    };
     let mut folder = folder_after::<Builtin, Builtin>(alloc, &tables, &BUILT)?;
     for row in &WORDS {
         holds::<Builtin, Builtin>(alloc, &mut folder, &tables, row)?;
@@ -173,7 +177,11 @@ fn counts<A: Actions, T: Transforms>(
 #[test]
 fn records_count_as_for_builds(rt: HostRuntime) -> Result<(), Fail> {
     let alloc = rt.alloc();
-    let tables = offered(alloc)?;
+    let (actions, transforms) = offered(alloc)?;
+    let tables = Tables::<Builtin, Builtin> {
+        actions,
+        transforms,
+    };
     let mut folder = folder_after::<Builtin, Builtin>(alloc, &tables, &BUILT)?;
     for row in &RECORDS {
         counts::<Builtin, Builtin>(alloc, &mut folder, &tables, row)?;
@@ -184,7 +192,11 @@ fn records_count_as_for_builds(rt: HostRuntime) -> Result<(), Fail> {
 #[test]
 fn an_output_that_is_too_large_is_told(rt: HostRuntime) -> Result<(), Fail> {
     let alloc = rt.alloc();
-    let tables = offered(alloc)?;
+    let (actions, transforms) = offered(alloc)?;
+    let tables = Tables::<Builtin, Builtin> {
+        actions,
+        transforms,
+    };
     let mut folder = folder_after::<Builtin, Builtin>(alloc, &tables, &BUILT)?;
     let large = vec![in alloc; b'x'; 8_388_609]?;
     put(alloc, &mut folder, "build/a.txt", large.as_slice())?;
@@ -210,6 +222,10 @@ fn unprinted<A: Actions, T: Transforms>(alloc: Global, tables: &Tables<A, T>) ->
 
 #[test]
 fn what_cannot_be_printed_has_no_status(rt: HostRuntime) -> Result<(), Fail> {
-    let tables = offered(rt.alloc())?;
+    let (actions, transforms) = offered(rt.alloc())?;
+    let tables = Tables::<Builtin, Builtin> {
+        actions,
+        transforms,
+    };
     unprinted::<Builtin, Builtin>(rt.alloc(), &tables)
 }

@@ -89,14 +89,22 @@ fn are_told<A: Actions, T: Transforms>(
 
 #[test]
 fn a_bad_page_is_told_with_its_line(rt: HostRuntime) -> Result<(), Fail> {
-    let tables = offered(rt.alloc())?;
+    let (actions, transforms) = offered(rt.alloc())?;
+    let tables = Tables::<Kinds, Builtin> {
+        actions,
+        transforms,
+    };
     are_told::<Kinds, Builtin>(rt.alloc(), &tables, &BAD_PAGES)?;
     are_told::<Kinds, Builtin>(rt.alloc(), &tables, &GONE_BAD)
 }
 
 #[test]
 fn a_bad_layout_and_a_name_that_is_taken_are_told(rt: HostRuntime) -> Result<(), Fail> {
-    let tables = offered(rt.alloc())?;
+    let (actions, transforms) = offered(rt.alloc())?;
+    let tables = Tables::<Kinds, Builtin> {
+        actions,
+        transforms,
+    };
     are_told::<Kinds, Builtin>(rt.alloc(), &tables, &LAYOUTS)?;
     are_told::<Kinds, Builtin>(rt.alloc(), &tables, &TWO_OF_ONE_NAME)
 }

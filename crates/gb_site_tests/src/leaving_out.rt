@@ -73,6 +73,10 @@ fn may_be_left_out<A: Actions, T: Transforms>(
 
 #[test]
 fn an_argument_may_be_left_out(rt: HostRuntime) -> Result<(), Fail> {
-    let tables = offered(rt.alloc())?;
+    let (actions, transforms) = offered(rt.alloc())?;
+    let tables = Tables::<Kinds, Builtin> {
+        actions,
+        transforms,
+    };
     may_be_left_out::<Kinds, Builtin>(rt.alloc(), &tables)
 }

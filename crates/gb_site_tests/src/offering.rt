@@ -10,7 +10,6 @@ use gb_kinds::shapes::{COPY_FILES, copy_files_shape};
 use gb_kinds::stored::StoredFlat;
 use gb_pages::actions::{Pages, page_actions};
 use gb_provider::transforms::Transforms;
-use gb_registry::tables::Tables;
 use gb_with::beside::beside;
 use gb_with::both::Both;
 use std::alloc::Global;
@@ -47,11 +46,10 @@ fn functions(alloc: Global) -> Result<FunctionTable, Fail> {
 }
 
 /// What a build of the site is handed.
-pub fn offered(alloc: Global) -> Result<Tables<Kinds, Builtin>, Fail> {
+pub fn offered(
+    alloc: Global,
+) -> Result<(ActionTable<<Kinds as Actions>::Stored>, FunctionTable), Fail> {
     let transforms = functions(alloc)?;
     let actions = beside(alloc, builtin(alloc)?, page_actions(alloc)?)?;
-    Ok(Tables {
-        actions,
-        transforms,
-    })
+    Ok((actions, transforms))
 }

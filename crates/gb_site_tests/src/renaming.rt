@@ -76,6 +76,10 @@ fn are_renamed<A: Actions, T: Transforms>(
 
 #[test]
 fn two_pages_of_one_name_are_told(rt: HostRuntime) -> Result<(), Fail> {
-    let tables = offered(rt.alloc())?;
+    let (actions, transforms) = offered(rt.alloc())?;
+    let tables = Tables::<Kinds, Builtin> {
+        actions,
+        transforms,
+    };
     are_renamed::<Kinds, Builtin>(rt.alloc(), &tables)
 }

@@ -101,7 +101,11 @@ fn built<A: Actions, T: Transforms>(
 #[test]
 fn an_edit_writes_its_page_alone(rt: HostRuntime) -> Result<(), Fail> {
     let alloc = rt.alloc();
-    let tables = offered(alloc)?;
+    let (actions, transforms) = offered(alloc)?;
+    let tables = Tables::<Kinds, Builtin> {
+        actions,
+        transforms,
+    };
     let folder = built::<Kinds, Builtin>(alloc, &tables)?;
     let folder = changes::<Kinds, Builtin>(
         alloc,
@@ -126,7 +130,11 @@ del build/site/a.html\nput build/site/index.html\n",
 #[test]
 fn a_layout_is_laid_out_in_full(rt: HostRuntime) -> Result<(), Fail> {
     let alloc = rt.alloc();
-    let tables = offered(alloc)?;
+    let (actions, transforms) = offered(alloc)?;
+    let tables = Tables::<Kinds, Builtin> {
+        actions,
+        transforms,
+    };
     let folder = built::<Kinds, Builtin>(alloc, &tables)?;
     changes::<Kinds, Builtin>(
         alloc,

@@ -133,7 +133,11 @@ fn follows<A: Actions, T: Transforms>(
 #[test]
 fn a_site_follows_its_pages(rt: HostRuntime) -> Result<(), Fail> {
     let alloc = rt.alloc();
-    let tables = offered(alloc)?;
+    let (actions, transforms) = offered(alloc)?;
+    let tables = Tables::<Kinds, Builtin> {
+        actions,
+        transforms,
+    };
     let mut folder = written::<Kinds, Builtin>(alloc, &tables)?;
     is_first::<Kinds, Builtin>(alloc, &mut folder, &tables)?;
     follows::<Kinds, Builtin>(alloc, &mut folder, &tables)

@@ -2,6 +2,8 @@
 ghost use Rattle.std.specs.Prelude.{◌≤◌};
 
 use crate::steps::{Step, go_on};
+use gb_action::actions::Actions;
+use gb_action::table::ActionTable;
 use gb_folder::memory::MemoryFolder;
 use gb_kinds::builtin::Builtin;
 use gb_kinds::function_table::FunctionTable;
@@ -16,13 +18,14 @@ use std::test::Fail;
 type Kind = ByFile<Markdown>;
 
 /// A table with the kind in this version, and no function of values.
-fn offered(alloc: Global, version: u32) -> Result<Tables<Kind, Builtin>, Fail>
+fn offered(
+    alloc: Global,
+    version: u32,
+) -> Result<(ActionTable<<Kind as Actions>::Stored>, FunctionTable), Fail>
     requires { 1 ≤ version }
 {
-    Ok(Tables {
-        actions: only::<Kind>(alloc, "markdown", version)?,
-        transforms: FunctionTable::new(alloc),
-    })
+    let actions = only::<Kind>(alloc, "markdown", version)?;
+    Ok((actions, FunctionTable::new(alloc)))
 }
 
 const SITE: [Step<'static>; 2] = [
@@ -52,8 +55,16 @@ const ONCE: [Step<'static>; 2] = [
 fn each_other_version_runs_once_more(rt: HostRuntime) -> Result<(), Fail> {
     let alloc = rt.alloc();
     let mut folder = MemoryFolder::new(alloc);
-    let first = offered(alloc, 1)?;
-    let next = offered(alloc, 2)?;
+    let (actions, transforms) = offered(alloc, 1)?;
+    let first = Tables::<Kind, Builtin> {
+        actions,
+        transforms,
+    };
+    let (actions, transforms) = offered(alloc, 2)?;
+    let next = Tables::<Kind, Builtin> {
+        actions,
+        transforms,
+    };
     go_on::<Kind, Builtin, MemoryFolder>(alloc, &mut folder, &first, &SITE)?;
     go_on::<Kind, Builtin, MemoryFolder>(alloc, &mut folder, &first, &ONCE)?;
     go_on::<Kind, Builtin, MemoryFolder>(alloc, &mut folder, &next, &ONCE)?;
