@@ -2,6 +2,7 @@
 //! with the built-in kinds and functions. It changes nothing, and takes no lock.
 #![tactic(auto)]
 
+use gb_action::actions::Actions;
 use gb_action::table::ActionTable;
 use gb_answer::{builtin_actions, builtin_functions};
 use gb_command::run::UNPRINTED;
@@ -9,6 +10,7 @@ use gb_disk::disk::DiskFolder;
 use gb_here::words::command_words;
 use gb_kinds::builtin::{Builtin, StoredAction};
 use gb_printer::page::Page;
+use gb_provider::transforms::Transforms;
 use gb_registry::tables::Tables;
 use gb_why_command::run::run;
 use std::alloc::AllocError;
@@ -27,7 +29,7 @@ fn told(rt: &HostRuntime) -> Result<u8, AllocError> {
 /// Tells it with these actions and all functions of values.
 fn told_with(rt: &HostRuntime, actions: ActionTable<StoredAction>) -> Result<u8, AllocError> {
     let transforms = builtin_functions!(rt.alloc());
-    told_by(
+    told_by::<Builtin, Builtin>(
         rt,
         &Tables {
             actions,
@@ -37,7 +39,10 @@ fn told_with(rt: &HostRuntime, actions: ActionTable<StoredAction>) -> Result<u8,
 }
 
 /// Tells it with these tables. The status is 1 also where memory runs out, or nothing can be printed.
-fn told_by(rt: &HostRuntime, tables: &Tables<Builtin, Builtin>) -> Result<u8, AllocError> {
+fn told_by<A: Actions, T: Transforms>(
+    rt: &HostRuntime,
+    tables: &Tables<A, T>,
+) -> Result<u8, AllocError> {
     let alloc = rt.alloc();
     let mut folder = DiskFolder::new(rt, String::new(alloc));
     let Ok(writer) = BufWriter::new(alloc, io::writer(rt)) else {
@@ -45,6 +50,6 @@ fn told_by(rt: &HostRuntime, tables: &Tables<Builtin, Builtin>) -> Result<u8, Al
     };
     let mut page = Page::new(writer);
     let words = command_words(rt);
-    let status = run::<Builtin, Builtin, _, _>(alloc, &mut folder, words, &mut page, tables);
+    let status = run(alloc, &mut folder, words, &mut page, tables);
     Ok(status.unwrap_or(UNPRINTED))
 }
