@@ -2,8 +2,9 @@
 //! nothing to do or no source, is up to date, or has to run, by changes or in full.
 //!
 //! The label decides on digests, and a run works on contents. Both come of one reading of the inputs and the
-//! outputs: what the label reads is kept as far as there is room, and a run completes it. What was not kept is
-//! read again, and its digests are taken anew: the digests that are recorded are those of the very contents.
+//! outputs: what the label reads is kept as far as there is room, and a run completes it. What was not kept
+//! is read again, and its digests are taken anew: the digests that are recorded are those of the very
+//! contents.
 #![tactic(auto)]
 
 mod completing;

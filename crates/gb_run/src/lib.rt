@@ -1,14 +1,15 @@
 //! The run of a task's actions: in full, or by what changed.
 //!
-//! [`run::run_in_full`] starts from emptied outputs. The files of an action are checked by place, all of them
-//! before any is written, and then written by place, in whatever order the action lists them. Set aside:
-//! asking the folder before each write whether there is room, since that would be a second access for each
-//! file; so an action for which the folder has no room may leave some of its first files.
+//! [`run::run_in_full`] starts from emptied outputs. The files of an action are checked by place, all of
+//! them before any is written, and then written by place, in whatever order the action lists them. Set
+//! aside: asking the folder before each write whether there is room, since that would be a second access for
+//! each file; so an action for which the folder has no room may leave some of its first files.
 //!
-//! [`by_changes::run_by_changes`] goes on from what stands at the outputs, where that was made of the inputs as
-//! they were. The one action that writes is asked for what changed alone, and only the places that its reply
-//! names are touched. All that the task then holds is checked before, so that this fails with the fault of a
-//! run in full. Set aside: emptying the outputs first, which would lose right files where the run is stopped.
+//! [`by_changes::run_by_changes`] goes on from what stands at the outputs, where that was made of the inputs
+//! as they were. The one action that writes is asked for what changed alone, and only the places that its
+//! reply names are touched. All that the task then holds is checked before, so that this fails with the
+//! fault of a run in full. Set aside: emptying the outputs first, which would lose right files where the run
+//! is stopped.
 #![tactic(auto)]
 
 mod asking;
