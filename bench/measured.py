@@ -14,7 +14,7 @@ import sys
 import time
 
 FIGURES = pathlib.Path(__file__).with_name("figures.json")
-BUILT = "the program that the gate built"
+BUILT = "the proved program"
 SUMS = ["sh", "-c", "find src build -type f -print0 | xargs -0 sha256sum"]
 
 Cost = collections.namedtuple("Cost", "processor wall")
