@@ -78,7 +78,8 @@ pub fn execute<A: Actions, F: Folder, L: TaskListener, P: Printer>(
     // From records that are worth it, this is a build of the plan, and the records of what is remembered
     // stand after it.
     ensures build { IsTrue F.tells → IfOk result (λ report. (kinds : Kinds) (registry_of : Registering)
-        (remembered : Memory) (clear : Bool) (seen : List Bytes) → IsGranted A.meanings table.now kinds (F.may_leave folder.old)
+        (remembered : Memory) (clear : Bool) (seen : List Bytes)
+        → IsGranted A.meanings table.now kinds (F.may_leave folder.old)
         → (IsTrue clear → AreWorth kinds plan.now records.now seen (F.contents folder.old) remembered)
         → HasBuilt (setting_with kinds registry_of (F.may_leave folder.old)) clear seen options plan.now
         (record {

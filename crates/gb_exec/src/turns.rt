@@ -89,7 +89,8 @@ pub(crate) fn take_turns<A: Actions, F: Folder, L: TaskListener, P: Printer>(
     ensures changes { IsTrue F.tells
         → ChangesOnly (is_of_turns build.now.tasks.now) (F.contents folder.old) (F.contents folder.new) }
     ensures build { IsTrue F.tells → (kinds : Kinds) (registry_of : Registering) (remembered : Memory)
-        (clear : Bool) (seen : List Bytes) → IsGranted A.meanings build.now.table.now kinds (F.may_leave folder.old)
+        (clear : Bool) (seen : List Bytes)
+        → IsGranted A.meanings build.now.table.now kinds (F.may_leave folder.old)
         → (IsTrue clear → AreWorth kinds build.now.tasks.now build.now.records.now seen
         (F.contents folder.old) remembered)
         → HasBuilt (setting_with kinds registry_of (F.may_leave folder.old)) clear seen build.now.options
