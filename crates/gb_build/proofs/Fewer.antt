@@ -6,21 +6,14 @@ use Rattle.gb_folder.specs.Files.{Bytes}
 use Rattle.gb_meaning.specs.Label.{Moment}
 use Rattle.gb_meaning.specs.Memory.{folder_contents}
 use Rattle.gb_meaning.specs.Turn.{Builds, Guard, Rules, Standing, Turns, first_moment, moment_after}
-use Rattle.gb_meaning.proofs.Lemmas.Clear.{Among, in_left, in_one, in_right, right}
+use Rattle.gb_meaning.proofs.Lemmas.Clear.{Among, found, in_left, in_one, in_right, listed}
 use Rattle.gb_meaning.proofs.Lemmas.Plain.{Spreads}
+use Rattle.gb_meaning.proofs.Standing.{with_turn}
 use Rattle.gb_plan.specs.Task.{has_path}
 use Rattle.gb_plan.specs.declared.plan.Planned.{Planned}
 use Rattle.gb_report.specs.declared.report.TaskReport.{TaskReport}
 use Rattle.std.proofs.lemmas.Map.Views.{Contains-from_any}
 use Rattle.gb_build.specs.Leading.{AreAmong}
-
-found : (xs : List Bytes) (c : Bytes) → Contains xs c → has_path xs c ≡ true
-found [] c (k, less, e) = absurd (omega arith)
-found (x ∷ xs) c (zero, less, e) = ap (λ b. b || has_path xs c) ((bytes_decides c x).1 (sym e))
-found (x ∷ xs) c (suc k, less, e) = right (bytes_eq c x) (has_path xs c) (found xs c (k, omega arith, e))
-
-listed : (xs : List Bytes) (c : Bytes) → has_path xs c ≡ true → Contains xs c
-listed xs c e = Contains-from_any (λ x y same. (bytes_decides x y).0 same) c xs e
 
 pub among_of : (some all : List Bytes) → AreAmong some all → Among some all
 among_of some all h c e = found all c (h c (listed some c e))
@@ -48,13 +41,7 @@ module _ (rules : Rules) (granted : Guard) (spreads : Spreads granted) where
   turns_fewer more seen (planned ∷ rest) moment [] new among turns = turns
   turns_fewer more seen (planned ∷ rest) moment (report ∷ reports) new among turns = (
     turns.0,
-    record {
-      folder = turns.1.folder;
-      files = turns.1.files;
-      odd = turns.1.odd;
-      count = turns.1.count;
-      turn = λ given. turns.1.turn (spreads (seen ++ folder_contents moment.world) (more ++ folder_contents moment.world) among given);
-    },
+    with_turn turns.1 (λ given. turns.1.turn (spreads (seen ++ folder_contents moment.world) (more ++ folder_contents moment.world) among given)),
     turns_fewer (more ++ folder_contents moment.world) (seen ++ folder_contents moment.world) rest (moment_after moment report turns.0) reports new
         (both_more (more ++ folder_contents moment.world) (seen ++ folder_contents moment.world) (folder_contents turns.0.world) among) turns.2,
   )

@@ -9,7 +9,7 @@ use Rattle.gb_report.specs.declared.fault.Fault.TheVariants as faults
 use Rattle.gb_script.specs.declared.fault.ScriptFault.{ScriptFault}
 use Rattle.gb_script.specs.declared.fault.ScriptFault.TheVariants as scripts
 use Rattle.gb_store.specs.Faults.{IsOfMachine}
-use Rattle.gb_store.proofs.Emptied.{free_at}
+use Rattle.gb_folder.proofs.Free.{free_at}
 use Rattle.gb_build.specs.Texts.{FileSays, Tells, TextSays, unread_at}
 
 module _ {X : Type 0} (SaysAs : Bytes → Result (List X) ScriptFault → Type 0) (files : Files) (place : Place) where

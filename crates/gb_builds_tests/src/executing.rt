@@ -1,7 +1,7 @@
 //! Builds of a plan of one task without actions.
 ghost use Rattle.std.specs.Prelude.{◌≡◌, [], IfOk, length};
 ghost use Rattle.gb_exec.specs.Building.{CanBuild};
-ghost use Rattle.gb_builds_tests.specs.Idle.{idle};
+ghost use Rattle.gb_plan.specs.Task.{bare};
 
 use gb_action::actions::Actions;
 use gb_action::list::ActionList;
@@ -28,7 +28,7 @@ const OPTIONS: Options = Options {
 
 /// A task that needs none, and has no actions.
 fn task(alloc: Global, runs: bool) -> Result<TaskDeclaration, Fail>
-    ensures { IfOk result (λ task. task ≡ idle task.path runs) }
+    ensures { IfOk result (λ task. task ≡ bare task.path runs) }
 {
     Ok(TaskDeclaration {
         path: TaskPath::read(alloc, ":gen")?,

@@ -19,7 +19,8 @@ rest_starts : (b c : Bool) → IsTrue (b && c) → IsTrue c
 rest_starts true c h = h
 rest_starts false c h = absurd (cc)
 
-begins : (text front : List ℕ) → IsTrue (starts_with nat_eq text front) → (rest : List ℕ) × (text ≡ front ++ rest)
+-- a text that starts with another is that and a rest
+pub begins : (text front : List ℕ) → IsTrue (starts_with nat_eq text front) → (rest : List ℕ) × (text ≡ front ++ rest)
 begins text [] h = (text, refl)
 begins [] (d ∷ front) h = absurd (cc)
 begins (c ∷ text) (d ∷ front) h = same_front c d (nat_eq d c) text front refl h (begins text front (rest_starts (nat_eq d c) (starts_with nat_eq text front) h))

@@ -1,3 +1,4 @@
+pub mod Booleans
 pub mod Beneath
 pub mod BySegments
 pub mod LastColon

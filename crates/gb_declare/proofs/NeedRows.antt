@@ -8,6 +8,7 @@ use Rattle.gb_script.specs.Tree.{Tree, Chain, TextOf, GradlePropertyOf, FlatMapB
 use Rattle.gb_script.specs.declared.script.Clause.TheVariants as clauses
 use Rattle.gb_script.specs.declared.script.Statement.{Statement}
 use Rattle.gb_report.specs.declared.fault.Fault.TheVariants as faults
+use Rattle.gb_plan.specs.Task.{bare}
 use Rattle.gb_plan.specs.declared.task.TaskDeclaration.{TaskDeclaration}
 use Rattle.gb_registry.specs.Source.{source_of}
 use Rattle.gb_declare.specs.Realised.{Trouble, Plain, realised}
@@ -169,18 +170,7 @@ pub replaced : task_of
 replaced = refl
 
 -- the last `enabled` counts
-pub disabled : task_of (register (codes "t") (clauses.Enabled (text a) ∷ []) ∷ named (codes "t") (clauses.Enabled (flag false) ∷ []) ∷ []) [] (codes ":t") ≡ Ok (record {
-  path = codes ":t";
-  runs = false;
-  is_stale = false;
-  values = [];
-  files = [];
-  outputs = [];
-  actions = [];
-  needs = [];
-  must_run_after = [];
-  finalizers = [];
-})
+pub disabled : task_of (register (codes "t") (clauses.Enabled (text a) ∷ []) ∷ named (codes "t") (clauses.Enabled (flag false) ∷ []) ∷ []) [] (codes ":t") ≡ Ok (bare (codes ":t") false)
 disabled = refl
 
 -- but what is wrong with a clause that is replaced counts

@@ -6,6 +6,7 @@ use Rattle.std.specs.FinMap.Entries.{find}
 use Rattle.gb_core.specs.Place.{is_beneath}
 use Rattle.gb_core.specs.declared.value.Value.{Value}
 use Rattle.gb_core.specs.Lists.{byte_order}
+use Rattle.gb_core.proofs.Booleans.{left_false, right_false}
 use Rattle.gb_action.specs.Meanings.{shape_of}
 use Rattle.gb_action.specs.Shapes.{args_fit, fit, has_source, has_output}
 use Rattle.gb_action.specs.declared.output.Form.{Form}
@@ -84,14 +85,6 @@ none_behind (x ∷ xs) ys e = cc
 pub no_faults : {X : Type 0} (faults : List Fault) (x y : X) → unless faults x ≡ Ok y → (faults ≡ []) × (x ≡ y)
 no_faults [] x y e = (refl, same_ok x y e)
 no_faults (fault ∷ faults) x y e = cc
-
-left_false : (a b : Bool) → (a || b) ≡ false → a ≡ false
-left_false true b e = cc
-left_false false b e = refl
-
-right_false : (a b : Bool) → (a || b) ≡ false → b ≡ false
-right_false true b e = cc
-right_false false b e = e
 
 none_of : (b : Bool) (path : Path) (fault : Fault) → (if b then fault ∷ [] else []) ≡ [] → b ≡ false
 none_of true path fault e = cc

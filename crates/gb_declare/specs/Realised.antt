@@ -75,6 +75,24 @@ abbrev pub first_or : Fault → List Fault → Fault
 first_or other [] = other
 first_or other (fault ∷ faults) = fault
 
+-- ---- What a task is declared as
+
+-- with its path, its needs, and what its clauses come to
+abbrev pub declared_with : Path → Joined → List Path → Bool → List Bool → List Bool → List (Named Value)
+    → List FileProperty → List Output → List Action → TaskDeclaration
+declared_with path task needs enabled passed fresh values files outputs actions = record {
+  path = path;
+  runs = enabled && list_all (λ truth. truth) passed;
+  is_stale = not (list_all (λ truth. truth) fresh);
+  values = values;
+  files = files;
+  outputs = outputs;
+  actions = actions;
+  needs = needs;
+  must_run_after = task.must_run_after;
+  finalizers = task.finalizers;
+}
+
 module _ {M F Z S A : Type 0} (tables : Tables M F Z S A) (source : Source) where
   -- why a task has no such output: it is at fault itself, or it has none of the name
   abbrev pub unknown_output : Chosen → Result Joined Fault → Fault
@@ -217,18 +235,7 @@ module _ {M F Z S A : Type 0} (tables : Tables M F Z S A) (source : Source) (at 
       and_then (each_of files_under task.files) (λ files.
       and_then (each_of output_under task.outputs) (λ outputs.
       and_then (each_of action_of task.actions) (λ actions.
-      Ok (record {
-        path = at.path;
-        runs = enabled && list_all (λ truth. truth) passed;
-        is_stale = not (list_all (λ truth. truth) fresh);
-        values = values;
-        files = files;
-        outputs = outputs;
-        actions = actions;
-        needs = needs_of task;
-        must_run_after = task.must_run_after;
-        finalizers = task.finalizers;
-      }))))))))
+      Ok (declared_with at.path task (needs_of task) enabled passed fresh values files outputs actions))))))))
 
 module _ {M F Z S A : Type 0} (tables : Tables M F Z S A) (source : Source) where
   -- a declared task evaluated over the whole table; its declaring fault counts first

@@ -17,8 +17,8 @@
 //! before listed alone, as nobody else is to write there during a build. Of a file as many bytes are read as
 //! it had when it was looked at, and if it has fewer by then, that is 10. Where the system told no byte of
 //! it, it is read to its end all the same, as files that the system itself makes have bytes only when they
-//! are read. A file that stood is unlinked first, so that another name of it keeps its bytes; a write that the
-//! device stops leaves some of the new bytes or no file. Nothing is waited for, so what the device holds
+//! are read. A file that stood is unlinked first, so that another name of it keeps its bytes; a write that
+//! the device stops leaves some of the new bytes or no file. Nothing is waited for, so what the device holds
 //! after a loss of power is not known, nor what it refuses only as a written file is closed.
 #![tactic(auto)]
 

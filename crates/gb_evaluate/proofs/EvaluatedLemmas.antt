@@ -16,7 +16,7 @@ use Rattle.gb_registry.specs.Source.{Source}
 use Rattle.gb_registry.specs.Tables.{Tables}
 use Rattle.gb_script.specs.Tree.{Tree}
 use Rattle.gb_declare.specs.Joined.{Joined, Named}
-use Rattle.gb_declare.specs.Realised.{Trouble, action_of, and_then, each_of, evaluated, files_under, needs_of, output_under, passes, value_under}
+use Rattle.gb_declare.specs.Realised.{Trouble, action_of, and_then, declared_with, each_of, evaluated, files_under, needs_of, output_under, passes, value_under}
 use Rattle.gb_declare.specs.Whole.{spots, whole}
 use Rattle.gb_nodes.specs.Complete.{place_in_whole}
 use Rattle.gb_evaluate.specs.Given.{producers_at}
@@ -30,24 +30,10 @@ use Rattle.gb_evaluate.specs.declared.parts.Parts.{Parts}
 -- ---- One part after another
 
 module _ (path : Path) (task : Joined) (needs : List Path) where
-  abbrev made : Bool → List Bool → List Bool → List (Named Value) → List FileProperty → List Output → List Action → TaskDeclaration
-  made enabled passed fresh values files outputs actions = record {
-    path = path;
-    runs = enabled && list_all (λ truth. truth) passed;
-    is_stale = not (list_all (λ truth. truth) fresh);
-    values = values;
-    files = files;
-    outputs = outputs;
-    actions = actions;
-    needs = needs;
-    must_run_after = task.must_run_after;
-    finalizers = task.finalizers;
-  }
-
   abbrev all_at_once : Result Bool Trouble → Result (List Bool) Trouble → Result (List Bool) Trouble → Result (List (Named Value)) Trouble → Result (List FileProperty) Trouble → Result (List Output) Trouble → Result (List Action) Trouble
       → Result TaskDeclaration Trouble
   all_at_once e p u v f o a =
-      and_then e (λ enabled. and_then p (λ passed. and_then u (λ fresh. and_then v (λ values. and_then f (λ files. and_then o (λ outputs. and_then a (λ actions. Ok (made enabled passed fresh values files outputs actions))))))))
+      and_then e (λ enabled. and_then p (λ passed. and_then u (λ fresh. and_then v (λ values. and_then f (λ files. and_then o (λ outputs. and_then a (λ actions. Ok (declared_with path task needs enabled passed fresh values files outputs actions))))))))
 
   abbrev by_parts : Result Bool Trouble → Result (List Bool) Trouble → Result (List Bool) Trouble → Result (List (Named Value)) Trouble → Result (List FileProperty) Trouble → Result (List Output) Trouble → Result (List Action) Trouble
       → Result TaskDeclaration Trouble

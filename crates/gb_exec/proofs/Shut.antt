@@ -11,6 +11,7 @@ use Rattle.gb_meaning.specs.Events.{IsTornInRun, StandsInRun, is_record_shut_out
 use Rattle.gb_meaning.specs.Kinds.{Kinds}
 use Rattle.gb_meaning.specs.Label.{Moment}
 use Rattle.gb_meaning.specs.Turn.{Standing, Turn}
+use Rattle.gb_meaning.proofs.Lemmas.Weaker.{turn_weaker}
 use Rattle.gb_plan.specs.Graph.{Plan}
 use Rattle.gb_plan.specs.Task.{Path, is_output_of}
 use Rattle.gb_plan.specs.declared.plan.Planned.{Planned}
@@ -146,20 +147,4 @@ module _ (kinds : Kinds) (registry_of : Registering) (may_leave second : Tearing
   -- a turn over what stands now in the tool's own is one over what stood there at first
   pub turn_so : (report : TaskReport) → Turn (rules_in (setting_with kinds registry_of second) (own_files now) options plan) moment planned report new
       → Turn (rules_in (setting_with kinds registry_of may_leave) (own_files old) options plan) moment planned report new
-  turn_so report turn = (
-    turn.0,
-    turn.1,
-    elim turn.2 [
-      | inl started ↦ inl (
-        started.0,
-        record {
-          label = elim started.1.label [ inl label ↦ inl label | inr comes ↦ inr (comes.0, may_so comes.0 comes.1, comes.2) ];
-          leaves = started.1.leaves;
-          prints = started.1.prints;
-          reading = started.1.reading;
-          begun = started.1.begun;
-        },
-      )
-      | inr passed ↦ inr passed
-    ],
-  )
+  turn_so report turn = turn_weaker kinds options plan (may_come (setting_with kinds registry_of second) (own_files now) options) (may_come (setting_with kinds registry_of may_leave) (own_files old) options) moment planned report new may_so turn

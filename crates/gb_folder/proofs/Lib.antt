@@ -3,6 +3,7 @@ pub mod Held
 pub mod Above
 pub mod Listed
 pub mod Sound
+pub mod Free
 pub mod Changes
 pub mod Rows
 pub mod Leaving

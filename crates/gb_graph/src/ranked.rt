@@ -106,7 +106,7 @@ fn rows_of(
 }
 
 /// For each of the tasks the numbers of those that it comes after.
-pub fn after_of(alloc: Global, tasks: &[Planned]) -> Result<Vec<Vec<usize>>, AllocError>
+pub(crate) fn after_of(alloc: Global, tasks: &[Planned]) -> Result<Vec<Vec<usize>>, AllocError>
     requires { no_repeats (order tasks.now) ≡ true }
     ensures { IfOk result (λ after. TellAfter tasks.now (rows after.items)) }
 {

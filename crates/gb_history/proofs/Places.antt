@@ -11,6 +11,7 @@ use Rattle.json.proofs.Printed.Utf8.{IsUtf8-are_ascii}
 use Rattle.gb_core.specs.Name.{is_name, is_name_byte, is_letter}
 use Rattle.gb_core.specs.Path.{is_task_path}
 use Rattle.gb_core.proofs.TaskPaths.{name_bytes}
+use Rattle.gb_core.proofs.BySegments.{begins}
 use Rattle.gb_history.specs.Places.{slashed, record_place, PlacesAreApart, NoPlaceBeneath}
 
 -- of ASCII, and neither a slash nor a dot
@@ -113,19 +114,6 @@ apart one other p q e =
     let inner : slashed one ++ codes ".record" ≡ slashed other ++ codes ".record" = append_cancel_left (codes ".gb/tasks") _ _ e in
     let r = before_dot one other (codes "record") (codes "record") (path_plain one p) (path_plain other q) inner in
     slashed_back one other (path_plain one p) (path_plain other q) r.0
-
-same_front : (c d : ℕ) (b : Bool) (text front : List ℕ) → nat_eq d c ≡ b → IsTrue (b && starts_with nat_eq text front) → ((rest : List ℕ) × (text ≡ front ++ rest)) → (rest : List ℕ) × (c ∷ text ≡ d ∷ front ++ rest)
-same_front c d true text front same h r = (r.0, ap (λ x. x ∷ text) (sym (eqb-true d c same)) ∙ ap (λ xs. d ∷ xs) r.1)
-same_front c d false text front same h r = absurd (cc)
-
-rest_starts : (b c : Bool) → IsTrue (b && c) → IsTrue c
-rest_starts true c h = h
-rest_starts false c h = absurd (cc)
-
-begins : (text front : List ℕ) → IsTrue (starts_with nat_eq text front) → (rest : List ℕ) × (text ≡ front ++ rest)
-begins text [] h = (text, refl)
-begins [] (d ∷ front) h = absurd (cc)
-begins (c ∷ text) (d ∷ front) h = same_front c d (nat_eq d c) text front refl h (begins text front (rest_starts (nat_eq d c) (starts_with nat_eq text front) h))
 
 append_assoc₃ : (a b d rest : List ℕ) → ((a ++ (b ++ d)) ++ 47 ∷ []) ++ rest ≡ a ++ (b ++ (d ++ 47 ∷ rest))
 append_assoc₃ [] [] [] rest = refl

@@ -20,6 +20,7 @@ use Rattle.gb_action.specs.declared.request.Request.{Request}
 use Rattle.gb_action.specs.declared.change.Change.{Change}
 use Rattle.gb_action.specs.declared.change.Change.TheVariants.{Modified}
 use Rattle.gb_core.proofs.Found.{tied_same, find-same, find-other}
+use Rattle.gb_core.proofs.Booleans.{left_false, right_false}
 use Rattle.gb_kinds.specs.Carried.{file_of_lines, holds_in, is_carried, is_looked_at, is_of_change, path_of, told_at, IsCarried}
 use Rattle.gb_kinds.specs.ByFile.{source_changes}
 use Rattle.gb_kinds.specs.Remade.{as_made, standing}
@@ -36,14 +37,6 @@ use Rattle.gb_kinds.proofs.RemadeAnswers.{IsRightAt}
 use Rattle.gb_kinds.proofs.RemadeLaw.{stood_at}
 use Rattle.gb_kinds.proofs.WordFiles.{both, entry_of, index-entry, index-sorted}
 use Rattle.gb_kinds.proofs.Writing.{written_at-by_file}
-
-left_false : (a b : Bool) → (a || b) ≡ false → a ≡ false
-left_false true b e = e
-left_false false b e = refl
-
-right_false : (a b : Bool) → (a || b) ≡ false → b ≡ false
-right_false true b e = absurd (true≢false e)
-right_false false b e = e
 
 -- something became of the path
 abbrev is_changed : List Change → List ℕ → Bool

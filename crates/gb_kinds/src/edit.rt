@@ -10,7 +10,7 @@ use std::alloc::{AllocError, Global};
 
 /// What a kind that works file by file makes of a file's bytes.
 #[derive(Clone, Copy)]
-pub enum FileEdit<'a> {
+pub(crate) enum FileEdit<'a> {
     /// The same bytes.
     Copy,
     /// The bytes with a value in place of each `@key@`.

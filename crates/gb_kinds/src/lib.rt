@@ -21,7 +21,7 @@ pub mod names;
 mod one_file;
 mod remade;
 pub mod shapes;
-pub mod source;
+mod source;
 pub mod stored;
 pub mod table;
 pub mod texts;

@@ -133,7 +133,7 @@ fn two_arguments(alloc: Global, first: Arg, second: Arg) -> Result<ArgList, Allo
 }
 
 /// The shape of a kind that reads no files.
-pub fn of_texts(args: ArgList, out: Option<Form>) -> Shape
+pub(crate) fn of_texts(args: ArgList, out: Option<Form>) -> Shape
     ensures { result ≡ of_texts args out }
 {
     Shape {

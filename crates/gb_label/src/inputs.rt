@@ -66,7 +66,7 @@ fn read_one<F: Folder>(
 /// The files of all file properties of a task, in the order of their names. Their bytes are kept as far as
 /// there is `room` for them, which they lessen. Nothing is changed, also not by an error: the first of what
 /// hinders reading them.
-pub fn read_inputs<F: Folder>(
+pub(crate) fn read_inputs<F: Folder>(
     alloc: Global,
     folder: &mut F,
     task: &TaskDeclaration,

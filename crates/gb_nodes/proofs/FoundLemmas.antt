@@ -10,7 +10,7 @@ use Rattle.gb_provider.specs.declared.expression.Node.{Node}
 use Rattle.gb_registry.specs.References.{name_faults}
 use Rattle.gb_nodes.specs.Site.{Site, property_node}
 use Rattle.gb_nodes.specs.Wrong.{known_faults, link_faults, making_faults, root_faults}
-use Rattle.gb_nodes.proofs.GrownLemmas.{nil_front, nil_back}
+use Rattle.gb_registry.proofs.Fine.{nil_back, nil_front}
 
 pub nil_both : {X : Type 0} (xs ys : List X) → xs ≡ [] → ys ≡ [] → xs ++ ys ≡ []
 nil_both xs ys front back = ap (λ l. l ++ ys) front ∙ back

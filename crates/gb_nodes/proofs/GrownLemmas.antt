@@ -16,6 +16,7 @@ use Rattle.gb_provider.specs.declared.expression.Expression.{Expression}
 use Rattle.gb_provider.specs.declared.expression.Expression.TheVariants.{Constant, OfProperty, OfOutput, Listed, Mapped, FlatMapped, Zipped, OrElse}
 use Rattle.gb_provider.specs.declared.expression.Node.{Node}
 use Rattle.gb_provider.specs.declared.fault.Chosen.{Chosen}
+use Rattle.gb_registry.proofs.Fine.{nil_back, nil_front}
 use Rattle.gb_registry.specs.Projects.{Path}
 use Rattle.gb_registry.specs.Source.{Source}
 use Rattle.gb_registry.specs.Tables.{Tables}
@@ -33,14 +34,6 @@ use Rattle.gb_nodes.specs.Site.{Site, property_node}
 use Rattle.gb_nodes.specs.Grown.{IsPlain, Stands, IsRight, IsGrown, IsRowGrown, TreesGrow, RowsGrow}
 use Rattle.gb_nodes.specs.Nodes.{Made, added, as_text, constant_of, number_in, zip_made, else_made, tree_made, root_made, trees_made, links_made, link_made, behind}
 use Rattle.gb_nodes.specs.Wrong.{root_faults, link_faults, known_faults}
-
-pub nil_front : {X : Type 0} (xs ys : List X) → xs ++ ys ≡ [] → xs ≡ []
-nil_front [] ys e = refl
-nil_front (x ∷ xs) ys e = absurd (cc)
-
-pub nil_back : {X : Type 0} (xs ys : List X) → xs ++ ys ≡ [] → ys ≡ []
-nil_back [] ys e = e
-nil_back (x ∷ xs) ys e = absurd (cc)
 
 pub all_front : {X : Type 0} (P : X → Type 0) (xs ys : List X) → AllByRecursion P (xs ++ ys) → AllByRecursion P xs
 all_front P [] ys all = tt

@@ -84,7 +84,8 @@ module _ {M F Z S A : Type 0} (tables : Tables M F Z S A) (source : Source) (all
 
 -- ---- Spots in the middle of others
 
-middle : (front xs back : List Spot) → AllByRecursion (IsAmong (front ++ (xs ++ back))) xs
+-- each of some spots is among them and those around them
+pub middle : (front xs back : List Spot) → AllByRecursion (IsAmong (front ++ (xs ++ back))) xs
 middle front [] back = tt
 middle front (x ∷ xs) back = (
   (length front, at_place front x (xs ++ back) (length front) refl),

@@ -27,7 +27,8 @@ use Rattle.gb_declare.specs.Spots.{Spot, Written}
 use Rattle.gb_declare.specs.Whole.{statement_spots}
 use Rattle.gb_nodes.specs.Statements.{named_from, properties_made, unset_property}
 use Rattle.gb_nodes.proofs.GivenLemmas.{lookup_put}
-use Rattle.gb_nodes.proofs.GrownLemmas.{at_last, at_front, nil_back, nil_front}
+use Rattle.gb_nodes.proofs.GrownLemmas.{at_last, at_front}
+use Rattle.gb_registry.proofs.Fine.{nil_back, nil_front}
 use Rattle.gb_nodes.proofs.KeyLemmas.{AreOnce, Key, key_at, key_of, keyed}
 use Rattle.gb_nodes.proofs.PlacedLemmas.{IsAmong}
 use Rattle.gb_nodes.proofs.SaidLemmas.{bytes_same, same_bytes, says, script_more}

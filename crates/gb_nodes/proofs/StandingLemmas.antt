@@ -14,6 +14,7 @@ use Rattle.gb_provider.specs.Rules.{OperandsWithin}
 use Rattle.gb_provider.specs.declared.expression.Expression.{Expression}
 use Rattle.gb_provider.specs.declared.expression.Expression.TheVariants.{Constant, OfProperty, OfOutput, Listed, Mapped, FlatMapped, Zipped, OrElse}
 use Rattle.gb_report.specs.declared.fault.Fault.{Fault}
+use Rattle.gb_registry.proofs.Alike.{each_after-append}
 use Rattle.gb_registry.proofs.Own.{own_script, script_of-append}
 use Rattle.gb_registry.specs.Configure as configured
 use Rattle.gb_registry.specs.Configure.{each_after}
@@ -35,7 +36,8 @@ use Rattle.gb_nodes.specs.Site.{Site}
 use Rattle.gb_nodes.specs.Standing.{AreSaid, AreStanding, ScriptsAreGood, ScriptsStand, scripts_faults, scripts_made, sites_made}
 use Rattle.gb_nodes.specs.Statements.{properties_made, statement_faults, statement_made, statements_faults, statements_made, unset_property}
 use Rattle.gb_nodes.proofs.FoundLemmas.{nil_both}
-use Rattle.gb_nodes.proofs.GrownLemmas.{all_back, all_front, nil_back, nil_front}
+use Rattle.gb_nodes.proofs.GrownLemmas.{all_back, all_front}
+use Rattle.gb_registry.proofs.Fine.{nil_back, nil_front}
 use Rattle.gb_nodes.proofs.KeyLemmas.{Key, key_at, key_of, key_renamed, keyed, outputs_none}
 use Rattle.gb_nodes.proofs.LaidLemmas.{scripts_are_laid}
 use Rattle.gb_nodes.proofs.PlacedLemmas.{IsAmong, statement_among, written_stands}
@@ -43,13 +45,6 @@ use Rattle.gb_nodes.proofs.SaidLemmas.{after, property_after, same_bytes, says, 
 use Rattle.gb_nodes.proofs.ScriptLemmas.{AreAmong, AreApart, AreGiven, among_front, at_among, declared_among, made_split, named_has, names_apart, names_once, properties_more}
 use Rattle.gb_nodes.proofs.StageLemmas.{IsSite, IsStage, IsStepped, site_moves, then_stepped}
 use Rattle.gb_nodes.proofs.StatementLemmas.{IsKnown, statement_done}
-
-each_after-append : {A B : Type 0} (f : List A → A → List B) (before xs ys : List A) → each_after f before (xs ++ ys) ≡ each_after f before xs ++ each_after f (before ++ xs) ys
-each_after-append f before [] ys = ap (λ b. each_after f b ys) (sym (append-nil before))
-each_after-append f before (x ∷ xs) ys =
-    ap (λ l. f before x ++ l) (each_after-append f (before ++ x ∷ []) xs ys)
-    ∙ sym (append_assoc (f before x) (each_after f (before ++ x ∷ []) xs) _)
-    ∙ ap (λ b. f before x ++ each_after f (before ++ x ∷ []) xs ++ each_after f b ys) (append_assoc before (x ∷ []) xs)
 
 both_same : {X : Type 0} (xs ys xs' ys' : List X) → xs ≡ ys → xs' ≡ ys' → xs ++ xs' ≡ ys ++ ys'
 both_same xs ys xs' ys' front back = ap (λ l. l ++ xs') front ∙ ap (λ l. ys ++ l) back

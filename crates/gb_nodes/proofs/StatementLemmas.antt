@@ -31,7 +31,8 @@ use Rattle.gb_nodes.specs.Site.{Site, property_node}
 use Rattle.gb_nodes.specs.Statements.{change_faults, final_faults, property_faults, statement_faults, statement_made, with_change, with_property}
 use Rattle.gb_nodes.specs.Wrong.{known_faults, making_faults}
 use Rattle.gb_nodes.proofs.FoundLemmas.{HasNodesOf, among_if_none, made_good, nil_both}
-use Rattle.gb_nodes.proofs.GrownLemmas.{all_front, nil_back, nil_front, trees_grow_so}
+use Rattle.gb_nodes.proofs.GrownLemmas.{all_front, trees_grow_so}
+use Rattle.gb_registry.proofs.Fine.{nil_back, nil_front}
 use Rattle.gb_nodes.proofs.PlacedLemmas.{IsAmong, parts_stand, written_stands}
 use Rattle.gb_nodes.proofs.SaidLemmas.{IsUntouched, after, bytes_apart, more, place, property_after, property_more, property_with, same_bytes, says, script_more, table_after}
 use Rattle.gb_nodes.proofs.StageLemmas.{IsSite, IsStage, IsStepped, IsTreeStepped, changed_steps, grown_steps, left_steps, site_moves, then_stepped}

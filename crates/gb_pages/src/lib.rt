@@ -7,12 +7,12 @@
 #![tactic(auto)]
 
 pub mod actions;
-pub mod checked;
-pub mod inline;
+mod checked;
+mod inline;
 pub mod kinds;
 pub mod laws;
-pub mod listing;
-pub mod markdown;
-pub mod page;
-pub mod paths;
-pub mod template;
+mod listing;
+mod markdown;
+mod page;
+mod paths;
+mod template;

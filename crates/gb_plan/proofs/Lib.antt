@@ -7,7 +7,7 @@ pub mod Circles
 pub mod Once
 pub mod Places
 pub mod Registered
-mod RowTasks
+pub mod RowTasks
 mod PlanRows
 mod OrderRows
 mod CircleRows

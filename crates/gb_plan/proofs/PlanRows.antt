@@ -10,26 +10,7 @@ use Rattle.gb_plan.specs.Graph.{Registry, IsRegistry, Request, Plan, Reached, st
 use Rattle.gb_plan.specs.Refusal.{request_of}
 use Rattle.gb_plan.proofs.Tests.{at_each, not_true, not_false, reached_in}
 use Rattle.gb_plan.proofs.Same.{plans_are_one}
-use Rattle.gb_plan.proofs.RowTasks.{action, plain, planned}
-
-abbrev pub p : TaskDeclaration
-p = plain (codes ":p") (action (codes "printLine") (codes "p") ∷ []) [] []
-
-abbrev pub bad : TaskDeclaration
-bad = plain (codes ":bad") (action (codes "fail") (codes "boom") ∷ []) [] (codes ":fin" ∷ [])
-
-abbrev pub fin : TaskDeclaration
-fin = plain (codes ":fin") (action (codes "printLine") (codes "fin") ∷ []) [] []
-
-abbrev pub q : TaskDeclaration
-q = plain (codes ":q") (action (codes "printLine") (codes "q") ∷ []) (codes ":bad" ∷ []) []
-
-abbrev pub registry : Registry
-registry = record {
-  projects = codes ":" ∷ [];
-  tasks = (codes ":p", Ok p) ∷ (codes ":bad", Ok bad) ∷ (codes ":fin", Ok fin) ∷ (codes ":q", Ok q) ∷ [];
-  default_tasks = [];
-}
+use Rattle.gb_plan.proofs.RowTasks.{bad, fin, p, planned, q, registry}
 
 pub is_registry : IsRegistry registry
 is_registry = record {

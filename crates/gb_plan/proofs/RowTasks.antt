@@ -1,5 +1,6 @@
 -- The tasks of the worked rows.
-use Rattle.std.specs.Prelude.{ℕ, true, false, List, [], ◌∷◌, codes}
+use Rattle.std.specs.Prelude.{ℕ, true, false, List, [], ◌∷◌, Ok, codes}
+use Rattle.gb_core.specs.declared.value.Value.{Value}
 use Rattle.gb_core.specs.declared.value.Value.TheVariants.{Text}
 use Rattle.gb_action.specs.declared.output.Form.TheVariants as forms
 use Rattle.gb_tree.specs.declared.property.Naming.TheVariants.{Relative}
@@ -9,26 +10,19 @@ use Rattle.gb_plan.specs.declared.task.Action.{Action}
 use Rattle.gb_plan.specs.declared.task.FileProperty.{FileProperty}
 use Rattle.gb_plan.specs.declared.task.Output.{Output}
 use Rattle.gb_plan.specs.declared.task.TaskDeclaration.{TaskDeclaration}
-use Rattle.gb_plan.specs.Task.{Path}
-use Rattle.gb_plan.specs.Graph.{Plan}
+use Rattle.gb_plan.specs.Task.{Path, bare}
+use Rattle.gb_plan.specs.Graph.{Plan, Registry}
+
+abbrev pub asks : List ℕ → List Value → Action
+asks kind args = record { kind = kind; version = 1; args = args }
 
 abbrev pub action : List ℕ → List ℕ → Action
-action kind text = record { kind = kind; version = 1; args = Text text ∷ [] }
+action kind text = asks kind (Text text ∷ [])
 
 -- a task without files and outputs
 abbrev pub plain : Path → List Action → List Path → List Path → TaskDeclaration
-plain path actions needs finalizers = record {
-  path = path;
-  runs = true;
-  is_stale = false;
-  values = [];
-  files = [];
-  outputs = [];
-  actions = actions;
-  needs = needs;
-  must_run_after = [];
-  finalizers = finalizers;
-}
+plain path actions needs finalizers =
+    record (bare path true) { actions = actions; needs = needs; finalizers = finalizers }
 
 abbrev pub planned : TaskDeclaration → ℕ → Planned
 planned task word = record { task = task; word = word; is_selected = true }
@@ -52,33 +46,25 @@ from_place place = record {
 
 -- writes `build/x`
 abbrev pub a : TaskDeclaration
-a = record {
-  path = codes ":a";
-  runs = true;
-  is_stale = false;
-  values = [];
-  files = [];
+a = record (bare (codes ":a") true) {
   outputs = to_file (codes "build/x") ∷ [];
   actions = action (codes "writeText") (codes "A") ∷ [];
-  needs = [];
-  must_run_after = [];
-  finalizers = [];
+}
+
+-- a second task, with these files and outputs, that does this
+abbrev pub second_with : List FileProperty → List Output → List ℕ → List Path → List Path → TaskDeclaration
+second_with files outputs kind needs must_run_after = record (bare (codes ":b") true) {
+  files = files;
+  outputs = outputs;
+  actions = asks kind [] ∷ [];
+  needs = needs;
+  must_run_after = must_run_after;
 }
 
 -- reads a place and writes an output
 abbrev pub b : Place → Output → List Path → List Path → TaskDeclaration
-b place output needs must_run_after = record {
-  path = codes ":b";
-  runs = true;
-  is_stale = false;
-  values = [];
-  files = from_place place ∷ [];
-  outputs = output ∷ [];
-  actions = action (codes "concat") [] ∷ [];
-  needs = needs;
-  must_run_after = must_run_after;
-  finalizers = [];
-}
+b place output needs must_run_after =
+    second_with (from_place place ∷ []) (output ∷ []) (codes "concat") needs must_run_after
 
 -- reads what `:a` writes
 abbrev pub reads_x : List Path → List Path → TaskDeclaration
@@ -86,3 +72,24 @@ reads_x needs must_run_after = b (codes "build/x") (to_file (codes "build/y")) n
 
 abbrev pub two : TaskDeclaration → Plan
 two second = planned a 0 ∷ planned second 1 ∷ []
+
+-- ---- A need with a finalizer, the task behind it, and another task
+
+abbrev pub p : TaskDeclaration
+p = plain (codes ":p") (action (codes "printLine") (codes "p") ∷ []) [] []
+
+abbrev pub bad : TaskDeclaration
+bad = plain (codes ":bad") (action (codes "fail") (codes "boom") ∷ []) [] (codes ":fin" ∷ [])
+
+abbrev pub fin : TaskDeclaration
+fin = plain (codes ":fin") (action (codes "printLine") (codes "fin") ∷ []) [] []
+
+abbrev pub q : TaskDeclaration
+q = plain (codes ":q") (action (codes "printLine") (codes "q") ∷ []) (codes ":bad" ∷ []) []
+
+abbrev pub registry : Registry
+registry = record {
+  projects = codes ":" ∷ [];
+  tasks = (codes ":p", Ok p) ∷ (codes ":bad", Ok bad) ∷ (codes ":fin", Ok fin) ∷ (codes ":q", Ok q) ∷ [];
+  default_tasks = [];
+}

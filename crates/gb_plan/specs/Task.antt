@@ -1,5 +1,5 @@
 -- What the parts of a declared task are called: its places, and what actions see of it.
-use Rattle.std.specs.Prelude.{ℕ, ◌≡◌, Bool, true, List, map, bytes_eq}
+use Rattle.std.specs.Prelude.{ℕ, ◌≡◌, Bool, true, false, List, [], map, bytes_eq}
 use Rattle.std.specs.List.{list_any, flat_map}
 use Rattle.gb_core.specs.Place.{is_under}
 use Rattle.gb_folder.specs.Files.{Place, is_empty}
@@ -40,3 +40,18 @@ seen_outputs outputs = map (λ output. (output.name, output.form)) outputs
 -- a task without actions has no outputs
 abbrev pub IsShaped : TaskDeclaration → Type 0
 IsShaped task = is_empty task.actions ≡ true → is_empty task.outputs ≡ true
+
+-- a task without values, files, outputs and actions, which needs and follows none
+abbrev pub bare : Path → Bool → TaskDeclaration
+bare path runs = record {
+  path = path;
+  runs = runs;
+  is_stale = false;
+  values = [];
+  files = [];
+  outputs = [];
+  actions = [];
+  needs = [];
+  must_run_after = [];
+  finalizers = [];
+}

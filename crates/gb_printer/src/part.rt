@@ -1,10 +1,9 @@
 //! The text of a report in its parts.
-ghost use Rattle.std.specs.Prelude.{◌≡◌, ◌++◌, IfOk, OnOk, string_bytes};
-ghost use Rattle.std.specs.List.{flat_map};
-ghost use Rattle.gb_report.specs.Report.{label, line, task_text};
+ghost use Rattle.std.specs.Prelude.{◌≡◌, IfOk};
+ghost use Rattle.gb_report.specs.Report.{task_text};
 ghost use Rattle.gb_printer.specs.Printing.{parts_text, rest_text};
 
-use gb_report::render::{label, push_lines, render};
+use gb_report::render::{push_task, push_tasks, render};
 use gb_report::report::{Report, TaskReport};
 use std::alloc::{AllocError, Global};
 use std::fmt::Write;
@@ -14,7 +13,7 @@ pub fn part(alloc: Global, task: &TaskReport) -> Result<Vec<u8>, AllocError>
     ensures { IfOk result (λ text. text.items ≡ task_text task.now) }
 {
     let mut text = String::new(alloc);
-    push_part(&mut text, task)?;
+    push_task(&mut text, task)?;
     Ok(text.into_bytes())
 }
 
@@ -33,29 +32,7 @@ fn parts(alloc: Global, report: &Report) -> Result<Vec<u8>, AllocError>
 {
     let mut text = String::new(alloc);
     if !report.dry_run {
-        push_parts(&mut text, report.tasks.as_slice())?;
+        push_tasks(&mut text, report.tasks.as_slice())?;
     }
     Ok(text.into_bytes())
-}
-
-fn push_parts(text: &mut String, tasks: &[TaskReport]) -> Result<(), AllocError>
-    ensures { OnOk result
-        (string_bytes text.new ≡ string_bytes text.old ++ flat_map task_text tasks.now) }
-{
-    for task in tasks {
-        push_part(text, task)?;
-    }
-    Ok(())
-}
-
-fn push_part(text: &mut String, task: &TaskReport) -> Result<(), AllocError>
-    ensures { OnOk result (string_bytes text.new ≡ string_bytes text.old ++ task_text task.now) }
-{
-    if !task.outcome.is_started() {
-        return Ok(());
-    }
-    let path = &task.path;
-    let label = label(&task.outcome);
-    writeln!(text, "> Task {path}{label}")?;
-    push_lines(text, task.lines.as_slice())
 }

@@ -21,7 +21,7 @@ use Rattle.gb_script.specs.declared.script.Statement.{Statement}
 use Rattle.gb_declare.specs.Joined.{Named}
 use Rattle.gb_declare.specs.Whole.{spots, whole}
 use Rattle.gb_nodes.proofs.BuildLemmas.{builds_are_places}
-use Rattle.gb_nodes.proofs.GrownLemmas.{nil_front}
+use Rattle.gb_registry.proofs.Fine.{nil_front}
 use Rattle.gb_nodes.proofs.StandingLemmas as standing
 use Rattle.gb_nodes.specs.Grown.{IsRight}
 use Rattle.gb_nodes.specs.Scripts.{build_faults}

@@ -27,7 +27,7 @@ use Rattle.gb_declare.specs.Whole.{trees_of as expressions_of}
 use Rattle.gb_nodes.specs.Site.{Site}
 use Rattle.gb_nodes.specs.Wrong.{link_faults, making_faults, root_faults}
 use Rattle.gb_nodes.proofs.FoundLemmas.{HasNodesOf, among_if_none, made_good, nil_both}
-use Rattle.gb_nodes.proofs.GrownLemmas.{nil_back, nil_front}
+use Rattle.gb_registry.proofs.Fine.{nil_back, nil_front}
 use Rattle.gb_evaluate.specs.Parts.{HasPatterns, HavePatterns}
 use Rattle.gb_project.proofs.ListLemmas.{all_by_name, all_joined, all_mapped, all_picked, all_reversed, both_all, last_all}
 

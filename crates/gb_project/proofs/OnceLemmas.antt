@@ -21,7 +21,7 @@ use Rattle.gb_registry.specs.Tables.{Tables}
 use Rattle.gb_script.specs.declared.script.Statement.{Statement}
 use Rattle.gb_script.specs.declared.script.Statement.TheVariants as statements
 use Rattle.gb_declare.specs.Joined.{Named, by_name}
-use Rattle.gb_nodes.proofs.GrownLemmas.{nil_back, nil_front}
+use Rattle.gb_registry.proofs.Fine.{nil_back, nil_front}
 
 pub among_itself : (texts : List (List ℕ)) (text : List ℕ) → is_among (texts ++ text ∷ []) text ≡ true
 among_itself texts text =

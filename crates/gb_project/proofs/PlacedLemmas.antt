@@ -34,7 +34,7 @@ use Rattle.gb_declare.specs.Joined.{Joined, Named}
 use Rattle.gb_declare.specs.Spots.{Spot, Written, Made, is_spot, parts, spot_of}
 use Rattle.gb_declare.specs.Whole.{expression_at, given_value, if_found, number_of, output_spots, spots, statement_spots, task_spots, trees_of, whole}
 use Rattle.gb_nodes.proofs.LaidLemmas.{at_place}
-use Rattle.gb_nodes.proofs.PlacedLemmas.{IsAmong, IsWritten, parts_written}
+use Rattle.gb_nodes.proofs.PlacedLemmas.{IsAmong, IsWritten, middle, parts_written}
 use Rattle.gb_project.proofs.ListLemmas.{all_at, both_all}
 use Rattle.gb_project.proofs.OnceLemmas.{Apart, apart_same, name_in, path_of}
 
@@ -277,13 +277,6 @@ module _ {M F Z S A : Type 0} (tables : Tables M F Z S A) (source : Source) (apa
       (shape.0, shape.1, is_of_task tables source k shape.0 task name shape.1 (there ∙ ap Some shape.2))
 
 -- ---- What a task declares is among all
-
-middle : (front xs back : List Spot) → AllByRecursion (IsAmong (front ++ (xs ++ back))) xs
-middle front [] back = tt
-middle front (x ∷ xs) back = (
-  (length front, at_place front x (xs ++ back) (length front) refl),
-  subst (λ l. AllByRecursion (IsAmong l) xs) (append_assoc front (x ∷ []) (xs ++ back)) (middle (front ++ x ∷ []) xs back),
-)
 
 module _ {M F Z S A : Type 0} (tables : Tables M F Z S A) (source : Source) where
   abbrev spots_of : Registered → List Spot

@@ -19,17 +19,14 @@ middle front these back n m first second =
 
 pub outputs_of_row : (task : Joined) (parts : Parts) (row : List Node) → AreCounted task parts → row_of parts ≡ row → numbers_of parts.outputs.now ≡ output_row task (numbers_of row)
 outputs_of_row task parts row counted whole =
-    let e = parts.enabled.now in
-    let o = parts.only_if.now in
-    let u = parts.up_to_date_when.now in
-    let v = parts.values.now in
-    let r = parts.roots.now in
-    let w = parts.outputs.now in
-    let a = parts.arguments.now in
-    let front = e ++ (o ++ u) ++ v ++ r in
+    let conditions = parts.enabled.now ++ (parts.only_if.now ++ parts.up_to_date_when.now) in
+    let roots = parts.roots.now in
+    let outputs = parts.outputs.now in
+    let arguments = parts.arguments.now in
+    let front = (conditions ++ parts.values.now) ++ roots in
     let number = λ (node : Node). node.number in
     let long : length front ≡ before_outputs task =
-    omega (arith, counted.enabled, counted.only_if, counted.up_to_date_when, counted.values, counted.roots, length-append (e ++ (o ++ u) ++ v) r, length-append (e ++ (o ++ u)) v, length-append e (o ++ u), length-append o u) in
-    let cut : numbers_of row ≡ (numbers_of front ++ numbers_of w) ++ numbers_of a =
-    ap numbers_of (sym whole) ∙ map-append number (front ++ w) a ∙ ap (λ l. l ++ numbers_of a) (map-append number front w) in
-    sym (ap (output_row task) cut ∙ middle (numbers_of front) (numbers_of w) (numbers_of a) (before_outputs task) (length task.outputs) (length-map front number ∙ long) (length-map w number ∙ counted.outputs))
+    omega (arith, counted.enabled, counted.only_if, counted.up_to_date_when, counted.values, counted.roots, length-append (conditions ++ parts.values.now) roots, length-append conditions parts.values.now, length-append parts.enabled.now (parts.only_if.now ++ parts.up_to_date_when.now), length-append parts.only_if.now parts.up_to_date_when.now) in
+    let cut : numbers_of row ≡ (numbers_of front ++ numbers_of outputs) ++ numbers_of arguments =
+    ap numbers_of (sym whole) ∙ map-append number (front ++ outputs) arguments ∙ ap (λ l. l ++ numbers_of arguments) (map-append number front outputs) in
+    sym (ap (output_row task) cut ∙ middle (numbers_of front) (numbers_of outputs) (numbers_of arguments) (before_outputs task) (length task.outputs) (length-map front number ∙ long) (length-map outputs number ∙ counted.outputs))

@@ -10,6 +10,7 @@ use Rattle.gb_provider.specs.Rules.{output_place}
 use Rattle.gb_provider.specs.declared.expression.Expression.{Expression}
 use Rattle.gb_provider.specs.declared.fault.Chosen.{Chosen}
 use Rattle.gb_report.specs.declared.fault.Fault.{Fault}
+use Rattle.gb_registry.proofs.Alike.{each_after-append}
 use Rattle.gb_registry.proofs.Own.{own_script, script_of-append}
 use Rattle.gb_registry.specs.Configure.{each_after, statement_faults}
 use Rattle.gb_registry.specs.New.{AreNew}
@@ -26,7 +27,7 @@ use Rattle.gb_declare.specs.Declaring.{block_scope, declared, declaring_faults, 
 use Rattle.gb_declare.specs.Joined.{Joined, Named, joined, output_in}
 use Rattle.gb_declare.specs.Whole.{spots, trees_of, whole}
 use Rattle.gb_nodes.proofs.FoundLemmas.{HasNodesOf}
-use Rattle.gb_nodes.proofs.GrownLemmas.{nil_back, nil_front}
+use Rattle.gb_registry.proofs.Fine.{nil_back, nil_front}
 use Rattle.gb_nodes.proofs.ScriptLemmas as apart
 use Rattle.gb_nodes.proofs.ScriptLemmas.{named_has}
 use Rattle.gb_nodes.proofs.StandingLemmas as standing
@@ -43,13 +44,6 @@ use Rattle.gb_project.proofs.OnceLemmas.{Apart, name_in, names_apart, path_of, s
 use Rattle.gb_project.proofs.PlacedLemmas.{output_of_task}
 use Rattle.gb_project.proofs.StepLemmas.{IsStage, IsStepped, all_steps, is_at, next, task_in}
 use Rattle.gb_project.proofs.OneTaskLemmas.{HasOutputs, IsPlaced, chosen_of, result_of}
-
-each_after-append : {A B : Type 0} (f : List A → A → List B) (before xs ys : List A) → each_after f before (xs ++ ys) ≡ each_after f before xs ++ each_after f (before ++ xs) ys
-each_after-append f before [] ys = ap (λ b. each_after f b ys) (sym (append-nil before))
-each_after-append f before (x ∷ xs) ys =
-    ap (λ l. f before x ++ l) (each_after-append f (before ++ x ∷ []) xs ys)
-    ∙ sym (append_assoc (f before x) (each_after f (before ++ x ∷ []) xs) _)
-    ∙ ap (λ b. f before x ++ each_after f (before ++ x ∷ []) xs ++ each_after f b ys) (append_assoc before (x ∷ []) xs)
 
 -- ---- What a project says stands in its own script
 

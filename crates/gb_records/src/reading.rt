@@ -21,7 +21,7 @@ use gb_report::fault::Fault;
 use std::alloc::Global;
 
 /// The most bytes that a record's text may have: 64 MiB.
-pub const MAX_RECORD: u64 = 64 * 1024 * 1024;
+pub(crate) const MAX_RECORD: u64 = 64 * 1024 * 1024;
 
 /// The records of these tasks as they stand, in the order of the tasks. Where no text of a record of a task
 /// stands, there is none.

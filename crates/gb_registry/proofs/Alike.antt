@@ -42,7 +42,7 @@ same_alike xs (fault ∷ ys) More same more = inl (fault, ap first_of same, refl
 abbrev said : Path → Statement → Said
 said project statement = record { project = project; statement = statement }
 
-each_after-append : {A B : Type 0} (f : List A → A → List B) (before xs ys : List A) → each_after f before (xs ++ ys) ≡ each_after f before xs ++ each_after f (before ++ xs) ys
+pub each_after-append : {A B : Type 0} (f : List A → A → List B) (before xs ys : List A) → each_after f before (xs ++ ys) ≡ each_after f before xs ++ each_after f (before ++ xs) ys
 each_after-append f before [] ys = ap (λ b. each_after f b ys) (sym (append-nil before))
 each_after-append f before (x ∷ xs) ys =
     ap (λ l. f before x ++ l) (each_after-append f (before ++ x ∷ []) xs ys)

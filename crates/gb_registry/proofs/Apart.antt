@@ -5,6 +5,7 @@ use Rattle.std.specs.List.{flat_map}
 use Rattle.std.specs.Cmp.Lexicographic.{bytes_decides}
 use Rattle.std.proofs.lemmas.List.Folds.{list_any-append}
 use Rattle.gb_core.proofs.TaskPaths.{left_of, right_of}
+use Rattle.gb_core.proofs.Booleans.{left_false, right_false}
 use Rattle.gb_script.specs.declared.script.Statement.{Statement}
 use Rattle.gb_registry.specs.New.{AreNew}
 use Rattle.gb_registry.specs.Projects.{Path, included, is_among, lineage_of, project_paths, root_path, with_path, with_paths}
@@ -22,14 +23,6 @@ both a b h i = ap (λ x. x && b) h ∙ i
 not_so : (b : Bool) → not b ≡ true → b ≡ false
 not_so true e = absurd (true≢false (sym e))
 not_so false e = refl
-
-left_false : (a b : Bool) → (a || b) ≡ false → a ≡ false
-left_false true b e = e
-left_false false b e = refl
-
-right_false : (a b : Bool) → (a || b) ≡ false → b ≡ false
-right_false true b e = absurd (true≢false e)
-right_false false b e = e
 
 -- what differs one way differs the other way
 other_way : (a b : Path) → bytes_eq a b ≡ false → bytes_eq b a ≡ false

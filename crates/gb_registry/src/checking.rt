@@ -132,7 +132,7 @@ pub(crate) fn check_scripts<A: Actions, T: Transforms>(
 }
 
 /// The first task that scripts name in values, and that is not there.
-pub fn check_missing<'s>(
+pub(crate) fn check_missing<'s>(
     alloc: Global,
     names: &'s Names<'s>,
     scripts: &'s [Scripted],

@@ -13,7 +13,7 @@ pub mod projects;
 pub mod registry;
 mod seen;
 pub mod tables;
-pub mod tasks;
+mod tasks;
 pub mod texts;
 pub mod walk;
 pub mod wrong;

@@ -46,7 +46,7 @@ impl<'a> Names<'a> {
     }
 
     /// Refused where the text is no path (1), or there is no such project (50) or task (52).
-    pub fn refer(&self, alloc: Global, project: &str, text: &Text) -> Result<(), Fault>
+    pub(crate) fn refer(&self, alloc: Global, project: &str, text: &Text) -> Result<(), Fault>
         ensures { TellsFirst (reference_faults self.now project.now text.now) result }
     {
         check_name(alloc, project, text)?;

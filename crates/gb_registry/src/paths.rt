@@ -38,7 +38,7 @@ pub fn absolute(alloc: Global, project: &str, text: &str) -> Result<String, Allo
 }
 
 /// The path of a project that a text is.
-pub fn project_path(alloc: Global, text: &str) -> Result<ProjectPath, Fault>
+pub(crate) fn project_path(alloc: Global, text: &str) -> Result<ProjectPath, Fault>
     requires { IsTrue (is_project_path text.now) }
     ensures path { IfOk result (λ path. path ≡ text.now) }
     ensures fault { IfErr result (λ fault. fault ≡ OutOfMemory) }

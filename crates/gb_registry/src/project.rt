@@ -55,7 +55,7 @@ impl Project {
     }
 
     /// Refused where the text is no place in the project (2).
-    pub fn check_place(&self, alloc: Global, text: &Text) -> Result<(), Fault>
+    pub(crate) fn check_place(&self, alloc: Global, text: &Text) -> Result<(), Fault>
         ensures { TellsFirst (place_faults self.now text.now) result }
     {
         match Place::join(alloc, self.folder.as_ref(), text.as_str()) {

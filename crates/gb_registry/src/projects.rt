@@ -207,7 +207,7 @@ pub fn projects(
 }
 
 /// The projects that includes name.
-pub fn projects_in(alloc: Global, includes: &[Texts]) -> Result<ProjectSet, Fault>
+pub(crate) fn projects_in(alloc: Global, includes: &[Texts]) -> Result<ProjectSet, Fault>
     ensures projects { IfOk result (λ projects. projects ≡ project_paths includes.now) }
     ensures faults { TellsFirst (settings_faults includes.now) result }
 {

@@ -80,7 +80,7 @@ impl<'a, A: Actions, T: Transforms> Look for Scope<'a, A, T> {
 }
 
 /// Refused where there is no such property (54).
-pub fn check_property(properties: &TextSet, name: &Name) -> Result<(), Fault>
+pub(crate) fn check_property(properties: &TextSet, name: &Name) -> Result<(), Fault>
     ensures { TellsFirst (property_faults properties.now name.now) result }
 {
     if properties.contains(name.as_str()) {

@@ -53,7 +53,8 @@ fn push_run(text: &mut String, report: &Report) -> Result<(), AllocError>
     push_summary(text, tasks)
 }
 
-fn push_tasks(text: &mut String, tasks: &[TaskReport]) -> Result<(), AllocError>
+/// Adds what is printed of each of these tasks.
+pub fn push_tasks(text: &mut String, tasks: &[TaskReport]) -> Result<(), AllocError>
     ensures { OnOk result
         (string_bytes text.new ≡ string_bytes text.old ++ flat_map task_text tasks.now) }
 {
@@ -63,7 +64,8 @@ fn push_tasks(text: &mut String, tasks: &[TaskReport]) -> Result<(), AllocError>
     Ok(())
 }
 
-fn push_task(text: &mut String, task: &TaskReport) -> Result<(), AllocError>
+/// Adds what is printed of a task: nothing, if it did not start.
+pub fn push_task(text: &mut String, task: &TaskReport) -> Result<(), AllocError>
     ensures { OnOk result (string_bytes text.new ≡ string_bytes text.old ++ task_text task.now) }
 {
     if !task.outcome.is_started() {
@@ -76,7 +78,7 @@ fn push_task(text: &mut String, task: &TaskReport) -> Result<(), AllocError>
 }
 
 /// What stands behind the path of a started task.
-pub fn label(outcome: &Outcome) -> &'static str
+fn label(outcome: &Outcome) -> &'static str
     ensures { result.now ≡ label outcome.now }
 {
     match outcome {
@@ -89,7 +91,7 @@ pub fn label(outcome: &Outcome) -> &'static str
 }
 
 /// Adds these lines, each with its line feed.
-pub fn push_lines(text: &mut String, lines: &[Text]) -> Result<(), AllocError>
+fn push_lines(text: &mut String, lines: &[Text]) -> Result<(), AllocError>
     ensures { OnOk result
         (string_bytes text.new ≡ string_bytes text.old ++ flat_map line lines.now) }
 {

@@ -18,7 +18,7 @@ use Rattle.gb_plan.specs.Task.{is_output_of}
 use Rattle.gb_plan.specs.declared.task.Output.{Output}
 use Rattle.gb_plan.specs.declared.task.TaskDeclaration.{TaskDeclaration as Task}
 use Rattle.gb_plan.proofs.Tests.{neither, none_left, none_right}
-use Rattle.gb_store.proofs.Emptied.{free_at}
+use Rattle.gb_folder.proofs.Free.{free_at}
 use Rattle.gb_meaning.specs.Made.{blocked_in, placed, put_over, rest_of, step_faults}
 use Rattle.gb_meaning.specs.Run.{has_room, step_by, unless_hindered}
 use Rattle.gb_meaning.proofs.Lemmas.Files.{at-put_over, left_of, or_else, right_of, same_place, sorted-put_over}

@@ -22,7 +22,7 @@ use Rattle.gb_core.specs.Lists.{byte_order}
 use Rattle.gb_folder.specs.Files.{Place, Bytes, Files, are_placed, file_at, files_under, files_where, places_under, with_file, without}
 use Rattle.gb_folder.proofs.Beneath.{between_is_beneath, not_beneath_itself}
 use Rattle.gb_folder.proofs.Held.{at_place, equal_from, first_part, none_later, same_place, second_part}
-use Rattle.gb_folder.proofs.Listed.{places_in_order, places_pass}
+use Rattle.gb_folder.proofs.Listed.{after_root, less_from, places_in_order, places_pass}
 use Rattle.gb_tree.specs.Tree.{entries_from, path_from}
 use Rattle.gb_tree.proofs.InOrder.{entries_ordered, sorted_alike}
 use Rattle.gb_run.specs.Digests.{ByPlace, digests_in}
@@ -100,20 +100,6 @@ inside_shown start end place (e ∷ es) at_start at_end =
 pub inside_by_place : (held : ByPlace) (start end : String Global) (place : Place) (es : List Entry) → string_bytes start ≡ place ++ 47 ∷ [] → string_bytes end ≡ place ++ 48 ∷ []
     → es ≡ entries_between string_cmp (Included start) (Excluded end) held.entries → shown es ≡ files_where (λ q. is_beneath q place) (digests_in held)
 inside_by_place held start end place es at_start at_end is = ap shown is ∙ inside_shown start end place held.entries at_start at_end
-
-less_from : (o : Ordering) → T (is_lt o) → o ≡ Less
-less_from Less h = refl
-less_from Equal h = absurd h
-less_from Greater h = absurd h
-
--- what lies beneath the root stands after it
-after_root : (place root : Place) → is_beneath place root ≡ true → byte_order root place ≡ Less
-after_root [] [] h = cc
-after_root (c ∷ place) [] h = refl
-after_root [] (x ∷ root) h = cc
-after_root (c ∷ place) (x ∷ root) h =
-    let parts = and_parts (nat_eq x c) (is_beneath place root) h in
-    ap (λ o. ordering_then o (slice_cmp nat_cmp root place)) (equal_from _ (sym (unsigned_ties x c) ∙ parts.0)) ∙ after_root place root parts.1
 
 -- nothing stands at the root behind what stands at or after it
 none_behind : (root first : Place) (files : Files) → ((other : Place) → byte_order first other ≡ Less → byte_order root other ≡ Less) → T (below_all byte_order first files) → file_at files root ≡ None

@@ -10,6 +10,7 @@ use Rattle.std.specs.Ordering.{nat_cmp, is_eq}
 use Rattle.std.specs.Prelude.{bytes_eq}
 use Rattle.gb_core.specs.Place.{is_under}
 use Rattle.gb_folder.specs.Files.{Place, Files, IsFolder, file_at, files_under, files_where, is_blocked, places_under, without}
+use Rattle.gb_folder.proofs.Free.{free_at}
 use Rattle.gb_folder.proofs.Changes.{file_at-files_where, file_at-without, same_files}
 use Rattle.gb_folder.proofs.Held.{equal_from}
 use Rattle.gb_folder.proofs.Sound.{sound_where, same_from}
@@ -102,26 +103,13 @@ emptied root xs files sound =
     at_removed places files q ∙ ap (λ b. cond b None (file_at files q)) (stands_beneath root xs files q) ∙ left_over (is_rooted q) (file_at files q)
     ∙ sym (file_at-files_where files (λ p. not (is_rooted p)) q))
 
-free_among : (all files : Files) (place bytes : List ℕ) → list_all (λ (file : List ℕ × List ℕ). not (is_blocked all file.0)) files ≡ true → file_at files place ≡ Some bytes → is_blocked all place ≡ false
-free_among all [] place bytes sound stands = absurd (none-some bytes stands)
-free_among all (file ∷ files) place bytes sound stands =
-    let parts = and_parts (not (is_blocked all file.0)) _ sound in
-    elim (is_eq (slice_cmp nat_cmp place file.0)) as (λ b. is_eq (slice_cmp nat_cmp place file.0) ≡ b → cond b (Some file.1) (file_at files place) ≡ Some bytes → is_blocked all place ≡ false) [
-      | true ↦ λ is _. ap (is_blocked all) (same_from place file.0 (equal_from _ is)) ∙ not-true _ parts.0
-      | false ↦ λ _ later. free_among all files place bytes parts.1 later
-    ] refl stands
-
 -- no file stands where another is in the way
 pub blocked_none : (files : Files) (place : Place) → IsFolder files → is_blocked files place ≡ true → file_at files place ≡ None
 blocked_none files place sound blocked =
     elim (file_at files place) as (λ o. file_at files place ≡ o → o ≡ None) [
       | None ↦ λ _. refl
-      | Some bytes ↦ λ stands. absurd (false≢true (sym (free_among files files place bytes sound.none_blocked stands) ∙ blocked))
+      | Some bytes ↦ λ stands. absurd (false≢true (sym (free_at files place bytes sound stands) ∙ blocked))
     ] refl
-
--- where a file stands no other is in the way
-pub free_at : (files : Files) (place bytes : List ℕ) → IsFolder files → file_at files place ≡ Some bytes → is_blocked files place ≡ false
-free_at files place bytes sound stands = free_among files files place bytes sound.none_blocked stands
 
 unsplit : (b : Bool) → not (b || false) ≡ not b
 unsplit true = refl

@@ -17,16 +17,8 @@ use Rattle.gb_folder.specs.declared.folder.FolderFault.TheVariants as folders
 use Rattle.gb_tree.specs.declared.fault.TreeFault.{TreeFault}
 use Rattle.gb_tree.specs.declared.fault.TreeFault.TheVariants as faults
 use Rattle.gb_folder.specs.Limits.{max_file}
+use Rattle.gb_folder.proofs.Free.{free_at}
 use Rattle.gb_tree.specs.Tree.{IsTreeFaultOfMachine, tree_fault_at, is_large}
-
-free_among : (all files : Files) (place bytes : List ℕ) → list_all (λ (file : List ℕ × List ℕ). not (is_blocked all file.0)) files ≡ true → file_at files place ≡ Some bytes → is_blocked all place ≡ false
-free_among all [] place bytes sound stands = absurd (none-some bytes stands)
-free_among all (file ∷ files) place bytes sound stands =
-    let parts = and_parts (not (is_blocked all file.0)) _ sound in
-    elim (is_eq (slice_cmp nat_cmp place file.0)) as (λ b. is_eq (slice_cmp nat_cmp place file.0) ≡ b → cond b (Some file.1) (file_at files place) ≡ Some bytes → is_blocked all place ≡ false) [
-      | true ↦ λ is _. ap (is_blocked all) (same_from place file.0 (equal_from _ is)) ∙ not-true _ parts.0
-      | false ↦ λ _ later. free_among all files place bytes parts.1 later
-    ] refl stands
 
 -- no file stands where another is in the way
 pub not_blocked : (files : Files) (place : Place) → IsFolder files → IsSome (file_at files place) → is_blocked files place ≡ true → ⊥
@@ -34,7 +26,7 @@ not_blocked files place sound stands blocked = by (file_at files place) refl sta
   where
     by : (o : Option (List ℕ)) → file_at files place ≡ o → IsSome o → ⊥
     by None is h = cc
-    by (Some bytes) is h = false≢true (sym (free_among files files place bytes sound.none_blocked is) ∙ blocked)
+    by (Some bytes) is h = false≢true (sym (free_at files place bytes sound is) ∙ blocked)
 
 pub large_from : (files : Files) (place : Place) → IsSomeAnd (file_at files place) (λ bytes. max_file < length bytes) → is_large files place ≡ true
 large_from files place h = by (file_at files place) h

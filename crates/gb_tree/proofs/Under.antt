@@ -6,19 +6,7 @@ use Rattle.std.specs.Cmp.Lexicographic.{bytes_decides}
 use Rattle.std.specs.List.{starts_with}
 use Rattle.std.specs.Prelude.{bytes_eq}
 use Rattle.gb_core.specs.Place.{is_beneath, is_under}
-
-same_front : (c d : ℕ) (b : Bool) (text front : List ℕ) → nat_eq d c ≡ b → IsTrue (b && starts_with nat_eq text front) → ((rest : List ℕ) × (text ≡ front ++ rest)) → (rest : List ℕ) × (c ∷ text ≡ d ∷ front ++ rest)
-same_front c d true text front same h r = (r.0, ap (λ x. x ∷ text) (sym (eqb-true d c same)) ∙ ap (λ xs. d ∷ xs) r.1)
-same_front c d false text front same h r = absurd (cc)
-
-rest_starts : (b c : Bool) → IsTrue (b && c) → IsTrue c
-rest_starts true c h = h
-rest_starts false c h = absurd (cc)
-
-begins : (text front : List ℕ) → IsTrue (starts_with nat_eq text front) → (rest : List ℕ) × (text ≡ front ++ rest)
-begins text [] h = (text, refl)
-begins [] (d ∷ front) h = absurd (cc)
-begins (c ∷ text) (d ∷ front) h = same_front c d (nat_eq d c) text front refl h (begins text front (rest_starts (nat_eq d c) (starts_with nat_eq text front) h))
+use Rattle.gb_core.proofs.BySegments.{begins}
 
 joined : (root rest : List ℕ) → (root ++ 47 ∷ []) ++ rest ≡ root ++ 47 ∷ rest
 joined [] rest = refl

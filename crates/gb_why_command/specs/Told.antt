@@ -99,9 +99,10 @@ module _ {M F Z S A : Type 0} (tables : Tables M F Z S A) (tells : Bool) where
   pub record IsTold (asked : Invocation) (old : Shown) (after : ℕ) (told : List Foretold) : Type 0 where
     pub registry : Registry
     pub is_registry : IsRegistry registry
-    pub scripts : IsTrue tells → registers_in tables (outside old.contents).files asked.properties (Ok registry)
-    pub told_of : AreToldOf tells tables.shapes tables.kinds registry asked.requested asked.excluded asked.options
-        old after told
+    pub scripts : IsTrue tells
+        → registers_in tables (outside old.contents).files asked.properties (Ok registry)
+    pub told_of : AreToldOf tells tables.shapes tables.kinds registry asked.requested asked.excluded
+        asked.options old after told
 
   -- what is asked for is told; or where the folder tells, a build of it is refused for this
   abbrev pub IsAnswerTo : Invocation → Shown → Answer → ℕ → Type 0

@@ -8,13 +8,13 @@
 //! the kinds of all.
 #![tactic(auto)]
 
-pub mod anew;
+mod anew;
 pub mod beside;
 pub mod both;
 pub mod by_file;
 pub mod file_kind;
-pub mod functions;
+mod functions;
 pub mod of_trees;
 pub mod renamed;
-pub mod stored;
+mod stored;
 pub mod tree_kind;

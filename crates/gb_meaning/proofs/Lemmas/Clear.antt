@@ -1,6 +1,6 @@
 -- Where what stood before and after a build is as granted, all its turns hold: nothing else stands between
 -- them.
-use Rattle.gb_meaning.proofs.Standing.{rules_of, standing}
+use Rattle.gb_meaning.proofs.Standing.{rules_of, standing, with_turn}
 use Rattle.gb_meaning.specs.TrueRecord.{AreApart}
 use Rattle.std.specs.Cmp.Lexicographic.{bytes_decides}
 use Rattle.std.proofs.lemmas.Map.Views.{Contains-from_any}
@@ -48,12 +48,12 @@ pub in_one : (c : Bytes) (xs ys : List Bytes) → has_path (xs ++ ys) c ≡ true
 in_one c xs ys e = either (has_path xs c) (has_path ys c) (sym (any_append (bytes_eq c) xs ys) ∙ e)
 
 -- what is listed, and what a test finds
-found : (xs : List Bytes) (c : Bytes) → Contains xs c → has_path xs c ≡ true
+pub found : (xs : List Bytes) (c : Bytes) → Contains xs c → has_path xs c ≡ true
 found [] c (k, less, e) = absurd (omega arith)
 found (x ∷ xs) c (zero, less, e) = ap (λ b. b || has_path xs c) ((bytes_decides c x).1 (sym e))
 found (x ∷ xs) c (suc k, less, e) = right (bytes_eq c x) (has_path xs c) (found xs c (k, omega arith, e))
 
-listed : (xs : List Bytes) (c : Bytes) → has_path xs c ≡ true → Contains xs c
+pub listed : (xs : List Bytes) (c : Bytes) → has_path xs c ≡ true → Contains xs c
 listed xs c e = Contains-from_any (λ x y same. (bytes_decides x y).0 same) c xs e
 
 pub apart_of_fewer : (digest : Bytes → List ℕ) (all some : List Bytes) → Among some all → AreApart digest all → AreApart digest some
@@ -142,13 +142,7 @@ module _ (kinds : Kinds) (options : Options) (may_come : May) (plan : Plan) (gra
   all_hold fewer seen (planned ∷ rest) moment [] new failures apart given turns = absurd turns
   all_hold fewer seen (planned ∷ rest) moment (report ∷ reports) new failures apart given turns = (
     turns.0,
-    record {
-      folder = turns.1.folder;
-      files = turns.1.files;
-      odd = turns.1.odd;
-      count = turns.1.count;
-      turn = λ _. turns.1.turn (fewer (before ++ folder_contents new) before (λ c e. in_left c before (folder_contents new) e) given);
-    },
+    with_turn turns.1 (λ _. turns.1.turn (fewer (before ++ folder_contents new) before (λ c e. in_left c before (folder_contents new) e) given)),
     all_hold fewer before rest (moment_after moment report turns.0) reports new failures
         (overlap_tail (output_places planned.task) (places_of rest) apart)
         (fewer (before ++ folder_contents new) (before ++ folder_contents turns.0.world ++ folder_contents new) between given) turns.2,

@@ -7,6 +7,7 @@ use Rattle.std.specs.FinMap.{slice_cmp-IsAntisymmetric, nat_cmp-IsAntisymmetric}
 use Rattle.std.specs.FinMap.Entries.{by_order}
 use Rattle.std.specs.Ordering.{nat_cmp}
 use Rattle.std.proofs.Common.{refl, sym, ap, ◌∙◌}
+use Rattle.gb_core.proofs.Booleans.{or_itself, or_swap}
 use Rattle.gb_report.specs.declared.fault.Fault.{Fault}
 use Rattle.gb_report.specs.declared.fault.Fault.TheVariants as faults
 use Rattle.gb_folder.specs.Files.{Place, Bytes, Files, is_blocked, is_empty, with_file}
@@ -15,15 +16,6 @@ use Rattle.gb_action.specs.declared.reply.Written.{Written}
 use Rattle.gb_meaning.specs.Kinds.{kind_of}
 use Rattle.gb_meaning.specs.Made.{act, blocked_in, placed, put_over, put_result, step_faults}
 use Rattle.gb_meaning.specs.Run.{Ended, EndedIsMade, ends, or_end, step_by, hindrances, unless_hindered, has_room}
-
-or_itself : (b c : Bool) → (b || c) ≡ (b || (b || c))
-or_itself true c = refl
-or_itself false c = refl
-
-or_swap : (a b c : Bool) → (a || (b || c)) ≡ (b || (a || c))
-or_swap true true c = refl
-or_swap true false c = refl
-or_swap false b c = refl
 
 or_shift : (a b c : Bool) → ((a || b) || c) ≡ (b || (a || c))
 or_shift true true c = refl

@@ -11,6 +11,7 @@ use Rattle.std.proofs.Common.{refl, sym, ap, ◌∙◌}
 use mathlib.Core.Bool.{true≢false}
 use Rattle.gb_folder.specs.Files.{Place, Bytes, Files, file_at, with_file, files_where}
 use Rattle.gb_core.specs.Lists.{byte_order}
+pub use Rattle.gb_core.proofs.TaskPaths.{left_of, right_of}
 use Rattle.gb_meaning.specs.Made.{put_over}
 
 pub total : IsTotalOrder byte_order
@@ -39,14 +40,6 @@ T_of false e = absurd (true≢false (sym e))
 pub of_T : (b : Bool) → T b → b ≡ true
 of_T true t = refl
 of_T false t = absurd t
-
-pub left_of : (a b : Bool) → (a && b) ≡ true → a ≡ true
-left_of true b e = refl
-left_of false b e = e
-
-pub right_of : (a b : Bool) → (a && b) ≡ true → b ≡ true
-right_of true b e = e
-right_of false b e = absurd (true≢false (sym e))
 
 -- the files that pass a test
 pub at-where : (test : Place → Bool) (files : Files) (q : Place) → file_at (files_where test files) q ≡ cond (test q) (file_at files q) None

@@ -4,7 +4,7 @@ use Rattle.std.specs.Prelude.{ℕ, ◌≡◌, List, [], ◌∷◌, ◌++◌, len
 use Rattle.std.proofs.Common.{arith, refl, inl, inr}
 use Rattle.gb_report.specs.declared.report.Options.{Options}
 use Rattle.gb_report.specs.declared.report.TaskReport.{TaskReport}
-use Rattle.gb_meaning.proofs.Standing.{rules_of, standing}
+use Rattle.gb_meaning.proofs.Standing.{rules_of, standing, with_turn}
 use Rattle.gb_meaning.specs.declared.events.Event.{Event}
 use Rattle.gb_meaning.specs.declared.events.Event.TheVariants as events
 use Rattle.gb_meaning.specs.declared.events.Answer.{Answer}
@@ -38,7 +38,7 @@ any_seen kinds options may plan seen other [] moment (report ∷ reports) new fa
 any_seen kinds options may plan seen other (planned ∷ rest) moment [] new failures turns = turns
 any_seen kinds options may plan seen other (planned ∷ rest) moment (report ∷ reports) new failures turns = (
   turns.0,
-  record { folder = turns.1.folder; files = turns.1.files; odd = turns.1.odd; count = turns.1.count; turn = turns.1.turn },
+  with_turn turns.1 turns.1.turn,
   any_seen kinds options may plan (seen ++ folder_contents moment.world) (other ++ folder_contents moment.world) rest (moment_after moment report turns.0) reports new failures turns.2,
 )
 

@@ -11,49 +11,11 @@ use Rattle.gb_core.specs.declared.value.Value.TheVariants as values
 use Rattle.gb_plan.specs.Task.{Text, Path}
 use Rattle.gb_plan.specs.declared.task.Action.{Action}
 use Rattle.gb_plan.specs.declared.task.TaskDeclaration.{TaskDeclaration as Task}
-use Rattle.gb_plan.specs.Graph.{Registry, Plan}
+use Rattle.gb_plan.specs.Graph.{Plan}
+pub use Rattle.gb_plan.proofs.RowTasks.{action, asks, bad, fin, p, q, registry}
 use Rattle.gb_meaning.specs.Turn.{heard_of, dry_reports}
 use Rattle.std.specs.Fmt.{digits}
 use Rattle.gb_report.specs.Report.{report_text}
-
-abbrev pub asks : Text → List Value → Action
-asks name args = record { kind = name; version = 1; args = args }
-
-abbrev pub action : Text → Text → Action
-action name text = asks name (values.Text text ∷ [])
-
-abbrev pub plain : Path → List Action → List Path → List Path → Task
-plain path actions needs finalizers = record {
-  path = path;
-  runs = true;
-  is_stale = false;
-  values = [];
-  files = [];
-  outputs = [];
-  actions = actions;
-  needs = needs;
-  must_run_after = [];
-  finalizers = finalizers;
-}
-
-abbrev pub p : Task
-p = plain (codes ":p") (action (codes "printLine") (codes "p") ∷ []) [] []
-
-abbrev pub bad : Task
-bad = plain (codes ":bad") (action (codes "fail") (codes "boom") ∷ []) [] (codes ":fin" ∷ [])
-
-abbrev pub fin : Task
-fin = plain (codes ":fin") (action (codes "printLine") (codes "fin") ∷ []) [] []
-
-abbrev pub q : Task
-q = plain (codes ":q") (action (codes "printLine") (codes "q") ∷ []) (codes ":bad" ∷ []) []
-
-abbrev pub registry : Registry
-registry = record {
-  projects = codes ":" ∷ [];
-  tasks = (codes ":p", Ok p) ∷ (codes ":bad", Ok bad) ∷ (codes ":fin", Ok fin) ∷ (codes ":q", Ok q) ∷ [];
-  default_tasks = [];
-}
 
 abbrev pub plan : Plan
 plan =

@@ -16,51 +16,10 @@ use Rattle.gb_meaning.specs.Scratch.{from_scratch}
 use Rattle.gb_meaning.specs.Turn.{Builds}
 use Rattle.gb_meaning.proofs.RowKinds.{row_kinds}
 use Rattle.gb_meaning.proofs.Common.{all_granted}
+use Rattle.gb_plan.proofs.RowTasks.{a, reads_x}
 use Rattle.gb_meaning.proofs.Rows.Graphs.{action, asks, told}
 use Rattle.gb_meaning.proofs.Rows.Finalized.{plain_run, no_fault_comes}
 use Rattle.gb_meaning.proofs.Rows.Copies.{folder}
-
-abbrev pub to_file : Text → Output
-to_file place = record { name = codes "out"; form = FileForm; place = place }
-
-abbrev pub from_place : Place → FileProperty
-from_place place = record { name = codes "src"; roots = place ∷ []; include = []; exclude = []; incremental = false; skip_when_empty = false; naming = Relative }
-
-abbrev pub a : Task
-a = record {
-  path = codes ":a";
-  runs = true;
-  is_stale = false;
-  values = [];
-  files = [];
-  outputs = to_file (codes "build/x") ∷ [];
-  actions = action (codes "writeText") (codes "A") ∷ [];
-  needs = [];
-  must_run_after = [];
-  finalizers = [];
-}
-
-abbrev pub task_b : List FileProperty → List Output → Text → List Path → List Path → Task
-task_b files outputs name needs must_run_after = record {
-  path = codes ":b";
-  runs = true;
-  is_stale = false;
-  values = [];
-  files = files;
-  outputs = outputs;
-  actions = asks name [] ∷ [];
-  needs = needs;
-  must_run_after = must_run_after;
-  finalizers = [];
-}
-
-abbrev pub two : Task → Plan
-two b = record { task = a; word = 0; is_selected = true } ∷ record { task = b; word = 1; is_selected = true } ∷ []
-
--- ---- A reader of what the other writes
-
-abbrev pub reads_x : List Path → List Path → Task
-reads_x needs must_run_after = task_b (from_place (codes "build/x") ∷ []) (to_file (codes "build/y") ∷ []) (codes "concat") needs must_run_after
 
 -- ---- A skipped task
 
