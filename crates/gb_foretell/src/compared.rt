@@ -16,13 +16,13 @@ ghost use Rattle.gb_label.specs.Reading.{AreInputs, AreOutputs, CannotRead, dige
 ghost use Rattle.gb_label.specs.Reading.{records_with};
 
 use crate::coming::Coming;
-use crate::sourced::listed;
 use gb_action::actions::Actions;
 use gb_action::table::ActionTable;
 use gb_folder::folder::Folder;
 use gb_history::decide::{Decision, Present};
 use gb_history::record::Record;
 use gb_label::deciding::{DecidedOn, decide_on};
+use gb_label::listing::check_outputs;
 use gb_label::outputs::read_outputs;
 use gb_label::prints::prints_of;
 use gb_plan::task::TaskDeclaration;
@@ -66,7 +66,7 @@ pub(crate) fn compared<A: Actions, F: Folder>(
         }
         Err(fault) => {
             check_not_of_machine(fault)?;
-            listed(alloc, folder, task)?;
+            check_outputs(alloc, folder, task)?;
             Ok(Coming::HasGrown)
         }
     }

@@ -17,11 +17,11 @@ use gb_action::actions::Actions;
 use gb_action::table::ActionTable;
 use gb_folder::folder::Folder;
 use gb_history::record::Record;
+use gb_label::listing::check_outputs;
 use gb_plan::task::TaskDeclaration;
 use gb_reason::reason::Reason;
 use gb_report::fault::Fault;
 use gb_report::report::Options;
-use gb_run::emptying::listed_outputs;
 use gb_tree::kept::Reading;
 use std::alloc::Global;
 
@@ -76,22 +76,6 @@ fn anew<F: Folder>(
     ensures err { IsTrue F.tells → IfErr result (CannotRead (F.failures folder.old) (F.failures folder.new)
         (listing_faults task.now (F.contents folder.old))) }
 {
-    listed(alloc, folder, task)?;
+    check_outputs(alloc, folder, task)?;
     Ok(Coming::Runs(false, vec![in alloc; reason]?))
-}
-
-/// Lists the outputs of a task. An error is the first odd thing there, or the machine's.
-pub(crate) fn listed<F: Folder>(
-    alloc: Global,
-    folder: &mut F,
-    task: &TaskDeclaration,
-) -> Result<(), Fault>
-    ensures asks { Asks F.failures F.may_leave F.asked no_change folder.old folder.new }
-    ensures same { IsTrue F.tells → F.contents folder.new ≡ F.contents folder.old }
-    ensures none_odd { IsTrue F.tells → OnOk result (listing_faults task.now (F.contents folder.old) ≡ []) }
-    ensures err { IsTrue F.tells → IfErr result (CannotRead (F.failures folder.old) (F.failures folder.new)
-        (listing_faults task.now (F.contents folder.old))) }
-{
-    listed_outputs(alloc, folder, task.outputs.as_slice())?;
-    Ok(())
 }

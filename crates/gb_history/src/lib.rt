@@ -12,6 +12,6 @@ mod order;
 pub mod place;
 mod reading;
 pub mod record;
-mod same;
+pub mod same;
 pub mod text;
 mod writing;

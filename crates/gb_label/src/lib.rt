@@ -11,7 +11,7 @@ mod completing;
 pub mod deciding;
 mod fault;
 pub mod inputs;
-mod listing;
+pub mod listing;
 pub mod look;
 pub mod outputs;
 pub mod prepare;

@@ -13,7 +13,7 @@ use gb_run::emptying::listed_outputs;
 use std::alloc::Global;
 
 /// Lists the outputs of a task. An error is the first odd thing there (14), or the machine's (3, 10).
-pub(crate) fn check_outputs<F: Folder>(
+pub fn check_outputs<F: Folder>(
     alloc: Global,
     folder: &mut F,
     task: &TaskDeclaration,

@@ -1,5 +1,5 @@
 -- What is the same, and what changed, of the parts of a record.
-use Rattle.std.proofs.Common.{◌≡◌, ◌≢◌, ◌==◌, ℕ, Bool, T, true, false, true≢false, ◌&&◌, cond, List, [], ◌∷◌, map, Option, Some, None, refl, sym, ap, ap₂, subst, ◌∙◌, bytes_eq}
+use Rattle.std.proofs.Common.{◌≡◌, ◌≢◌, ◌↔◌, ◌==◌, ℕ, Bool, T, true, false, true≢false, ◌&&◌, cond, List, [], ◌∷◌, map, Option, Some, None, refl, sym, ap, ap₂, subst, ◌∙◌, bytes_eq}
 use Rattle.std.proofs.lemmas.Bool.{and_parts}
 use Rattle.std.specs.Prelude.{IsTrue, is_some}
 use Rattle.std.specs.Cmp.{booleans_Decides, unsigned_Decides}
@@ -77,6 +77,20 @@ actions_back xs ys e = all_back is_action action_back xs ys e
 
 pub actions_own : (xs : List Action) → pointwise is_action xs xs ≡ true
 actions_own xs = own_pairs is_action action_own xs
+
+-- ---- What a test of sameness answers
+
+-- it answers as another one does that tells the same
+tested : {X : Type 0} {x y : X} (b c : Bool) → (IsTrue b ↔ (x ≡ y)) → (c ≡ true → x ≡ y) → (x ≡ y → c ≡ true) → b ≡ c
+tested true c says back own = sym (own (says.0 refl))
+tested false true says back own = says.1 (back refl)
+tested false false says back own = refl
+
+pub value_tested : (b : Bool) (x y : Value) → (IsTrue b ↔ (x ≡ y)) → b ≡ is_value x y
+value_tested b x y says = tested b (is_value x y) says (value_back x y) (λ same. subst (λ z. is_value x z ≡ true) same (value_own x))
+
+pub actions_tested : (b : Bool) (xs ys : List Action) → (IsTrue b ↔ (xs ≡ ys)) → b ≡ pointwise is_action xs ys
+actions_tested b xs ys says = tested b (pointwise is_action xs ys) says (actions_back xs ys) (λ same. subst (λ zs. pointwise is_action xs zs ≡ true) same (actions_own xs))
 
 form_back : (a b : Form) → is_form a b ≡ true → a ≡ b
 form_back forms.File forms.File e = refl

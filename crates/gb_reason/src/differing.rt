@@ -3,12 +3,13 @@ ghost use Rattle.std.specs.Prelude.{◌≡◌, ◌++◌, length, OnOk};
 ghost use Rattle.std.specs.Cmp.Lexicographic.{pointwise};
 ghost use Rattle.std.specs.List.{flat_map, zip};
 ghost use Rattle.gb_reason.specs.Reasons.{part};
+ghost use Rattle.gb_reason.specs.Same.{is_value};
 
 use crate::reason::{Reason, copied};
-use crate::same::Same;
 use gb_core::name::Name;
 use gb_core::value::Value;
 use gb_history::record::OutputRecord;
+use gb_history::same::Same;
 use gb_tree::changes::compare;
 use gb_tree::prints::Prints;
 use std::alloc::{AllocError, Global};
@@ -80,6 +81,13 @@ pub(crate) fn tell_part<T: Part>(
     Ok(())
 }
 
+/// Whether the two values are the same.
+fn is_value(one: &Value, other: &Value) -> bool
+    ensures { result ≡ is_value one.now other.now }
+{
+    one.is_same(other)
+}
+
 impl Part for (Name, Value) {
     ghost use Rattle.gb_reason.specs.Reasons.{has_name, of_value};
 
@@ -97,7 +105,7 @@ impl Part for (Name, Value) {
         alloc: Global,
         reasons: &mut Vec<Reason>,
     ) -> Result<(), AllocError> {
-        if !self.1.is_same(&other.1) {
+        if !is_value(&self.1, &other.1) {
             let name = self.0.copy()?;
             reasons.push(Reason::Value(name, self.1.copy(alloc)?, other.1.copy(alloc)?))?;
         }

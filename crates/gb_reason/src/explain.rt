@@ -1,5 +1,6 @@
 //! Why a task runs.
 ghost use Rattle.std.specs.Prelude.{◌≡◌, ◌↔◌, ◌++◌, [], IsTrue, IfOk};
+ghost use Rattle.std.specs.Cmp.Lexicographic.{pointwise};
 ghost use Rattle.std.specs.List.{AllByRecursion};
 ghost use Rattle.std.specs.Option.{option_copied};
 ghost use Rattle.std.specs.FinMap.Entries.{is_sorted};
@@ -9,13 +10,15 @@ ghost use Rattle.gb_history.specs.Decision.{Decides};
 ghost use Rattle.gb_history.specs.declared.decide.Decision.{Decision};
 ghost use Rattle.gb_reason.specs.Real.{HasPathsInOrder};
 ghost use Rattle.gb_reason.specs.Reasons.{differences, reasons_from, reasons_of};
+ghost use Rattle.gb_reason.specs.Same.{is_action};
 
 use crate::differing::tell_part;
 use crate::laws::none_is_up_to_date;
 use crate::reason::Reason;
-use crate::same::are_same;
 use gb_history::decide::Present;
 use gb_history::record::{OutputRecord, Record};
+use gb_history::same::are_same;
+use gb_plan::task::Action;
 use gb_tree::prints::Prints;
 use std::alloc::{AllocError, Global};
 
@@ -85,12 +88,19 @@ fn explain_from(alloc: Global, run: &Record, present: &Present) -> Result<Vec<Re
     differences(alloc, run, &present.now)
 }
 
+/// Whether the actions are the same, in one order.
+fn are_actions(old: &[Action], new: &[Action]) -> bool
+    ensures { result ≡ pointwise is_action old.now new.now }
+{
+    are_same(old, new)
+}
+
 /// How a run differs from another.
 fn differences(alloc: Global, old: &Record, new: &Record) -> Result<Vec<Reason>, AllocError>
     ensures { IfOk result (λ found. found.items ≡ differences old.now new.now) }
 {
     let mut reasons = Vec::new(alloc);
-    if !are_same(old.actions(), new.actions()) {
+    if !are_actions(old.actions(), new.actions()) {
         reasons.push(Reason::Actions)?;
     }
     let (was, is) = (old.values().as_slice(), new.values().as_slice());

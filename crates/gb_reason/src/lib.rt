@@ -7,5 +7,4 @@ mod differing;
 pub mod explain;
 pub mod laws;
 pub mod reason;
-mod same;
 pub mod text;

@@ -41,30 +41,30 @@ returns-in_err-check_not_of_machine-in-Err-clause-err g c = λ tells.
     at_err (λ r. IfErr r Cannot) residual.result p.0 c.in_err-check_not_of_machine-in-Err.field-0.0 p.1 p.2
     (subst Cannot (sym told.0) (machine_read task old _ _ c.in-Err.fault told.1 (cannot_print task old _ _ c.in-Err.fault c.requires.not_own (c.in-Err.ensures.err tells))))
 
-pub returns-in_ok-listed-in-Err-clause-none_odd : goal.returns-in_ok-listed-in-Err-clause-none_odd
-returns-in_ok-listed-in-Err-clause-none_odd g c = λ tells.
-    ap (listing_faults c.args.task.now) (sym (c.read_outputs.ensures.same tells)) ∙ c.in_ok-listed-in-Err.ensures.none_odd tells
+pub returns-in_ok-check_outputs-in-Err-clause-none_odd : goal.returns-in_ok-check_outputs-in-Err-clause-none_odd
+returns-in_ok-check_outputs-in-Err-clause-none_odd g c = λ tells.
+    ap (listing_faults c.args.task.now) (sym (c.read_outputs.ensures.same tells)) ∙ c.in_ok-check_outputs-in-Err.ensures.none_odd tells
 
-pub returns-in_ok-listed-in-Err-clause-found : goal.returns-in_ok-listed-in-Err-clause-found
-returns-in_ok-listed-in-Err-clause-found g c = λ tells inputs kinds agrees.
+pub returns-in_ok-check_outputs-in-Err-clause-found : goal.returns-in_ok-check_outputs-in-Err-clause-found
+returns-in_ok-check_outputs-in-Err-clause-found g c = λ tells inputs kinds agrees.
     let F = g.F.Folder in
     let task = c.args.task.now in
     let old : Contents = F.contents c.args.folder.now in
     let before = F.failures c.args.folder.now in
     let after = F.failures c.read_outputs.new.folder in
-    let none = ap (listing_faults task) (sym (c.read_outputs.ensures.same tells)) ∙ c.in_ok-listed-in-Err.ensures.none_odd tells in
+    let none = ap (listing_faults task) (sym (c.read_outputs.ensures.same tells)) ∙ c.in_ok-check_outputs-in-Err.ensures.none_odd tells in
     let has = outputs_grown task old before after c.in-Err.fault c.in_ok-check_not_of_machine-in-Err.ensures.ok none
     (cannot_print task old before after c.in-Err.fault c.requires.not_own (c.in-Err.ensures.err tells)) in
     (grown has, has)
 
-pub returns-in_err-listed-in-Err-clause-err : goal.returns-in_err-listed-in-Err-clause-err
-returns-in_err-listed-in-Err-clause-err g c = λ tells.
+pub returns-in_err-check_outputs-in-Err-clause-err : goal.returns-in_err-check_outputs-in-Err-clause-err
+returns-in_err-check_outputs-in-Err-clause-err g c = λ tells.
     let F = g.F.Folder in
     let task = c.args.task.now in
     let old : Contents = F.contents c.args.folder.now in
     let now : Contents = F.contents c.read_outputs.new.folder in
-    let residual = c.from_residual-in_err-listed-in-Err in
+    let residual = c.from_residual-in_err-check_outputs-in-Err in
     let p = err_from_is_err_and residual.result residual.ensures.1 in
     at_err (λ r. IfErr r (CannotRead (F.failures c.args.folder.now) (F.failures c.listed.new.folder) (listing_faults task old)))
-    residual.result p.0 c.in_err-listed-in-Err.field-0.0 p.1 p.2
-    (cannot_before task old now _ _ _ c.in_err-listed-in-Err.field-0.0 (c.read_outputs.ensures.same tells) c.read_outputs.ensures.asks.count c.listed.ensures.asks.count (c.in_err-listed-in-Err.ensures.err tells))
+    residual.result p.0 c.in_err-check_outputs-in-Err.field-0.0 p.1 p.2
+    (cannot_before task old now _ _ _ c.in_err-check_outputs-in-Err.field-0.0 (c.read_outputs.ensures.same tells) c.read_outputs.ensures.asks.count c.listed.ensures.asks.count (c.in_err-check_outputs-in-Err.ensures.err tells))
