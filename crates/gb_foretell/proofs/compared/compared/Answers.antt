@@ -65,6 +65,6 @@ returns-in_err-check_outputs-in-Err-clause-err g c = λ tells.
     let now : Contents = F.contents c.read_outputs.new.folder in
     let residual = c.from_residual-in_err-check_outputs-in-Err in
     let p = err_from_is_err_and residual.result residual.ensures.1 in
-    at_err (λ r. IfErr r (CannotRead (F.failures c.args.folder.now) (F.failures c.listed.new.folder) (listing_faults task old)))
+    at_err (λ r. IfErr r (CannotRead (F.failures c.args.folder.now) (F.failures c.check_outputs.new.folder) (listing_faults task old)))
     residual.result p.0 c.in_err-check_outputs-in-Err.field-0.0 p.1 p.2
-    (cannot_before task old now _ _ _ c.in_err-check_outputs-in-Err.field-0.0 (c.read_outputs.ensures.same tells) c.read_outputs.ensures.asks.count c.listed.ensures.asks.count (c.in_err-check_outputs-in-Err.ensures.err tells))
+    (cannot_before task old now _ _ _ c.in_err-check_outputs-in-Err.field-0.0 (c.read_outputs.ensures.same tells) c.read_outputs.ensures.asks.count c.check_outputs.ensures.asks.count (c.in_err-check_outputs-in-Err.ensures.err tells))
