@@ -31,7 +31,7 @@ use Rattle.gb_nodes.specs.Site.{Site}
 use Rattle.gb_nodes.specs.Wrong.{link_faults, root_faults}
 use Rattle.gb_nodes.proofs.ScriptLemmas.{among_front}
 use Rattle.gb_project.specs.Kept.{AreKept, IsKept, IsKeptAs}
-use Rattle.gb_project.specs.Stage.{Entry, Stage, output_of, output_row, put_output, row_made, with_outputs}
+use Rattle.gb_project.specs.Stage.{DeclaredTask, Stage, output_of, output_row, put_output, row_made, with_outputs}
 use Rattle.gb_project.proofs.ClearLemmas.{expressions_clear, row_good}
 use Rattle.gb_project.proofs.ListLemmas.{back_all, both_all, front_all}
 use Rattle.gb_project.proofs.OnceLemmas.{Apart, among_itself, apart_at, name_in, path_of}
@@ -74,7 +74,7 @@ module _ {M F Z S A : Type 0} (tables : Tables M F Z S A) (source : Source) wher
   Agree number numbers nodes = (i : ℕ) → i < length nodes → numbers i ≡ number i
 
   module _ (number numbers : ℕ → ℕ) (old new : List (Expression M F Z)) (agree : Agree number numbers old) (longer : length old ≤ length new) where
-    entry_stays : (at : Registered) (entry : Entry) → IsKept tables source number old at entry → IsKept tables source numbers new at entry
+    entry_stays : (at : Registered) (entry : DeclaredTask) → IsKept tables source number old at entry → IsKept tables source numbers new at entry
     entry_stays at entry kept = record {
       is_declared = kept.is_declared;
       build = kept.build;
@@ -83,13 +83,13 @@ module _ {M F Z S A : Type 0} (tables : Tables M F Z S A) (source : Source) wher
       patterns = kept.patterns;
     }
 
-    kept_as_stays : (at : Registered) (fault : Option Fault) (entry : Option Entry) → IsKeptAs tables source number old at fault entry → IsKeptAs tables source numbers new at fault entry
+    kept_as_stays : (at : Registered) (fault : Option Fault) (entry : Option DeclaredTask) → IsKeptAs tables source number old at fault entry → IsKeptAs tables source numbers new at fault entry
     kept_as_stays at None (Some entry) kept = entry_stays at entry kept
     kept_as_stays at None None kept = kept
     kept_as_stays at (Some fault) (Some entry) kept = kept
     kept_as_stays at (Some fault) None kept = kept
 
-    pub kept_stays : (done : List Registered) (faults : List (Option Fault)) (entries : List (Option Entry)) → AreKept tables source number old done faults entries → AreKept tables source numbers new done faults entries
+    pub kept_stays : (done : List Registered) (faults : List (Option Fault)) (entries : List (Option DeclaredTask)) → AreKept tables source number old done faults entries → AreKept tables source numbers new done faults entries
     kept_stays [] [] [] kept = tt
     kept_stays [] [] (e ∷ es) kept = kept
     kept_stays [] (f ∷ fs) es kept = kept
@@ -97,7 +97,7 @@ module _ {M F Z S A : Type 0} (tables : Tables M F Z S A) (source : Source) wher
     kept_stays (at ∷ done) (f ∷ fs) [] kept = kept
     kept_stays (at ∷ done) (f ∷ fs) (e ∷ es) kept = (kept_as_stays at f e kept.0, kept_stays done fs es kept.1)
 
-  pub kept_more : (number : ℕ → ℕ) (nodes : List (Expression M F Z)) (done : List Registered) (faults : List (Option Fault)) (entries : List (Option Entry)) (at : Registered) (fault : Option Fault) (entry : Option Entry)
+  pub kept_more : (number : ℕ → ℕ) (nodes : List (Expression M F Z)) (done : List Registered) (faults : List (Option Fault)) (entries : List (Option DeclaredTask)) (at : Registered) (fault : Option Fault) (entry : Option DeclaredTask)
       → AreKept tables source number nodes done faults entries → IsKeptAs tables source number nodes at fault entry → AreKept tables source number nodes (done ++ at ∷ []) (faults ++ fault ∷ []) (entries ++ entry ∷ [])
   kept_more number nodes [] [] [] at fault entry kept more = (more, tt)
   kept_more number nodes [] [] (e ∷ es) at fault entry kept more = absurd kept

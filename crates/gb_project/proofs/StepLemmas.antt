@@ -23,7 +23,7 @@ use Rattle.gb_nodes.specs.Site.{Site}
 use Rattle.gb_nodes.proofs.ScriptLemmas.{among_front}
 use Rattle.gb_evaluate.specs.Parts.{HavePatterns}
 use Rattle.gb_project.specs.Kept.{AreKept, IsKept}
-use Rattle.gb_project.specs.Stage.{Entry, Stage, with_declared}
+use Rattle.gb_project.specs.Stage.{DeclaredTask, Stage, with_declared}
 use Rattle.gb_project.proofs.ClearLemmas.{patterns_clear}
 use Rattle.gb_project.proofs.ListLemmas.{both_all}
 use Rattle.gb_project.proofs.OnceLemmas.{Apart, among_itself, name_in, path_of}
@@ -115,7 +115,7 @@ module _ {M F Z S A : Type 0} (tables : Tables M F Z S A) (source : Source) wher
             let longer : length stage.nodes ≤ length new.nodes = omega (arith, row_le, out_le) in
             let agrees : Agree tables source number outs.numbers stage.nodes = λ i below. outs.agrees i (omega (arith, below, row_le)) ∙ rows.agrees i below in
             let fault = no_fault tables source done back at task split is apart once in
-            let entry : Entry = record { build = site.build; task = task; row = mid.place } in
+            let entry : DeclaredTask = record { build = site.build; task = task; row = mid.place } in
             let kept : IsKept tables source outs.numbers new.nodes at entry = record {
               is_declared = is;
               build = is_at.right.build ∙ ap build_folder is_at.here;

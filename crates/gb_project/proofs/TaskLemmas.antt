@@ -17,11 +17,11 @@ use Rattle.gb_declare.specs.declared.registered.Joined as read
 use Rattle.gb_nodes.specs.Nodes.{Made, AreMade, behind, tree_made, trees_made}
 use Rattle.gb_nodes.specs.Site.{Site}
 use Rattle.gb_nodes.specs.Statements.{IsRun}
-use Rattle.gb_project.specs.Stage.{Stage, Entry, output_row, row_made, task_made, with_declared, with_outputs}
+use Rattle.gb_project.specs.Stage.{Stage, DeclaredTask, output_row, row_made, task_made, with_declared, with_outputs}
 use Rattle.gb_project.specs.Steps.{IsStaged}
 use Rattle.gb_project.specs.Views.{entries_of, entry_of, stage_of}
-use Rattle.gb_project.specs.declared.entry.Declared.{Declared}
-use Rattle.gb_project.specs.declared.entry.Entry as kept
+use Rattle.gb_project.specs.declared.declared_task.Declared.{Declared}
+use Rattle.gb_project.specs.declared.declared_task.DeclaredTask as kept
 
 -- ---- As many nodes as expressions
 
@@ -50,19 +50,19 @@ unless_holds faults x y none same = ap (λ fs. unless fs x) none ∙ ap Ok (sym 
 -- ---- One task more
 
 module _ {M F Z : Type 0} where
-  same_stage : (nodes nodes' : List (Expression M F Z)) (faults faults' : List (Option Fault)) (entries entries' : List (Option Entry)) → nodes ≡ nodes' → faults ≡ faults' → entries ≡ entries'
+  same_stage : (nodes nodes' : List (Expression M F Z)) (faults faults' : List (Option Fault)) (entries entries' : List (Option DeclaredTask)) → nodes ≡ nodes' → faults ≡ faults' → entries ≡ entries'
       → let one : Stage M F Z = record { nodes = nodes; faults = faults; entries = entries } in let other : Stage M F Z = record { nodes = nodes'; faults = faults'; entries = entries' } in one ≡ other
   same_stage nodes nodes' faults faults' entries entries' a b c =
-      let stage : List (Expression M F Z) → List (Option Fault) → List (Option Entry) → Stage M F Z = λ n f e. record { nodes = n; faults = f; entries = e } in
+      let stage : List (Expression M F Z) → List (Option Fault) → List (Option DeclaredTask) → Stage M F Z = λ n f e. record { nodes = n; faults = f; entries = e } in
       ap (λ n. stage n faults entries) a ∙ ap (λ f. stage nodes' f entries) b ∙ ap (λ e. stage nodes' faults' e) c
 
-entry_like : (build build' : List ℕ) (task : Joined) (row row' : List ℕ) → build ≡ build' → row ≡ row' → let one : Entry = record { build = build; task = task; row = row } in let other : Entry = record { build = build'; task = task; row = row' } in one ≡ other
+entry_like : (build build' : List ℕ) (task : Joined) (row row' : List ℕ) → build ≡ build' → row ≡ row' → let one : DeclaredTask = record { build = build; task = task; row = row } in let other : DeclaredTask = record { build = build'; task = task; row = row' } in one ≡ other
 entry_like build build' task row row' a b =
-    let entry : List ℕ → List ℕ → Entry = λ x y. record { build = x; task = task; row = y } in
+    let entry : List ℕ → List ℕ → DeclaredTask = λ x y. record { build = x; task = task; row = y } in
     ap (λ x. entry x row) a ∙ ap (λ y. entry build' y) b
 
 module _ {M F Z S : Type 0} (old new : Held M F Z S) (site : Site) (path : Path) (before after : Declared) where
-  module _ (mid : Held M F Z S) (task : read.Joined) (row : List Node) (entry : kept.Entry)
+  module _ (mid : Held M F Z S) (task : read.Joined) (row : List Node) (entry : kept.DeclaredTask)
       (made : AreMade old mid (row_made old.table site old.nodes (joined_of task)) row)
       (run : IsRun mid new (with_outputs path mid.nodes (joined_of task).outputs (output_row (joined_of task) (numbers_of row)))) where
     pub declared_one : entry.build ≡ site.build → entry.task ≡ task → entry.row.items ≡ row → after.faults.items ≡ before.faults.items ++ None ∷ [] → after.entries.items ≡ before.entries.items ++ Some entry ∷ []
@@ -73,14 +73,14 @@ module _ {M F Z S : Type 0} (old new : Held M F Z S) (site : Site) (path : Path)
         run.made ∙ ap (λ n. with_outputs path n (joined_of task).outputs (output_row (joined_of task) (numbers_of row))) made.nodes
         ∙ ap (λ r. with_outputs path (row_made old.table site old.nodes (joined_of task)).nodes (joined_of task).outputs (output_row (joined_of task) r)) made.numbers in
         let one : entry_of entry ≡ record { build = site.build; task = joined_of task; row = all.place } =
-        ap (λ (t : read.Joined). let e : Entry = record { build = entry.build; task = joined_of t; row = numbers_of entry.row.items } in e) said
+        ap (λ (t : read.Joined). let e : DeclaredTask = record { build = entry.build; task = joined_of t; row = numbers_of entry.row.items } in e) said
         ∙ entry_like entry.build site.build (joined_of task) (numbers_of entry.row.items) all.place build (ap numbers_of rows ∙ made.numbers) in
         record {
           table = run.table ∙ made.table;
           staged =
               same_stage new.nodes all.nodes after.faults.items (before.faults.items ++ None ∷ []) (entries_of after.entries.items)
               (entries_of before.entries.items ++ Some (record { build = site.build; task = joined_of task; row = all.place }) ∷ []) nodes faults
-              (ap entries_of entries ∙ map-append (option_map entry_of) before.entries.items (Some entry ∷ []) ∙ ap (λ (e : Entry). entries_of before.entries.items ++ Some e ∷ []) one);
+              (ap entries_of entries ∙ map-append (option_map entry_of) before.entries.items (Some entry ∷ []) ∙ ap (λ (e : DeclaredTask). entries_of before.entries.items ++ Some e ∷ []) one);
           grown = omega (arith, made.grown, run.grown);
         }
 

@@ -33,24 +33,24 @@ use Rattle.gb_evaluate.specs.Evaluated.{IsBuiltIn}
 use Rattle.gb_evaluate.specs.Rows.{AreWithin, TellsOf, numbers_in}
 use Rattle.gb_nodes.specs.Complete.{place_in_whole}
 use Rattle.gb_project.specs.Kept.{AreKept, IsKept, IsKeptAs}
-use Rattle.gb_project.specs.Stage.{Entry}
+use Rattle.gb_project.specs.Stage.{DeclaredTask}
 use Rattle.gb_project.specs.Views.{entries_of, entry_of, stage_of}
 use Rattle.gb_project.specs.Workspace.{IsKeptIn}
-use Rattle.gb_project.specs.declared.entry.Declared.{Declared}
-use Rattle.gb_project.specs.declared.entry.Entry as coded
+use Rattle.gb_project.specs.declared.declared_task.Declared.{Declared}
+use Rattle.gb_project.specs.declared.declared_task.DeclaredTask as coded
 use Rattle.gb_project.proofs.PlaceLemmas.{never, some_same}
 
 module _ {M F Z S A : Type 0} (tables : Tables M F Z S A) (source : Source) (number : ℕ → ℕ) (nodes : List (Expression M F Z)) where
   abbrev fault_of : Registered → Option Fault
   fault_of at = fault_in (declared tables source.names source.said at)
 
-  fault_as : (at : Registered) (fault : Option Fault) (entry : Option Entry) → IsKeptAs tables source number nodes at fault entry → fault ≡ fault_of at
+  fault_as : (at : Registered) (fault : Option Fault) (entry : Option DeclaredTask) → IsKeptAs tables source number nodes at fault entry → fault ≡ fault_of at
   fault_as at None (Some entry) kept = sym (ap fault_in kept.is_declared)
   fault_as at None None kept = absurd kept
   fault_as at (Some fault) (Some entry) kept = absurd kept
   fault_as at (Some fault) None kept = sym (ap fault_in kept)
 
-  pub faults_are : (ats : List Registered) (faults : List (Option Fault)) (entries : List (Option Entry)) → AreKept tables source number nodes ats faults entries → faults ≡ map fault_of ats
+  pub faults_are : (ats : List Registered) (faults : List (Option Fault)) (entries : List (Option DeclaredTask)) → AreKept tables source number nodes ats faults entries → faults ≡ map fault_of ats
   faults_are [] [] [] kept = refl
   faults_are [] [] (e ∷ es) kept = absurd kept
   faults_are [] (f ∷ fs) es kept = absurd kept
@@ -59,14 +59,14 @@ module _ {M F Z S A : Type 0} (tables : Tables M F Z S A) (source : Source) (num
   faults_are (at ∷ ats) (f ∷ fs) (e ∷ es) kept = ap (λ x. x ∷ fs) (fault_as at f e kept.0) ∙ ap (λ xs. fault_of at ∷ xs) (faults_are ats fs es kept.1)
 
   -- what is kept of one of them
-  pub record IsThere (at : Registered) (faults : List (Option Fault)) (entries : List (Option Entry)) (i : ℕ) : Type 0 where
+  pub record IsThere (at : Registered) (faults : List (Option Fault)) (entries : List (Option DeclaredTask)) (i : ℕ) : Type 0 where
     pub fault : Option Fault
-    pub entry : Option Entry
+    pub entry : Option DeclaredTask
     pub fault_there : slice_get faults i ≡ Some fault
     pub entry_there : slice_get entries i ≡ Some entry
     pub kept : IsKeptAs tables source number nodes at fault entry
 
-  pub kept_at : (ats : List Registered) (faults : List (Option Fault)) (entries : List (Option Entry)) (i : ℕ) (at : Registered) → AreKept tables source number nodes ats faults entries → slice_get ats i ≡ Some at → IsThere at faults entries i
+  pub kept_at : (ats : List Registered) (faults : List (Option Fault)) (entries : List (Option DeclaredTask)) (i : ℕ) (at : Registered) → AreKept tables source number nodes ats faults entries → slice_get ats i ≡ Some at → IsThere at faults entries i
   kept_at [] faults entries i at kept is = absurd (cc)
   kept_at (a ∷ ats) [] es i at kept is = absurd kept
   kept_at (a ∷ ats) (f ∷ fs) [] i at kept is = absurd kept
@@ -147,7 +147,7 @@ module _ {M F Z S A : Type 0} (tables : Tables M F Z S A) (source : Source) (nod
   its_fault : (told : Option Fault) → told ≡ get_or all.faults.items index told → there.fault ≡ told
   its_fault told at = some_same there.fault told (sym there.fault_there ∙ slice_get_read all.faults.items (length all.faults.items) index told refl fault_within at)
 
-  its_entry : (e : Option coded.Entry) → e ≡ get_or all.entries.items index e → there.entry ≡ option_map entry_of e
+  its_entry : (e : Option coded.DeclaredTask) → e ≡ get_or all.entries.items index e → there.entry ≡ option_map entry_of e
   its_entry e at =
       some_same there.entry (option_map entry_of e)
       (sym there.entry_there ∙ slice_get-map (option_map entry_of) all.entries.items index
@@ -160,22 +160,22 @@ module _ {M F Z S A : Type 0} (tables : Tables M F Z S A) (source : Source) (nod
   at_fault told fault at some =
       realised_is ∙ ap (realised_at tables source it.at) (by there.entry (subst (λ f. IsKeptAs tables source number nodes it.at f there.entry) (its_fault told at ∙ some) there.kept))
     where
-      by : (e : Option Entry) → IsKeptAs tables source number nodes it.at (Some fault) e → result_of it.at ≡ Err fault
+      by : (e : Option DeclaredTask) → IsKeptAs tables source number nodes it.at (Some fault) e → result_of it.at ≡ Err fault
       by None declared_is = declared_is
       by (Some entry) none = absurd none
 
-  kept_of : (told : Option Fault) (e : Option coded.Entry) → told ≡ get_or all.faults.items index told → told ≡ None → e ≡ get_or all.entries.items index e → IsKeptAs tables source number nodes it.at None (option_map entry_of e)
+  kept_of : (told : Option Fault) (e : Option coded.DeclaredTask) → told ≡ get_or all.faults.items index told → told ≡ None → e ≡ get_or all.entries.items index e → IsKeptAs tables source number nodes it.at None (option_map entry_of e)
   kept_of told e at none at_e =
       subst (IsKeptAs tables source number nodes it.at None) (its_entry e at_e) (subst (λ f. IsKeptAs tables source number nodes it.at f there.entry) (its_fault told at ∙ none) there.kept)
 
-  pub entry_is : (told : Option Fault) (e : Option coded.Entry) → told ≡ get_or all.faults.items index told → told ≡ None → e ≡ get_or all.entries.items index e → e ≡ None → ⊥
+  pub entry_is : (told : Option Fault) (e : Option coded.DeclaredTask) → told ≡ get_or all.faults.items index told → told ≡ None → e ≡ get_or all.entries.items index e → e ≡ None → ⊥
   entry_is told e at none at_e gone = subst (λ o. IsKeptAs tables source number nodes it.at None (option_map entry_of o)) gone (kept_of told e at none at_e)
 
-  pub entry_kept : (told : Option Fault) (e : Option coded.Entry) (entry : coded.Entry) → told ≡ get_or all.faults.items index told → told ≡ None → e ≡ get_or all.entries.items index e → e ≡ Some entry
+  pub entry_kept : (told : Option Fault) (e : Option coded.DeclaredTask) (entry : coded.DeclaredTask) → told ≡ get_or all.faults.items index told → told ≡ None → e ≡ get_or all.entries.items index e → e ≡ Some entry
       → IsKept tables source number nodes it.at (entry_of entry)
   entry_kept told e entry at none at_e some = subst (λ o. IsKeptAs tables source number nodes it.at None (option_map entry_of o)) some (kept_of told e at none at_e)
 
-  module _ (entry : coded.Entry) (is_kept : IsKept tables source number nodes it.at (entry_of entry)) where
+  module _ (entry : coded.DeclaredTask) (is_kept : IsKept tables source number nodes it.at (entry_of entry)) where
     pub row_within : AreWithin nodes entry.row.items
     row_within = nodes_within (length nodes) entry.row.items is_kept.within
 

@@ -14,13 +14,13 @@ use Rattle.gb_registry.specs.Source.{Source}
 use Rattle.gb_registry.specs.Tables.{Tables}
 use Rattle.gb_report.specs.declared.fault.Fault.{Fault}
 use Rattle.gb_script.specs.declared.script.Statement.{Statement}
-use Rattle.gb_project.specs.Stage.{AreAllGood, Entry, Stage, begun, with_scripts}
+use Rattle.gb_project.specs.Stage.{AreAllGood, DeclaredTask, Stage, begun, with_scripts}
 
 module _ {M F Z S A : Type 0} (tables : Tables M F Z S A) (source : Source) where
   module _ (number : ℕ → ℕ) (nodes : List (Expression M F Z)) where
     -- What is kept of a task is what it declares: the folder of what its project builds, and its expressions
     -- in a row, each by its number in the whole table; and its patterns are some.
-    pub record IsKept (at : Registered) (entry : Entry) : Type 0 where
+    pub record IsKept (at : Registered) (entry : DeclaredTask) : Type 0 where
       pub is_declared : declared tables source.names source.said at ≡ Ok entry.task
       pub build : entry.build ≡ build_folder at.project
       pub within : AllByRecursion (λ place. place < length nodes) entry.row
@@ -28,14 +28,14 @@ module _ {M F Z S A : Type 0} (tables : Tables M F Z S A) (source : Source) wher
       pub patterns : HavePatterns entry.task.files
 
     -- of a task that is declared this, and of one at fault its fault
-    abbrev pub IsKeptAs : Registered → Option Fault → Option Entry → Type 0
+    abbrev pub IsKeptAs : Registered → Option Fault → Option DeclaredTask → Type 0
     IsKeptAs at None (Some entry) = IsKept at entry
     IsKeptAs at None None = ⊥
     IsKeptAs at (Some fault) (Some entry) = ⊥
     IsKeptAs at (Some fault) None = declared tables source.names source.said at ≡ Err fault
 
     -- of one task after another
-    abbrev pub AreKept : List Registered → List (Option Fault) → List (Option Entry) → Type 0
+    abbrev pub AreKept : List Registered → List (Option Fault) → List (Option DeclaredTask) → Type 0
     AreKept [] [] [] = Unit {0}
     AreKept (at ∷ tasks) (fault ∷ faults) (entry ∷ entries) =
         IsKeptAs at fault entry × AreKept tasks faults entries

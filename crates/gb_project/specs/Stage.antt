@@ -26,7 +26,7 @@ use Rattle.gb_project.specs.Tasks.{script_tasks}
 
 -- A declared task: the folder of what its project builds, what its clauses say together, and the numbers of
 -- its expressions, in the order in which they are evaluated.
-pub record Entry : Type 0 where
+pub record DeclaredTask : Type 0 where
   pub build : List ℕ
   pub task : Joined
   pub row : List ℕ
@@ -35,7 +35,7 @@ pub record Entry : Type 0 where
 pub record Stage (M F Z : Type 0) : Type 0 where
   pub nodes : List (Expression M F Z)
   pub faults : List (Option Fault)
-  pub entries : List (Option Entry)
+  pub entries : List (Option DeclaredTask)
 
 -- no task yet
 abbrev pub begun : {M F Z : Type 0} → List (Expression M F Z) → Stage M F Z

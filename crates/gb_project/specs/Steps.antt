@@ -15,7 +15,7 @@ use Rattle.gb_report.specs.declared.fault.Fault.{Fault}
 use Rattle.gb_script.specs.declared.script.Statement.{Statement}
 use Rattle.gb_project.specs.Stage.{Stage, IsGood, declared_in, with_task}
 use Rattle.gb_project.specs.Views.{stage_of}
-use Rattle.gb_project.specs.declared.entry.Declared.{Declared}
+use Rattle.gb_project.specs.declared.declared_task.Declared.{Declared}
 
 -- where the expressions of each of these projects stand, once its script is laid
 abbrev pub laid_sites : List (Named (List ℕ)) → List (Path × List Statement) → List Laid → List Site

@@ -6,7 +6,7 @@
 #![tactic(auto)]
 
 mod blocks;
-mod entry;
+mod declared_task;
 mod named;
 mod outputs;
 mod properties;

@@ -17,7 +17,7 @@ ghost use Rattle.gb_project.specs.Tasks.{registered_in, script_tasks};
 ghost use Rattle.gb_project.specs.Views.{stage_of};
 
 use crate::blocks::{Blocks, blocks_by_name};
-use crate::entry::Declared;
+use crate::declared_task::Declared;
 use crate::properties::properties_of;
 use crate::registering::registered;
 use crate::tasks::declare_task;

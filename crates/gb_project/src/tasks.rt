@@ -16,7 +16,7 @@ ghost use Rattle.gb_project.specs.Stage.{IsGood, output_row, row_made, with_decl
 ghost use Rattle.gb_project.specs.Steps.{IsStaged, declared_within};
 ghost use Rattle.gb_project.specs.Views.{stage_of};
 
-use crate::entry::{Declared, Entry};
+use crate::declared_task::{Declared, DeclaredTask};
 use crate::outputs::declare_outputs;
 use gb_action::actions::Actions;
 use gb_core::path::TaskPath;
@@ -105,7 +105,9 @@ fn add_declared<'a, T: Transforms>(
     add_outputs(alloc, providers, path, &task, row.as_slice())?;
     let build = site.build.copy()?;
     declared.faults.push(None)?;
-    declared.entries.push(Some(Entry { build, task, row }))?;
+    declared
+        .entries
+        .push(Some(DeclaredTask { build, task, row }))?;
     Ok(())
 }
 

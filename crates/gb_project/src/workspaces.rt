@@ -18,7 +18,7 @@ ghost use Rattle.gb_project.specs.Steps.{laid_sites};
 ghost use Rattle.gb_project.specs.Views.{stage_of};
 ghost use Rattle.gb_project.specs.Workspace.{IsKeptIn};
 
-use crate::entry::{Declared, Entry};
+use crate::declared_task::{Declared, DeclaredTask};
 use crate::scripts::{declare_scripts, lay_scripts};
 use crate::tasks::want_of_memory;
 use gb_action::actions::Actions;
@@ -96,7 +96,7 @@ fn evaluated_entry<A: Actions, T: Transforms>(
     context: &Context<'_, A, T>,
     providers: &mut Providers<'_, T>,
     path: &TaskPath,
-    entry: &Entry<'_>,
+    entry: &DeclaredTask<'_>,
 ) -> Result<TaskDeclaration, Fault>
     requires within { AreWithin providers.old.nodes entry.now.row.items }
     requires count { length entry.now.row.items ≡ length (trees_of (joined_of entry.now.task)) }

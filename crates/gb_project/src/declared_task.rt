@@ -6,7 +6,7 @@ use gb_report::fault::Fault;
 
 /// A task that is declared.
 #[derive(Drop)]
-pub struct Entry<'a> {
+pub struct DeclaredTask<'a> {
     /// The folder of what its project builds.
     pub build: Place,
     /// What its clauses say together.
@@ -21,5 +21,5 @@ pub struct Declared<'a> {
     /// Of each why it is not declared.
     pub faults: Vec<Option<Fault>>,
     /// Of each what it declares.
-    pub entries: Vec<Option<Entry<'a>>>,
+    pub entries: Vec<Option<DeclaredTask<'a>>>,
 }
