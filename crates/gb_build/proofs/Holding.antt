@@ -23,7 +23,7 @@ use Rattle.gb_meaning.proofs.Lemmas.Weaker.{builds_weaker}
 use Rattle.gb_plan.specs.Graph.{IsRegistry, Plan, Registry, order}
 use Rattle.gb_plan.specs.declared.task.TaskDeclaration.{TaskDeclaration as Task}
 use Rattle.gb_plan.proofs.Tests.{left_of, no_longer, not_true, right_of}
-use Rattle.gb_history.specs.Remembered.{Remembered}
+use Rattle.gb_history.specs.Record.{Record}
 use Rattle.gb_records.specs.Said.{IsReadAt}
 use Rattle.gb_records.specs.Standing.{Standing}
 use Rattle.gb_records.proofs.Told.{stands_for_memory}
@@ -133,14 +133,14 @@ module _ (kinds : Kinds) (registry_of : Registering) (may_leave : Tearing) (regi
       planned_so = record { registry = registry; scripts = refl; request = is_plan.0; asked = is_plan.1; planned = is_plan.2 }
 
   -- what a build of the plan is, by what was read before it in a folder of these contents
-  abbrev pub GivesBuild : Tearing → ℕ → List (Option Remembered) → Contents → Type 0
+  abbrev pub GivesBuild : Tearing → ℕ → List (Option Record) → Contents → Type 0
   GivesBuild second failures records contents =
       (remembered : Memory) (clear : Bool) (seen : List Bytes) → (IsTrue clear → AreWorth kinds plan records seen contents remembered)
       → HasBuilt (setting_with kinds registry_of second) clear seen invocation.options plan
       (record { contents = contents; remembered = remembered; failures = failures }) report.tasks end
 
   module _ (mid : Shown) (same : mid.contents ≡ old.contents) (earlier : old.failures ≤ mid.failures) (second : Tearing) (alike : SameTearing may_leave second)
-      (records : List (Option Remembered)) (read : invocation.options.dry_run ≡ false → AllZip (IsReadAt old.contents.files) (order plan) records)
+      (records : List (Option Record)) (read : invocation.options.dry_run ≡ false → AllZip (IsReadAt old.contents.files) (order plan) records)
       (builds : GivesBuild second mid.failures records mid.contents)
       (remembered : Memory) (clear : Bool) (seen : List Bytes) (worth : IsTrue clear → StandsSeen setting seen (state_of old remembered)) where
     -- all was clear before, and this is no dry run

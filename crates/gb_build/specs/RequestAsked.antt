@@ -5,7 +5,7 @@ use Rattle.gb_action.specs.Meanings.{Meanings}
 use Rattle.gb_exec.specs.Asking.{WereCurrent, in_build}
 use Rattle.gb_folder.specs.Calls.{Asks, Call, no_change}
 use Rattle.gb_folder.specs.Files.{Tearing}
-use Rattle.gb_history.specs.Remembered.{Remembered}
+use Rattle.gb_history.specs.Record.{Record}
 use Rattle.gb_meaning.specs.Outline.{IsOutlinedBy}
 use Rattle.gb_meaning.specs.declared.events.Invocation.{Invocation}
 use Rattle.gb_plan.specs.Graph.{Plan, Registry, order}
@@ -23,7 +23,7 @@ pub record PlanAsks {F S : Type 0} (failures : F → ℕ) (may_leave : F → Tea
     (asked : F → Call → F → Type 0) (meanings : Meanings S) (rows : Rows S) (options : Options)
     (plan : Plan) (reports : List TaskReport)
     (old new : F) : Type 0 where
-  pub records : List (Option Remembered)
+  pub records : List (Option Record)
   pub begun : F
   pub first : Asks failures may_leave asked no_change old begun
   pub answered : options.dry_run ≡ false

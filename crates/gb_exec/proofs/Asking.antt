@@ -8,7 +8,7 @@ use Rattle.gb_action.specs.Meanings.{Meanings}
 use Rattle.gb_folder.specs.Calls.{Asks, Call, changes_at}
 use Rattle.gb_folder.specs.Files.{Bytes, Place, Tearing, is_empty}
 use Rattle.gb_folder.proofs.Asked.{asks_more, change_at}
-use Rattle.gb_history.specs.Remembered.{Remembered}
+use Rattle.gb_history.specs.Record.{Record}
 use Rattle.gb_plan.specs.Ready.{Rows}
 use Rattle.gb_plan.specs.declared.plan.Planned.{Planned}
 use Rattle.gb_report.specs.declared.report.Options.{Options}
@@ -32,7 +32,7 @@ turn_of_plan plan number planned is place of =
     (ap (λ (p : Planned). is_of_turn p.task place) (get_or_from_slice_get plan number planned planned is) ∙ of)
 
 module _ {F S : Type 0} (failures : F → ℕ) (may_leave : F → Tearing) (asked : F → Call → F → Type 0) (begun : F) (meanings : Meanings S) (rows : Rows S) (options : Options) (plan : List Planned)
-    (records : List (Option Remembered)) where
+    (records : List (Option Record)) where
   permitted_turn : (number : ℕ) (planned : Planned) → slice_get plan number ≡ Some planned → (from : F) → Asks failures may_leave asked (changes_at (is_of_turns plan)) begun from
       → (place : Place) (next : Option Bytes)
       → once (HasRead failures may_leave asked from planned.task)
@@ -78,7 +78,7 @@ report_at (first ∷ reports) report (suc number) other is = elim (report_at rep
   | inr last ↦ inr (omega (arith, last.0), last.1)
 ]
 
-module _ {F : Type 0} (failures : F → ℕ) (may_leave : F → Tearing) (asked : F → Call → F → Type 0) (begun : F) (options : Options) (plan : List Planned) (records : List (Option Remembered)) where
+module _ {F : Type 0} (failures : F → ℕ) (may_leave : F → Tearing) (asked : F → Call → F → Type 0) (begun : F) (options : Options) (plan : List Planned) (records : List (Option Record)) where
   -- no report is told yet
   pub none_current : (reports : List TaskReport) → reports ≡ [] → WereCurrent failures may_leave asked begun options plan records reports
   none_current reports none number planned report at is = absurd (let e : slice_get [] number ≡ Some report = subst (λ (rs : List TaskReport). slice_get rs number ≡ Some report) none is in past number report e)
@@ -100,7 +100,7 @@ module _ {F : Type 0} (failures : F → ℕ) (may_leave : F → Tearing) (asked 
   ]
 
   -- a turn of the plan
-  pub turn_current : (planned : Planned) (last : Option Remembered) (report : TaskReport) (old new : F) → Asks failures may_leave asked (changes_at (is_of_turns plan)) begun old
+  pub turn_current : (planned : Planned) (last : Option Record) (report : TaskReport) (old new : F) → Asks failures may_leave asked (changes_at (is_of_turns plan)) begun old
       → IsToldCurrent failures may_leave asked options planned.task last old new report.outcome
       → WasCurrent failures may_leave asked begun options plan planned last report
   turn_current planned last report old new way told = λ is acts. (old, new, way, told is acts)
@@ -114,7 +114,7 @@ dry_skipped (planned ∷ plan) (suc number) report is = dry_skipped plan number 
 skipped_not_current : (outcome : Outcome) → outcome ≡ outcomes.Skipped → ¬ (outcome ≡ outcomes.UpToDate)
 skipped_not_current outcome is told = absurd (let e : outcomes.Skipped ≡ outcomes.UpToDate = sym is ∙ told in (cc))
 
-pub dry_current : {F : Type 0} (failures : F → ℕ) (may_leave : F → Tearing) (asked : F → Call → F → Type 0) (begun : F) (options : Options) (plan : List Planned) (records : List (Option Remembered))
+pub dry_current : {F : Type 0} (failures : F → ℕ) (may_leave : F → Tearing) (asked : F → Call → F → Type 0) (begun : F) (options : Options) (plan : List Planned) (records : List (Option Record))
     → WereCurrent failures may_leave asked begun options plan records (dry_reports plan)
 dry_current failures may_leave asked begun options plan records number planned report at is told acts =
     absurd (skipped_not_current report.outcome (dry_skipped plan number report is) told)

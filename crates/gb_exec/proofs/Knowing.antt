@@ -7,7 +7,7 @@ use Rattle.gb_turn.specs.Case.{IsKnown}
 use Rattle.gb_turn.specs.Known.{WhatIsReadIsKnown}
 use Rattle.gb_core.specs.Path.{is_task_path}
 use Rattle.gb_folder.specs.Files.{Bytes, Contents, Files, IsFolder, are_placed, is_empty, is_own}
-use Rattle.gb_history.specs.Remembered.{Remembered}
+use Rattle.gb_history.specs.Record.{Record}
 use Rattle.gb_meaning.specs.Kinds.{Kinds}
 use Rattle.gb_meaning.specs.Memory.{Memory, World, folder_contents, recalled}
 use Rattle.gb_meaning.specs.TrueRecord.{AreApart, contents_of}
@@ -22,7 +22,7 @@ use Rattle.std.specs.Cmp.Lexicographic.{bytes_decides}
 use Rattle.gb_exec.specs.Built.{AreWorth}
 
 -- what was read of the task of a number
-pub read_at : (files : Files) (plan : List Planned) (records : List (Option Remembered)) (index : ℕ) (planned : Planned) → AllZip (IsReadAt files) (order plan) records
+pub read_at : (files : Files) (plan : List Planned) (records : List (Option Record)) (index : ℕ) (planned : Planned) → AllZip (IsReadAt files) (order plan) records
     → slice_get plan index ≡ Some planned → IsReadAt files planned.task.path (slice_index_or records index None)
 read_at files [] records index planned read is = none_some is
 read_at files (p ∷ plan) [] index planned read is = absurd read
@@ -35,7 +35,7 @@ among_of some all h c e =
     let same : c ≡ found.1 = (bytes_decides c found.1).0 found.3 in
     contains_any (bytes_eq c) all c (h c (subst (Contains some) (sym same) (contained some found.0 found.1 found.2))) (itself c)
 
-pub knows : (law : WhatIsReadIsKnown) (kinds : Kinds) (plan : List Planned) (records : List (Option Remembered)) (seen seen_now : List Bytes) (start : Contents) (remembered : Memory) (world : World)
+pub knows : (law : WhatIsReadIsKnown) (kinds : Kinds) (plan : List Planned) (records : List (Option Record)) (seen seen_now : List Bytes) (start : Contents) (remembered : Memory) (world : World)
     (index : ℕ) (planned : Planned) → slice_get plan index ≡ Some planned → AreWorth kinds plan records seen start remembered → IsTrue (is_task_path planned.task.path)
     → recalled world.memory planned.task.path ≡ recalled remembered planned.task.path → IsFolder world.folder.files → IsTrue (are_placed world.folder.files)
     → list_any (λ output. is_own output.place) planned.task.outputs ≡ false → Among seen seen_now

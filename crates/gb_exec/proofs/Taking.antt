@@ -5,7 +5,7 @@ use Rattle.std.proofs.Common.{zero, suc, refl, sym, ap, subst, ◌∙◌, inl, i
 use Rattle.gb_turn.specs.Case.{IsKnown}
 use Rattle.gb_core.specs.Place.{overlaps}
 use Rattle.gb_folder.specs.Files.{Contents, Place, Tearing}
-use Rattle.gb_history.specs.Remembered.{Remembered}
+use Rattle.gb_history.specs.Record.{Record}
 use Rattle.gb_meaning.specs.Kinds.{Kinds}
 use Rattle.gb_meaning.specs.Label.{Moment}
 use Rattle.gb_meaning.specs.Memory.{World, recalled}
@@ -44,7 +44,7 @@ own_apart (p ∷ plan) (suc index) planned is e = own_apart plan index planned i
 
 -- ---- What was read
 
-pub read_so : (kinds : Kinds) (task : Task) (world : World) (read : Option Remembered) → IsKnown kinds task world read → is_some (recalled world.memory task.path) ≡ is_some read
+pub read_so : (kinds : Kinds) (task : Task) (world : World) (read : Option Record) → IsKnown kinds task world read → is_some (recalled world.memory task.path) ≡ is_some read
 read_so kinds task world None known = ap is_some known
 read_so kinds task world (Some run) known = ap is_some known.1
 

@@ -3,7 +3,7 @@ use Rattle.std.specs.Prelude.{ℕ, ◌≡◌, false, List, Option, Some, None, s
 use Rattle.gb_action.specs.Meanings.{Meanings}
 use Rattle.gb_folder.specs.Calls.{Asks, Call, Permit, changes_at}
 use Rattle.gb_folder.specs.Files.{Tearing, is_empty}
-use Rattle.gb_history.specs.Remembered.{Remembered}
+use Rattle.gb_history.specs.Record.{Record}
 use Rattle.gb_plan.specs.Ready.{Rows}
 use Rattle.gb_plan.specs.declared.plan.Planned.{Planned}
 use Rattle.gb_report.specs.declared.report.Options.{Options}
@@ -17,7 +17,7 @@ use Rattle.gb_exec.specs.Building.{is_of_turns}
 -- goes by was answered. The turn starts from a state of the folder to which turns of the plan led since the
 -- build began.
 unfoldable pub in_turns : {F S : Type 0} → (F → ℕ) → (F → Tearing) → (F → Call → F → Type 0) → F
-    → Meanings S → Rows S → Options → List Planned → List (Option Remembered) → Permit
+    → Meanings S → Rows S → Options → List Planned → List (Option Record) → Permit
 in_turns {F = F} failures may_leave asked begun meanings rows options plan records place next =
     (number : ℕ) × (planned : Planned) × (slice_get plan number ≡ Some planned)
     × (from : F) × Asks failures may_leave asked (changes_at (is_of_turns plan)) begun from
@@ -27,7 +27,7 @@ in_turns {F = F} failures may_leave asked begun meanings rows options plan recor
 
 -- the same in a build; in a dry run nothing
 unfoldable pub in_build : {F S : Type 0} → (F → ℕ) → (F → Tearing) → (F → Call → F → Type 0) → F
-    → Meanings S → Rows S → Options → List Planned → List (Option Remembered) → Permit
+    → Meanings S → Rows S → Options → List Planned → List (Option Record) → Permit
 in_build failures may_leave asked begun meanings rows options plan records place next =
     (options.dry_run ≡ false)
     × in_turns failures may_leave asked begun meanings rows options plan records place next
@@ -35,7 +35,7 @@ in_build failures may_leave asked begun meanings rows options plan records place
 -- Where a task that has actions is told up to date, it was found so by the record that was read of it, on
 -- what calls answered after the build began, from a state to which turns of the plan led.
 abbrev pub WasCurrent : {F : Type 0} → (F → ℕ) → (F → Tearing) → (F → Call → F → Type 0) → F → Options
-    → List Planned → Planned → Option Remembered → TaskReport → Type 0
+    → List Planned → Planned → Option Record → TaskReport → Type 0
 WasCurrent {F = F} failures may_leave asked begun options plan planned last report =
     report.outcome ≡ outcomes.UpToDate → is_empty planned.task.actions ≡ false
     → (from : F) × (to : F) × Asks failures may_leave asked (changes_at (is_of_turns plan)) begun from
@@ -43,7 +43,7 @@ WasCurrent {F = F} failures may_leave asked begun options plan planned last repo
 
 -- so it is with each report
 abbrev pub WereCurrent : {F : Type 0} → (F → ℕ) → (F → Tearing) → (F → Call → F → Type 0) → F → Options
-    → List Planned → List (Option Remembered) → List TaskReport → Type 0
+    → List Planned → List (Option Record) → List TaskReport → Type 0
 WereCurrent failures may_leave asked begun options plan records reports =
     (number : ℕ) (planned : Planned) (report : TaskReport) → slice_get plan number ≡ Some planned
     → slice_get reports number ≡ Some report

@@ -2,7 +2,7 @@
 use Rattle.std.specs.Prelude.{ℕ, Bool, List, Option, IsTrue, Contains}
 use Rattle.std.specs.List.{AllByRecursion, AllZip, flat_map}
 use Rattle.gb_folder.specs.Files.{Bytes, Contents}
-use Rattle.gb_history.specs.Remembered.{Remembered}
+use Rattle.gb_history.specs.Record.{Record}
 use Rattle.gb_meaning.specs.Edits.{Shown}
 use Rattle.gb_meaning.specs.Events.{Setting, State, own_files, rules_in, world_in}
 use Rattle.gb_meaning.specs.Headline.{StillClear, seen_with, state_of}
@@ -22,7 +22,7 @@ use Rattle.gb_report.specs.declared.report.TaskReport.{TaskReport}
 
 -- The records of what is remembered stand in the folder, and all of it is true; these are what was read of
 -- the plan's tasks; and all contents that are remembered were seen.
-pub record AreWorth (kinds : Kinds) (plan : Plan) (records : List (Option Remembered)) (seen : List Bytes)
+pub record AreWorth (kinds : Kinds) (plan : Plan) (records : List (Option Record)) (seen : List Bytes)
     (folder : Contents) (remembered : Memory) : Type 0 where
   pub standing : Standing folder.files remembered
   pub made : AllByRecursion (λ entry. IsMade kinds entry.1) remembered

@@ -5,12 +5,12 @@ use Rattle.std.proofs.Common.{refl, sym, ap, subst, ◌∙◌, inl, inr, true≢
 use Rattle.gb_turn.specs.Turns.{goes_by_changes}
 use Rattle.gb_core.specs.Lists.{first_of}
 use Rattle.gb_folder.specs.Files.{Contents, is_empty}
-use Rattle.gb_history.specs.Remembered.{Remembered}
+use Rattle.gb_history.specs.Record.{Record}
 use Rattle.gb_history.specs.declared.decide.Decision.{Decision}
 use Rattle.gb_history.specs.declared.decide.Decision.TheVariants as decisions
 use Rattle.gb_history.specs.declared.decide.Present.{Present}
 use Rattle.gb_history.specs.declared.record.OutputRecord.{OutputRecord}
-use Rattle.gb_history.specs.Remembered.{Prints}
+use Rattle.gb_history.specs.Record.{Prints}
 use Rattle.gb_label.specs.Deciding.{IsDecided, IsGrown, IsPresentOf, anew, by_record, forgotten}
 use Rattle.gb_label.specs.Looking.{IsHindered}
 use Rattle.gb_label.proofs.Cases.{by_source, cannot_before, hindered_at_outputs}
@@ -36,14 +36,14 @@ use Rattle.gb_foretell.specs.declared.coming.Coming.TheVariants as comings
 -- ---- Reasons
 
 -- the reasons by what of the present they hang on
-abbrev by_parts : Remembered → Remembered → Bool → Bool → List Reason
+abbrev by_parts : Record → Record → Bool → Bool → List Reason
 by_parts run now rerun stale =
     if rerun then reasons.Rerun ∷ []
     else if stale then reasons.Stale ∷ []
     else if is_empty now.outputs then reasons.NoOutputs ∷ []
     else differences run now
 
-same_reasons : (options : Options) (task : Task) (inputs : List Prints) (outputs : List OutputRecord) (run : Remembered) (p q : Present)
+same_reasons : (options : Options) (task : Task) (inputs : List Prints) (outputs : List OutputRecord) (run : Record) (p q : Present)
     → IsPresentOf options task inputs outputs p → IsPresentOf options task inputs outputs q → reasons_of (Some run) p ≡ reasons_of (Some run) q
 same_reasons options task inputs outputs run p q is_p is_q =
     ap (λ now. by_parts run now p.rerun p.is_stale) (is_p.now ∙ sym is_q.now)
@@ -57,7 +57,7 @@ full_runs e = cc
 
 module _ (kinds : Kinds) (options : Options) (task : Task) (folder : Contents) where
   -- what is explained by a record on what stands is found so
-  pub found_of : (run : Remembered) (present : Present) (coming : Coming)
+  pub found_of : (run : Record) (present : Present) (coming : Coming)
       → IsPresentOf options task (digests_in (trees_of task folder.files)) (map (recorded_of folder.files) task.outputs) present
       → IsExplained kinds task run present coming → IsFound kinds options task folder (Some run) coming
   found_of run present comings.Skips is never = absurd never
@@ -74,7 +74,7 @@ module _ (kinds : Kinds) (options : Options) (task : Task) (folder : Contents) w
     reasons = λ other is_other. from.4 ∙ same_reasons options task _ _ run present other is is_other;
   }
 
-  runs_found : (old : Option Remembered) (reason : Reason) (coming : Coming) → RunsFor reason coming
+  runs_found : (old : Option Record) (reason : Reason) (coming : Coming) → RunsFor reason coming
       → IsDecided options task folder old decisions.Full → AreReasons options task folder old (reason ∷ [])
       → IsFound kinds options task folder old coming
   runs_found old reason comings.Skips never full why = absurd never
@@ -94,13 +94,13 @@ module _ (kinds : Kinds) (options : Options) (task : Task) (folder : Contents) w
   pub forgotten_found : (coming : Coming) → RunsFor reasons.NoRecord coming → IsFound kinds options task folder None coming
   forgotten_found coming is = runs_found None reasons.NoRecord coming is forgotten (λ present is_present. refl)
 
-  pub rerun_found : (run : Remembered) (coming : Coming) → options.rerun ≡ true → RunsFor reasons.Rerun coming
+  pub rerun_found : (run : Record) (coming : Coming) → options.rerun ≡ true → RunsFor reasons.Rerun coming
       → IsFound kinds options task folder (Some run) coming
   rerun_found run coming asked is =
       runs_found (Some run) reasons.Rerun coming is (anew (inl asked))
       (λ present is_present. sym (ap (λ rerun. by_parts run present.now rerun present.is_stale) (is_present.rerun ∙ asked)))
 
-  pub stale_found : (run : Remembered) (coming : Coming) → options.rerun ≡ false → task.is_stale ≡ true → RunsFor reasons.Stale coming
+  pub stale_found : (run : Record) (coming : Coming) → options.rerun ≡ false → task.is_stale ≡ true → RunsFor reasons.Stale coming
       → IsFound kinds options task folder (Some run) coming
   stale_found run coming none stale is =
       runs_found (Some run) reasons.Stale coming is (anew (inr stale))
@@ -109,7 +109,7 @@ module _ (kinds : Kinds) (options : Options) (task : Task) (folder : Contents) w
 
   -- ---- What is told
 
-  module _ (old : Option Remembered) where
+  module _ (old : Option Record) where
     foretold_of : (before after : ℕ) (coming : Coming) → early_case task folder ≡ None → IsFound kinds options task folder old coming
         → IsForetold kinds options task folder old before after coming
     foretold_of before after comings.Skips none never = absurd never

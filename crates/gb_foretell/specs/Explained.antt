@@ -2,7 +2,7 @@
 use Rattle.std.specs.Prelude.{◌≡◌, ◌≢◌, Some}
 use Rattle.gb_turn.specs.Turns.{goes_by_changes}
 use Rattle.gb_history.specs.Decision.{DecidesFrom}
-use Rattle.gb_history.specs.Remembered.{Remembered}
+use Rattle.gb_history.specs.Record.{Record}
 use Rattle.gb_history.specs.declared.decide.Decision.{Decision}
 use Rattle.gb_history.specs.declared.decide.Decision.TheVariants as decisions
 use Rattle.gb_history.specs.declared.decide.Present.{Present}
@@ -13,7 +13,7 @@ use Rattle.gb_foretell.specs.declared.coming.Coming.{Coming}
 use Rattle.gb_foretell.specs.declared.coming.Coming.TheVariants as comings
 
 -- by this record the task is up to date, or it runs for these reasons
-abbrev pub IsExplained : Kinds → Task → Remembered → Present → Coming → Type 0
+abbrev pub IsExplained : Kinds → Task → Record → Present → Coming → Type 0
 IsExplained kinds task run present comings.UpToDate = DecidesFrom run present decisions.UpToDate
 IsExplained kinds task run present (comings.Runs by_changes reasons) =
     (decision : Decision) × DecidesFrom run present decision × (decision ≢ decisions.UpToDate)

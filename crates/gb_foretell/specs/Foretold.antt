@@ -4,7 +4,7 @@ use Rattle.std.specs.Prelude.{◌∷◌, map, Option, Some, None, Result, Ok, Er
 use Rattle.std.specs.List.{AllZip, flat_map, zip}
 use Rattle.gb_turn.specs.Turns.{goes_by_changes}
 use Rattle.gb_folder.specs.Files.{Contents, is_empty}
-use Rattle.gb_history.specs.Remembered.{Remembered}
+use Rattle.gb_history.specs.Record.{Record}
 use Rattle.gb_history.specs.declared.decide.Decision.{Decision}
 use Rattle.gb_history.specs.declared.decide.Decision.TheVariants as decisions
 use Rattle.gb_history.specs.declared.decide.Present.{Present}
@@ -26,14 +26,14 @@ use Rattle.gb_foretell.specs.declared.coming.Coming.TheVariants as comings
 use Rattle.gb_foretell.specs.declared.coming.Foretold.{Foretold}
 
 -- the reasons are those of what the task has now
-abbrev pub AreReasons : Options → Task → Contents → Option Remembered → List Reason → Type 0
+abbrev pub AreReasons : Options → Task → Contents → Option Record → List Reason → Type 0
 AreReasons options task folder old reasons =
     (present : Present) → IsPresentOf options task (digests_in (trees_of task folder.files))
     (map (recorded_of folder.files) task.outputs) present → reasons ≡ reasons_of old present
 
 -- It is decided that the task runs, by changes or in full, and these are the reasons.
 pub record IsRun (kinds : Kinds) (options : Options) (task : Task) (folder : Contents)
-    (old : Option Remembered) (goes_on : Bool) (told : List Reason) : Type 0 where
+    (old : Option Record) (goes_on : Bool) (told : List Reason) : Type 0 where
   pub decision : Decision
   pub decided : IsDecided options task folder old decision
   pub due : decision ≢ decisions.UpToDate
@@ -41,7 +41,7 @@ pub record IsRun (kinds : Kinds) (options : Options) (task : Task) (folder : Con
   pub reasons : AreReasons options task folder old told
 
 -- What is found of a task that has a source.
-abbrev pub IsFound : Kinds → Options → Task → Contents → Option Remembered → Coming → Type 0
+abbrev pub IsFound : Kinds → Options → Task → Contents → Option Record → Coming → Type 0
 IsFound kinds options task folder old comings.UpToDate = IsDecided options task folder old decisions.UpToDate
 IsFound kinds options task folder old comings.HasGrown =
     IsDecided options task folder old decisions.Full
@@ -52,7 +52,7 @@ IsFound kinds options task folder old other = ⊥
 
 -- It is what the turn of the task, of which this is remembered, comes to on the folder; the machine fails
 -- between these counts.
-abbrev pub IsForetold : Kinds → Options → Task → Contents → Option Remembered → ℕ → ℕ → Coming → Type 0
+abbrev pub IsForetold : Kinds → Options → Task → Contents → Option Record → ℕ → ℕ → Coming → Type 0
 IsForetold kinds options task folder old before after comings.Skips = early_case task folder ≡ Some Skips
 IsForetold kinds options task folder old before after comings.HasNoActions =
     early_case task folder ≡ Some HasNoActions
@@ -85,7 +85,7 @@ told_of (Ok coming) = coming
 told_of (Err fault) = comings.CannotRead fault
 
 -- Each of these tasks, with what was read of its record, is told so.
-abbrev pub AreForetold : Kinds → Options → Contents → ℕ → ℕ → Plan → List (Option Remembered) → List Foretold
+abbrev pub AreForetold : Kinds → Options → Contents → ℕ → ℕ → Plan → List (Option Record) → List Foretold
     → Type 0
 AreForetold kinds options folder before after plan records told =
     AllZip (λ pair one. IsForetold kinds options pair.0.task folder pair.1 before after one.coming)

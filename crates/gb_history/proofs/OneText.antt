@@ -17,8 +17,8 @@ use Rattle.gb_plan.specs.declared.task.Action.{Action}
 use Rattle.gb_history.specs.declared.record.OutputRecord.{OutputRecord}
 use Rattle.gb_history.specs.declared.record.Edition.{Edition}
 use Rattle.gb_history.specs.declared.record.Edition.TheVariants as editions
-use Rattle.gb_history.specs.Remembered.{Prints, Remembered, IsAction, IsPrint, ArePrints, IsOutput, IsRemembered, IsSaid, AreHeld}
-use Rattle.gb_history.specs.Text.{value_json, input_json, action_json, print_json, prints_json, shape_text, output_json, run_json, entry_json, history_json, edition_number, history_text_in, FitsEdition, IsActionIn, EntryFits, IsTextOf, IsHistoryText}
+use Rattle.gb_history.specs.Record.{Prints, Record, IsAction, IsPrint, ArePrints, IsOutput, IsWellFormed, IsSaid, AreHeld}
+use Rattle.gb_history.specs.Text.{value_json, input_json, action_json, print_json, prints_json, shape_text, output_json, run_json, held_json, history_json, edition_number, history_text_in, FitsEdition, IsActionIn, RecordFits, IsTextOf, IsHistoryText}
 use Rattle.gb_history.proofs.Lists.{IsBytes-all, all_both, items_of_inj}
 use Rattle.gb_history.proofs.Records.{are_said, read-history, take-sealed}
 
@@ -162,7 +162,7 @@ edition_back editions.First editions.Second e = absurd (omega (arith, e))
 edition_back editions.Second editions.First e = absurd (omega (arith, e))
 edition_back editions.Second editions.Second e = refl
 
-run_back : (edition : Edition) (path : List ℕ) (a b : Remembered) → IsRemembered a → IsRemembered b → AllByRecursion (FitsEdition edition) a.actions
+run_back : (edition : Edition) (path : List ℕ) (a b : Record) → IsWellFormed a → IsWellFormed b → AllByRecursion (FitsEdition edition) a.actions
     → AllByRecursion (FitsEdition edition) b.actions → run_json edition path a ≡ run_json edition path b → a ≡ b
 run_back edition path a b p q f g e =
     let told_actions : items_of (map (action_json edition) a.actions) ≡ items_of (map (action_json edition) b.actions) = cc in
@@ -179,43 +179,43 @@ run_back edition path a b p q f g e =
 some_back : (a b : Data) → Some a ≡ Some b → a ≡ b
 some_back a b e = cc
 
-text_back : (ea eb : Edition) (a b : List (List ℕ × Remembered)) → history_text_in ea a ≡ history_text_in eb b
+text_back : (ea eb : Edition) (a b : List (List ℕ × Record)) → history_text_in ea a ≡ history_text_in eb b
     → compact_text (history_json ea a) ≡ compact_text (history_json eb b)
 unfolding history_text_in
 text_back ea eb a b e = sym (take-sealed (compact_text (history_json ea a))) ∙ ap (λ t. take (length t - 66) t) e ∙ take-sealed (compact_text (history_json eb b))
 
 -- it can be said, in this edition
-abbrev IsSaidIn : Edition → List ℕ × Remembered → Type 0
-IsSaidIn edition entry = IsSaid entry × EntryFits edition entry
+abbrev IsSaidIn : Edition → List ℕ × Record → Type 0
+IsSaidIn edition one = IsSaid one × RecordFits edition one
 
-entry_back : (edition : Edition) (a b : List ℕ × Remembered) → IsSaidIn edition a → IsSaidIn edition b → entry_json edition a ≡ entry_json edition b → a ≡ b
-entry_back edition a b p q e =
+held_back : (edition : Edition) (a b : List ℕ × Record) → IsSaidIn edition a → IsSaidIn edition b → held_json edition a ≡ held_json edition b → a ≡ b
+held_back edition a b p q e =
     let path : a.0 ≡ b.0 = cc in
     let runs : run_json edition b.0 a.1 ≡ run_json edition b.0 b.1 = ap (λ x. run_json edition x a.1) (sym path) ∙ e in
-    ap₂ (λ (x : List ℕ) (y : Remembered). (x, y)) path (run_back edition b.0 a.1 b.1 p.0.1 q.0.1 p.1 q.1 runs)
+    ap₂ (λ (x : List ℕ) (y : Record). (x, y)) path (run_back edition b.0 a.1 b.1 p.0.1 q.0.1 p.1 q.1 runs)
 
-entries_back : (ea eb : Edition) (a b : List (List ℕ × Remembered)) → AllByRecursion IsSaid a → AllByRecursion IsSaid b → AllByRecursion (EntryFits ea) a
-    → AllByRecursion (EntryFits eb) b → history_text_in ea a ≡ history_text_in eb b → a ≡ b
-entries_back ea eb a b p q f g e =
+records_back : (ea eb : Edition) (a b : List (List ℕ × Record)) → AllByRecursion IsSaid a → AllByRecursion IsSaid b → AllByRecursion (RecordFits ea) a
+    → AllByRecursion (RecordFits eb) b → history_text_in ea a ≡ history_text_in eb b → a ≡ b
+records_back ea eb a b p q f g e =
     let same : history_json ea a ≡ history_json eb b =
     some_back _ _ (sym (read-history ea a p) ∙ ap read (text_back ea eb a b e) ∙ read-history eb b q) in
     let numbers : edition_number ea ≡ edition_number eb = cc in
     let editions_same : ea ≡ eb = edition_back ea eb numbers in
-    let told : items_of (map (entry_json ea) a) ≡ items_of (map (entry_json eb) b) = cc in
-    map_back (entry_json eb) (IsSaidIn eb) (entry_back eb) a b
-    (all_both IsSaid (EntryFits eb) a p (subst (λ x. AllByRecursion (EntryFits x) a) editions_same f)) (all_both IsSaid (EntryFits eb) b q g)
-    (ap (λ x. items_of (map (entry_json x) a)) (sym editions_same) ∙ told)
+    let told : items_of (map (held_json ea) a) ≡ items_of (map (held_json eb) b) = cc in
+    map_back (held_json eb) (IsSaidIn eb) (held_back eb) a b
+    (all_both IsSaid (RecordFits eb) a p (subst (λ x. AllByRecursion (RecordFits x) a) editions_same f)) (all_both IsSaid (RecordFits eb) b q g)
+    (ap (λ x. items_of (map (held_json x) a)) (sym editions_same) ∙ told)
 
-pub one_history : (a b : List (List ℕ × Remembered)) (text : List ℕ) → AreHeld a → AreHeld b → IsHistoryText a text → IsHistoryText b text → a ≡ b
+pub one_history : (a b : List (List ℕ × Record)) (text : List ℕ) → AreHeld a → AreHeld b → IsHistoryText a text → IsHistoryText b text → a ≡ b
 one_history a b text p q of on =
-    entries_back of.edition on.edition a b (are_said a p.each) (are_said b q.each) of.fits on.fits (sym of.same ∙ on.same)
+    records_back of.edition on.edition a b (are_said a p.each) (are_said b q.each) of.fits on.fits (sym of.same ∙ on.same)
 
 -- the first record
-abbrev first_run : Remembered → List (List ℕ × Remembered) → Remembered
+abbrev first_run : Record → List (List ℕ × Record) → Record
 first_run run [] = run
-first_run run (entry ∷ entries) = entry.1
+first_run run (one ∷ records) = one.1
 
-pub one_text : (path : List ℕ) (a b : Remembered) (text : List ℕ) → IsUtf8 path → IsRemembered a → IsRemembered b → IsTextOf path a text → IsTextOf path b text → a ≡ b
+pub one_text : (path : List ℕ) (a b : Record) (text : List ℕ) → IsUtf8 path → IsWellFormed a → IsWellFormed b → IsTextOf path a text → IsTextOf path b text → a ≡ b
 one_text path a b text u p q of on =
     ap (first_run a)
-    (entries_back of.edition on.edition ((path, a) ∷ []) ((path, b) ∷ []) ((u, p), tt) ((u, q), tt) (of.fits, tt) (on.fits, tt) (sym of.same ∙ on.same))
+    (records_back of.edition on.edition ((path, a) ∷ []) ((path, b) ∷ []) ((u, p), tt) ((u, q), tt) (of.fits, tt) (on.fits, tt) (sym of.same ∙ on.same))

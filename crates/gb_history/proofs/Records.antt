@@ -22,8 +22,8 @@ use Rattle.gb_plan.specs.declared.task.Action.{Action}
 use Rattle.gb_history.specs.declared.record.Edition.{Edition}
 use Rattle.gb_history.specs.declared.record.Edition.TheVariants as editions
 use Rattle.gb_history.specs.declared.record.OutputRecord.{OutputRecord}
-use Rattle.gb_history.specs.Remembered.{Prints, Remembered, IsArgument, IsInput, IsAction, IsPrint, ArePrints, IsOutput, IsRemembered, IsSaid, IsEntry}
-use Rattle.gb_history.specs.Text.{value_json, input_json, action_json, print_json, prints_json, shape_text, output_json, run_json, edition_number, entry_json, history_json, sealed}
+use Rattle.gb_history.specs.Record.{Prints, Record, IsArgument, IsInput, IsAction, IsPrint, ArePrints, IsOutput, IsWellFormed, IsSaid, IsHeld}
+use Rattle.gb_history.specs.Text.{value_json, input_json, action_json, print_json, prints_json, shape_text, output_json, run_json, edition_number, held_json, history_json, sealed}
 use Rattle.gb_history.proofs.Lists.{all_weaker}
 use Rattle.gb_history.proofs.Ordinary.{IsOrdinary, AreOrdinary, read-compact_text, IsUtf8-compact_text}
 
@@ -103,7 +103,7 @@ ordinary_output o h = (
   ),
 )
 
-ordinary_run : (edition : Edition) (path : List ℕ) → IsUtf8 path → (run : Remembered) → IsRemembered run → IsOrdinary (run_json edition path run)
+ordinary_run : (edition : Edition) (path : List ℕ) → IsUtf8 path → (run : Record) → IsWellFormed run → IsOrdinary (run_json edition path run)
 ordinary_run edition path u run h = (
   refl,
   (
@@ -129,16 +129,16 @@ small_number : (edition : Edition) → edition_number edition < 4294967296
 small_number editions.First = omega arith
 small_number editions.Second = omega arith
 
-ordinary_entry : (edition : Edition) (entry : List ℕ × Remembered) → IsSaid entry → IsOrdinary (entry_json edition entry)
-ordinary_entry edition entry h = ordinary_run edition entry.0 h.0 entry.1 h.1
+ordinary_held : (edition : Edition) (one : List ℕ × Record) → IsSaid one → IsOrdinary (held_json edition one)
+ordinary_held edition one h = ordinary_run edition one.0 h.0 one.1 h.1
 
-pub ordinary_history : (edition : Edition) (entries : List (List ℕ × Remembered)) → AllByRecursion IsSaid entries → IsOrdinary (history_json edition entries)
-ordinary_history edition entries said = (
+pub ordinary_history : (edition : Edition) (records : List (List ℕ × Record)) → AllByRecursion IsSaid records → IsOrdinary (history_json edition records)
+ordinary_history edition records said = (
   refl,
   (
     IsUtf8-are_ascii _ refl,
     small_number edition,
-    (IsUtf8-are_ascii _ refl, are_ordinary (entry_json edition) IsSaid (ordinary_entry edition) entries said, tt),
+    (IsUtf8-are_ascii _ refl, are_ordinary (held_json edition) IsSaid (ordinary_held edition) records said, tt),
   ),
 )
 
@@ -162,7 +162,7 @@ depth_prints p = omega (arith, shallow print_json 1 (λ q. omega arith) p.1)
 depth_output : (o : OutputRecord) → depth (output_json o) ≤ 3
 depth_output o = omega (arith, shallow print_json 1 (λ q. omega arith) o.prints.1)
 
-depth_run : (edition : Edition) (path : List ℕ) (run : Remembered) → depth (run_json edition path run) ≤ 6
+depth_run : (edition : Edition) (path : List ℕ) (run : Record) → depth (run_json edition path run) ≤ 6
 depth_run edition path run = omega (
   arith,
   shallow (action_json edition) 4 (depth_action edition) run.actions,
@@ -171,23 +171,23 @@ depth_run edition path run = omega (
   shallow input_json 3 depth_input run.values,
 )
 
-depth_history : (edition : Edition) (entries : List (List ℕ × Remembered)) → depth (history_json edition entries) ≤ max_depth
-depth_history edition entries =
-    omega (arith, shallow (entry_json edition) 6 (λ entry. depth_run edition entry.0 entry.1) entries)
+depth_history : (edition : Edition) (records : List (List ℕ × Record)) → depth (history_json edition records) ≤ max_depth
+depth_history edition records =
+    omega (arith, shallow (held_json edition) 6 (λ one. depth_run edition one.0 one.1) records)
 
 -- ---- the text of records
 
-pub IsUtf8-history : (edition : Edition) (entries : List (List ℕ × Remembered)) → AllByRecursion IsSaid entries → IsUtf8 (compact_text (history_json edition entries))
-IsUtf8-history edition entries said = IsUtf8-compact_text (history_json edition entries) (ordinary_history edition entries said)
+pub IsUtf8-history : (edition : Edition) (records : List (List ℕ × Record)) → AllByRecursion IsSaid records → IsUtf8 (compact_text (history_json edition records))
+IsUtf8-history edition records said = IsUtf8-compact_text (history_json edition records) (ordinary_history edition records said)
 
-pub read-history : (edition : Edition) (entries : List (List ℕ × Remembered)) → AllByRecursion IsSaid entries
-    → read (compact_text (history_json edition entries)) ≡ Some (history_json edition entries)
-read-history edition entries said =
-    read-compact_text (history_json edition entries) (ordinary_history edition entries said) (depth_history edition entries)
+pub read-history : (edition : Edition) (records : List (List ℕ × Record)) → AllByRecursion IsSaid records
+    → read (compact_text (history_json edition records)) ≡ Some (history_json edition records)
+read-history edition records said =
+    read-compact_text (history_json edition records) (ordinary_history edition records said) (depth_history edition records)
 
 -- what a history holds can be said
-pub are_said : (entries : List (List ℕ × Remembered)) → AllByRecursion IsEntry entries → AllByRecursion IsSaid entries
-are_said entries each = all_weaker IsEntry IsSaid (λ entry h. h.1) entries each
+pub are_said : (records : List (List ℕ × Record)) → AllByRecursion IsHeld records → AllByRecursion IsSaid records
+are_said records each = all_weaker IsHeld IsSaid (λ one h. h.1) records each
 
 length_seal : (json : List ℕ) → length (encode_lower (sha256 json)) ≡ 64
 length_seal json = omega (arith, length-encode_with lower_digits (sha256 json), length-sha256 json)

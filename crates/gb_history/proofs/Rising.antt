@@ -11,7 +11,7 @@ use Rattle.std.proofs.lemmas.Cmp.{nat_list_cmp_total}
 use Rattle.std.specs.Cmp.{both_ways}
 use Rattle.gb_core.specs.Lists.{byte_order}
 use Rattle.gb_history.specs.Ascending.{ascends_from, ascends}
-use Rattle.gb_history.specs.Remembered.{prints_in}
+use Rattle.gb_history.specs.Record.{prints_in}
 use Rattle.gb_history.specs.declared.record.OutputRecord.{OutputRecord}
 
 less : (o : Ordering) → is_lt o ≡ true → o ≡ Less

@@ -3,13 +3,13 @@ use Rattle.std.specs.Prelude.{◌≡◌, ℕ, Bool, false, List, [], ◌∷◌, 
 use Rattle.std.specs.List.{list_any, flat_map, zip, AllZip}
 use Rattle.gb_folder.specs.Files.{is_empty}
 use Rattle.gb_action.specs.Changes.{Changes, changes_between}
-use Rattle.gb_history.specs.Remembered.{Remembered, Prints}
+use Rattle.gb_history.specs.Record.{Record, Prints}
 use Rattle.gb_history.specs.declared.decide.Present.{Present}
 use Rattle.gb_history.specs.declared.decide.Decision.{Decision}
 use Rattle.gb_history.specs.declared.decide.Decision.TheVariants as decisions
 
 -- The run has outputs and is what the task has now; the task is not stale, and no rerun is asked.
-pub record IsUpToDate (run : Remembered) (present : Present) : Type 0 where
+pub record IsUpToDate (run : Record) (present : Present) : Type 0 where
   pub no_rerun : present.rerun ≡ false
   pub not_stale : present.is_stale ≡ false
   pub has_outputs : is_empty present.now.outputs ≡ false
@@ -24,7 +24,7 @@ abbrev pub IsAlike : List (List ℕ) → Prints → Prints → Type 0
 IsAlike incremental old new = (old.0 ≡ new.0) × (is_incremental incremental old.0 ≡ false → old.1 ≡ new.1)
 
 -- The run differs from what the task has now in incremental properties alone.
-pub record IsSince (run : Remembered) (present : Present) : Type 0 where
+pub record IsSince (run : Record) (present : Present) : Type 0 where
   pub no_rerun : present.rerun ≡ false
   pub not_stale : present.is_stale ≡ false
   pub same_actions : run.actions ≡ present.now.actions
@@ -38,17 +38,17 @@ changes_of incremental pair =
     if is_incremental incremental pair.0.0 then (pair.0.0, changes_between pair.0.1 pair.1.1) ∷ [] else []
 
 -- the changes of the incremental properties, by name
-abbrev pub changes_since : Remembered → Present → List Changes
+abbrev pub changes_since : Record → Present → List Changes
 changes_since run present =
     flat_map (changes_of present.incremental.items) (zip run.inputs present.now.inputs)
 
-abbrev pub DecidesFrom : Remembered → Present → Decision → Type 0
+abbrev pub DecidesFrom : Record → Present → Decision → Type 0
 DecidesFrom run present decisions.UpToDate = IsUpToDate run present
 DecidesFrom run present (decisions.Incremental changes) =
     (¬ IsUpToDate run present) × IsSince run present × (changes ≡ changes_since run present)
 DecidesFrom run present decisions.Full = (¬ IsUpToDate run present) × (¬ IsSince run present)
 
--- up to date, or else by changes, or else full; full where nothing is remembered
-abbrev pub Decides : Option Remembered → Present → Decision → Type 0
+-- up to date, or else by changes, or else full; full where there is no record
+abbrev pub Decides : Option Record → Present → Decision → Type 0
 Decides None present decision = decision ≡ decisions.Full
 Decides (Some run) present decision = DecidesFrom run present decision

@@ -1,7 +1,7 @@
 pub mod Places
 pub mod Ascending
 pub mod Faults
-pub mod Remembered
+pub mod Record
 pub mod Text
 pub mod Tokens
 pub mod Decision

@@ -15,7 +15,7 @@ use Rattle.gb_plan.specs.declared.task.Action.{Action}
 use Rattle.gb_history.specs.declared.record.OutputRecord.{OutputRecord}
 use Rattle.gb_history.specs.declared.record.Edition.{Edition}
 use Rattle.gb_history.specs.declared.record.Edition.TheVariants as editions
-use Rattle.gb_history.specs.Remembered.{Remembered, Prints, IsAction, IsRemembered, IsEntry, AreHeld}
+use Rattle.gb_history.specs.Record.{Record, Prints, IsAction, IsWellFormed, IsHeld, AreHeld}
 
 abbrev pub value_json : Value → Data
 value_json (values.Text text) = object (member (codes "text") (string text) no_members)
@@ -73,7 +73,7 @@ run_object actions files outputs path values = object
     (member (codes "values") values no_members)))))
 
 -- the record of the task of this path
-abbrev pub run_json : Edition → List ℕ → Remembered → Data
+abbrev pub run_json : Edition → List ℕ → Record → Data
 run_json edition path run =
     run_object (array (items_of (map (action_json edition) run.actions)))
     (array (items_of (map prints_json run.inputs)))
@@ -86,35 +86,35 @@ abbrev pub edition_number : Edition → ℕ
 edition_number editions.First = 1
 edition_number editions.Second = 2
 
--- the record of a task
-abbrev pub entry_json : Edition → List ℕ × Remembered → Data
-entry_json edition entry = run_json edition entry.0 entry.1
+-- a record as a history holds it
+abbrev pub held_json : Edition → List ℕ × Record → Data
+held_json edition one = run_json edition one.0 one.1
 
 -- a list of these records
-abbrev pub history_json : Edition → List (List ℕ × Remembered) → Data
-history_json edition entries = object
+abbrev pub history_json : Edition → List (List ℕ × Record) → Data
+history_json edition records = object
     (member (codes "form") (number (unsigned (edition_number edition)))
-    (member (codes "tasks") (array (items_of (map (entry_json edition) entries))) no_members))
+    (member (codes "tasks") (array (items_of (map (held_json edition) records))) no_members))
 
 -- a list of that record alone
-abbrev pub record_json : Edition → List ℕ → Remembered → Data
+abbrev pub record_json : Edition → List ℕ → Record → Data
 record_json edition path run = history_json edition ((path, run) ∷ [])
 
 -- a text and its seal
 abbrev pub sealed : List ℕ → List ℕ
 sealed json = json ++ 10 ∷ (encode_lower (sha256 json) ++ 10 ∷ [])
 
-unfoldable pub history_text_in : Edition → List (List ℕ × Remembered) → List ℕ
-history_text_in edition entries = sealed (compact_text (history_json edition entries))
+unfoldable pub history_text_in : Edition → List (List ℕ × Record) → List ℕ
+history_text_in edition records = sealed (compact_text (history_json edition records))
 
-abbrev pub text_in : Edition → List ℕ → Remembered → List ℕ
+abbrev pub text_in : Edition → List ℕ → Record → List ℕ
 text_in edition path run = history_text_in edition ((path, run) ∷ [])
 
 -- the texts that are written: those of the second edition
-abbrev pub history_text : List (List ℕ × Remembered) → List ℕ
+abbrev pub history_text : List (List ℕ × Record) → List ℕ
 history_text = history_text_in editions.Second
 
-abbrev pub record_text : List ℕ → Remembered → List ℕ
+abbrev pub record_text : List ℕ → Record → List ℕ
 record_text = text_in editions.Second
 
 -- the edition can tell the version
@@ -126,30 +126,30 @@ abbrev pub IsActionIn : Edition → Action → Type 0
 IsActionIn edition action = IsAction action × FitsEdition edition action
 
 -- the edition can tell all versions of the record
-abbrev pub EntryFits : Edition → List ℕ × Remembered → Type 0
-EntryFits edition entry = AllByRecursion (FitsEdition edition) entry.1.actions
+abbrev pub RecordFits : Edition → List ℕ × Record → Type 0
+RecordFits edition one = AllByRecursion (FitsEdition edition) one.1.actions
 
-abbrev pub IsEntryIn : Edition → List ℕ × Remembered → Type 0
-IsEntryIn edition entry = IsEntry entry × EntryFits edition entry
+abbrev pub IsHeldIn : Edition → List ℕ × Record → Type 0
+IsHeldIn edition one = IsHeld one × RecordFits edition one
 
 -- The text is that of the record in an edition that can tell its versions.
-pub record IsTextOf (path : List ℕ) (run : Remembered) (text : List ℕ) : Type 0 where
+pub record IsTextOf (path : List ℕ) (run : Record) (text : List ℕ) : Type 0 where
   pub edition : Edition
   pub fits : AllByRecursion (FitsEdition edition) run.actions
   pub same : text ≡ text_in edition path run
 
 abbrev pub TextsSayOneRecord : Type 0
 TextsSayOneRecord =
-    (path : List ℕ) (one other : Remembered) (text : List ℕ) → IsUtf8 path → IsRemembered one
-    → IsRemembered other → IsTextOf path one text → IsTextOf path other text → one ≡ other
+    (path : List ℕ) (one other : Record) (text : List ℕ) → IsUtf8 path → IsWellFormed one
+    → IsWellFormed other → IsTextOf path one text → IsTextOf path other text → one ≡ other
 
 -- The text is that of the records in an edition that can tell their versions.
-pub record IsHistoryText (entries : List (List ℕ × Remembered)) (text : List ℕ) : Type 0 where
+pub record IsHistoryText (records : List (List ℕ × Record)) (text : List ℕ) : Type 0 where
   pub edition : Edition
-  pub fits : AllByRecursion (EntryFits edition) entries
-  pub same : text ≡ history_text_in edition entries
+  pub fits : AllByRecursion (RecordFits edition) records
+  pub same : text ≡ history_text_in edition records
 
 abbrev pub TextsSayOneHistory : Type 0
 TextsSayOneHistory =
-    (one other : List (List ℕ × Remembered)) (text : List ℕ) → AreHeld one → AreHeld other
+    (one other : List (List ℕ × Record)) (text : List ℕ) → AreHeld one → AreHeld other
     → IsHistoryText one text → IsHistoryText other text → one ≡ other

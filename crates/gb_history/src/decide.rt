@@ -16,11 +16,11 @@ use std::alloc::{AllocError, Global};
 /// What a task has before it acts.
 #[derive(Drop)]
 pub struct Present {
-    /// What would be remembered if nothing had to be done.
+    /// The record that it would have if nothing had to be done.
     pub now: Record,
     /// The names of the incremental file properties.
     pub incremental: Vec<Name>,
-    /// Every task is to run, whatever is remembered.
+    /// Every task is to run, whatever its record says.
     pub rerun: bool,
     /// A test of `upToDateWhen` is false.
     pub is_stale: bool,
@@ -37,7 +37,7 @@ pub enum Decision {
     Full,
 }
 
-/// What is to be done with a task of which this is remembered.
+/// What is to be done with a task that has this record.
 pub fn decide(
     alloc: Global,
     old: Option<&Record>,

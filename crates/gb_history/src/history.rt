@@ -1,4 +1,4 @@
-//! What is remembered of each task.
+//! The records of tasks.
 ghost use Rattle.std.specs.Prelude.{◌≡◌, [], List, ℕ, IfOk, MatchResult, OnOk, OnErr};
 ghost use Rattle.std.specs.List.{AllByRecursion};
 ghost use Rattle.std.specs.Option.{option_copied};
@@ -6,8 +6,8 @@ ghost use Rattle.std.specs.BTreeMap.{insert_entry, is_at};
 ghost use Rattle.std.specs.Map.{lookup, remove_entry};
 ghost use Rattle.serde_json.specs.Written.{compact_text};
 ghost use Rattle.gb_core.specs.Lists.{byte_order};
-ghost use Rattle.gb_history.specs.Remembered.{Remembered, AreHeld};
-ghost use Rattle.gb_history.specs.Text.{history_json, history_text_in, history_text, EntryFits};
+ghost use Rattle.gb_history.specs.Record.{Record as Recorded, AreHeld};
+ghost use Rattle.gb_history.specs.Text.{history_json, history_text_in, history_text, RecordFits};
 ghost use Rattle.gb_history.specs.Text.{IsHistoryText};
 ghost use Rattle.gb_history.specs.declared.record.Edition.{Edition as Written};
 ghost use Rattle.gb_history.specs.declared.fault.RecordFault.TheVariants.{OutOfMemory};
@@ -31,15 +31,15 @@ pub struct History {
 
 impl Model for History {
     ghost use Rattle.std.specs.Prelude.{List, ℕ};
-    ghost use Rattle.gb_history.specs.Remembered.{Remembered};
+    ghost use Rattle.gb_history.specs.Record.{Record as Recorded};
 
-    ghost Value = { List (List ℕ × Remembered) };
+    ghost Value = { List (List ℕ × Recorded) };
 
     ghost view = { λ h. h.records.entries };
 }
 
 impl History {
-    /// Nothing remembered.
+    /// No records.
     pub fn new(alloc: Global) -> History
         ensures { result ≡ [] }
     {
@@ -55,7 +55,7 @@ impl History {
         self.records.get(task)
     }
 
-    /// Remembers a run of a task, over an earlier one of the same task.
+    /// Puts a run's record in, over an earlier one of the same task.
     pub fn put(&mut self, task: TaskPath, run: Record) -> Result<(), AllocError>
         ensures put { OnOk result (self.new ≡ insert_entry byte_order self.old task run) }
         ensures err { OnErr result (self.new ≡ self.old) }
@@ -94,9 +94,9 @@ impl History {
         ensures exact { IfOk result (λ history. IsHistoryText history bytes.now) }
         ensures held { IfOk result AreHeld }
         // The text of a history is read as that history.
-        ensures back { (entries : List (List ℕ × Remembered)) → AreHeld entries
-            → IsHistoryText entries bytes.now
-            → MatchResult result (λ got. got ≡ entries) (λ e. e ≡ OutOfMemory) }
+        ensures back { (records : List (List ℕ × Recorded)) → AreHeld records
+            → IsHistoryText records bytes.now
+            → MatchResult result (λ got. got ≡ records) (λ e. e ≡ OutOfMemory) }
     {
         let Some(json) = before_seal(bytes) else {
             return Err(RecordFault::NotARecord);
@@ -120,10 +120,10 @@ impl History {
 
 /// The edition and the history that a JSON text says.
 fn parsed(alloc: Global, json: &[u8]) -> Result<(Edition, History), RecordFault>
-    ensures read { (edition : Written) (entries : List (List ℕ × Remembered)) → AreHeld entries
-        → AllByRecursion (EntryFits edition) entries → json.now ≡ compact_text (history_json edition entries)
-        → MatchResult result (λ got. (got.0 ≡ edition) × (got.1 ≡ entries)) (λ e. e ≡ OutOfMemory) }
-    ensures fits { IfOk result (λ got. AllByRecursion (EntryFits got.0) got.1) }
+    ensures read { (edition : Written) (records : List (List ℕ × Recorded)) → AreHeld records
+        → AllByRecursion (RecordFits edition) records → json.now ≡ compact_text (history_json edition records)
+        → MatchResult result (λ got. (got.0 ≡ edition) × (got.1 ≡ records)) (λ e. e ≡ OutOfMemory) }
+    ensures fits { IfOk result (λ got. AllByRecursion (RecordFits got.0) got.1) }
 {
     let said = json_in(alloc, json)?;
     let found = history_from(alloc, said.0, &said.1)?;

@@ -1,4 +1,4 @@
-//! What is remembered of a task: one small record, sealed by its digest.
+//! The record of a task: a small one, sealed by its digest.
 //!
 //! A record is written as compact JSON, and read only where its text, printed again, is the text that was
 //! read: a damaged, foreign or half-written text is no record.

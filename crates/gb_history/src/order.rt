@@ -3,7 +3,7 @@ ghost use Rattle.std.specs.Prelude.{◌≡◌, map};
 ghost use Rattle.std.specs.FinMap.Entries.{is_sorted};
 ghost use Rattle.gb_core.specs.Lists.{byte_order};
 ghost use Rattle.gb_history.specs.Ascending.{ascends};
-ghost use Rattle.gb_history.specs.Remembered.{prints_in};
+ghost use Rattle.gb_history.specs.Record.{prints_in};
 
 use crate::record::OutputRecord;
 use gb_core::name::Name;

@@ -16,12 +16,12 @@ ghost use Rattle.serde_json.specs.Data.{Data, string, array, number, unsigned};
 ghost use Rattle.serde_json.specs.Find.{get};
 ghost use Rattle.serde_json.specs.Read.{read};
 ghost use Rattle.serde_json.specs.View.{view, items_of};
-ghost use Rattle.gb_history.specs.Remembered.{Remembered, Prints as Printed, IsName, IsArgument, IsInput};
-ghost use Rattle.gb_history.specs.Remembered.{IsAction, IsPrint, ArePrints};
-ghost use Rattle.gb_history.specs.Remembered.{IsOutput, AreInOrder, IsRemembered};
+ghost use Rattle.gb_history.specs.Record.{Record as Recorded, Prints as Printed, IsName, IsArgument, IsInput};
+ghost use Rattle.gb_history.specs.Record.{IsAction, IsPrint, ArePrints};
+ghost use Rattle.gb_history.specs.Record.{IsOutput, AreInOrder, IsWellFormed};
 ghost use Rattle.gb_history.specs.Text.{value_json, input_json, action_json, print_json, prints_json};
-ghost use Rattle.gb_history.specs.Text.{output_json, shape_text, run_json, record_json, entry_json};
-ghost use Rattle.gb_history.specs.Text.{history_json, FitsEdition, IsActionIn, EntryFits, IsEntryIn};
+ghost use Rattle.gb_history.specs.Text.{output_json, shape_text, run_json, record_json, held_json};
+ghost use Rattle.gb_history.specs.Text.{history_json, FitsEdition, IsActionIn, RecordFits, IsHeldIn};
 ghost use Rattle.gb_history.specs.declared.record.Edition.{Edition as Written};
 ghost use Rattle.gb_history.specs.declared.record.OutputRecord.{OutputRecord as Output};
 ghost use Rattle.gb_history.specs.declared.fault.RecordFault.TheVariants.{OutOfMemory};
@@ -395,7 +395,7 @@ struct Lists<'j> {
 }
 
 fn lists_at(json: &Json) -> Option<Lists<'_>>
-    ensures { (edition : Written) (path : List ℕ) (run : Remembered)
+    ensures { (edition : Written) (path : List ℕ) (run : Recorded)
         → view json.now ≡ run_json edition path run
         → IsSomeAnd result (λ lists. (map view lists.actions.now ≡ map (action_json edition) run.actions)
         × (map view lists.inputs.now ≡ map prints_json run.inputs)
@@ -417,7 +417,7 @@ pub fn in_order(
     inputs: Vec<Prints>,
     outputs: Vec<OutputRecord>,
 ) -> Result<Record, RecordFault>
-    ensures read { (run : Remembered) → AreInOrder run → actions.items ≡ run.actions → values ≡ run.values
+    ensures read { (run : Recorded) → AreInOrder run → actions.items ≡ run.actions → values ≡ run.values
         → inputs.items ≡ run.inputs → outputs.items ≡ run.outputs → result ≡ Ok run }
     ensures same { IfOk result (λ got. got.actions ≡ actions.items) }
 {
@@ -432,7 +432,7 @@ pub fn in_order(
 
 /// The record that a JSON value says.
 fn run_from(alloc: Global, edition: Edition, json: &Json) -> Result<Record, RecordFault>
-    ensures read { (path : List ℕ) (run : Remembered) → IsRemembered run
+    ensures read { (path : List ℕ) (run : Recorded) → IsWellFormed run
         → AllByRecursion (FitsEdition edition) run.actions
         → view json.now ≡ run_json edition path run
         → MatchResult result (λ got. got ≡ run) (λ e. e ≡ OutOfMemory) }
@@ -462,8 +462,8 @@ fn only_of(json: &Json) -> Option<&Json>
 
 /// The edition that a JSON value says it is written in.
 pub fn edition_from(json: &Json) -> Option<Edition>
-    ensures { (edition : Written) (entries : List (List ℕ × Remembered))
-        → view json.now ≡ history_json edition entries
+    ensures { (edition : Written) (records : List (List ℕ × Recorded))
+        → view json.now ≡ history_json edition records
         → result ≡ Some edition }
 {
     match json.get("form")?.as_u64()? {
@@ -475,7 +475,7 @@ pub fn edition_from(json: &Json) -> Option<Edition>
 
 /// The record in a list of one.
 pub fn record_from(alloc: Global, edition: Edition, json: &Json) -> Result<Record, RecordFault>
-    ensures read { (path : List ℕ) (run : Remembered) → IsRemembered run
+    ensures read { (path : List ℕ) (run : Recorded) → IsWellFormed run
         → AllByRecursion (FitsEdition edition) run.actions
         → view json.now ≡ record_json edition path run
         → MatchResult result (λ got. got ≡ run) (λ e. e ≡ OutOfMemory) }
@@ -502,44 +502,44 @@ fn task_at(alloc: Global, json: &Json) -> Result<TaskPath, RecordFault>
 }
 
 /// A task and its record.
-fn entry_from(
+fn one_from(
     alloc: Global,
     edition: Edition,
     json: &Json,
 ) -> Result<(TaskPath, Record), RecordFault>
-    ensures read { (entry : List ℕ × Remembered) → IsEntryIn edition entry
-        → view json.now ≡ entry_json edition entry
-        → MatchResult result (λ got. got ≡ entry) (λ e. e ≡ OutOfMemory) }
-    ensures fits { IfOk result (EntryFits edition) }
+    ensures read { (one : List ℕ × Recorded) → IsHeldIn edition one
+        → view json.now ≡ held_json edition one
+        → MatchResult result (λ got. got ≡ one) (λ e. e ≡ OutOfMemory) }
+    ensures fits { IfOk result (RecordFits edition) }
 {
     let path = task_at(alloc, json)?;
     Ok((path, run_from(alloc, edition, json)?))
 }
 
 /// The records in a list, by the paths of their tasks: of a path that stands twice the last.
-fn entries_from(alloc: Global, edition: Edition, items: &[Json]) -> Result<History, RecordFault>
-    ensures read { (entries : List (List ℕ × Remembered)) → AllByRecursion (IsEntryIn edition) entries
-        → IsTrue (is_sorted byte_order entries) → map view items.now ≡ map (entry_json edition) entries
-        → MatchResult result (λ got. got ≡ entries) (λ e. e ≡ OutOfMemory) }
-    ensures fits { IfOk result (AllByRecursion (EntryFits edition)) }
+fn records_from(alloc: Global, edition: Edition, items: &[Json]) -> Result<History, RecordFault>
+    ensures read { (records : List (List ℕ × Recorded)) → AllByRecursion (IsHeldIn edition) records
+        → IsTrue (is_sorted byte_order records) → map view items.now ≡ map (held_json edition) records
+        → MatchResult result (λ got. got ≡ records) (λ e. e ≡ OutOfMemory) }
+    ensures fits { IfOk result (AllByRecursion (RecordFits edition)) }
 {
     let mut history = History::new(alloc);
     for item in items {
-        let entry = entry_from(alloc, edition, item)?;
-        history.put(entry.0, entry.1)?;
+        let one = one_from(alloc, edition, item)?;
+        history.put(one.0, one.1)?;
     }
     Ok(history)
 }
 
 /// The records of a list of any length.
 pub fn history_from(alloc: Global, edition: Edition, json: &Json) -> Result<History, RecordFault>
-    ensures read { (entries : List (List ℕ × Remembered)) → AllByRecursion (IsEntryIn edition) entries
-        → IsTrue (is_sorted byte_order entries) → view json.now ≡ history_json edition entries
-        → MatchResult result (λ got. got ≡ entries) (λ e. e ≡ OutOfMemory) }
-    ensures fits { IfOk result (AllByRecursion (EntryFits edition)) }
+    ensures read { (records : List (List ℕ × Recorded)) → AllByRecursion (IsHeldIn edition) records
+        → IsTrue (is_sorted byte_order records) → view json.now ≡ history_json edition records
+        → MatchResult result (λ got. got ≡ records) (λ e. e ≡ OutOfMemory) }
+    ensures fits { IfOk result (AllByRecursion (RecordFits edition)) }
 {
     let Some(items) = list_at(json, "tasks") else {
         return Err(RecordFault::NotARecord);
     };
-    entries_from(alloc, edition, items.as_slice())
+    records_from(alloc, edition, items.as_slice())
 }

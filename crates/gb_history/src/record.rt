@@ -1,8 +1,8 @@
-//! What is remembered of a task.
+//! The record of a task.
 ghost use Rattle.std.specs.Prelude.{◌≡◌, IsTrue, IfOk};
 ghost use Rattle.std.specs.FinMap.Entries.{is_sorted};
 ghost use Rattle.gb_core.specs.Lists.{byte_order};
-ghost use Rattle.gb_history.specs.Remembered.{AreInOrder, prints_in};
+ghost use Rattle.gb_history.specs.Record.{AreInOrder, prints_in};
 
 use gb_action::output::Form;
 use gb_action::values::NamedValues;
@@ -32,7 +32,7 @@ pub struct OutputRecord {
     pub prints: Prints,
 }
 
-/// What is remembered of a run that ended well; the names of values, properties and outputs strictly rise.
+/// The record of a run that ended well; the names of values, properties and outputs strictly rise.
 #[derive(Drop)]
 pub struct Record {
     actions: Vec<Action>,
@@ -45,9 +45,9 @@ impl Model for Record {
     ghost use Rattle.std.specs.Prelude.{IsTrue};
     ghost use Rattle.std.specs.FinMap.Entries.{is_sorted};
     ghost use Rattle.gb_core.specs.Lists.{byte_order};
-    ghost use Rattle.gb_history.specs.Remembered.{Remembered, prints_in};
+    ghost use Rattle.gb_history.specs.Record.{Record as Recorded, prints_in};
 
-    ghost Value = { Remembered };
+    ghost Value = { Recorded };
 
     ghost view = { λ r.
         record {

@@ -1,4 +1,4 @@
-//! Whether two things that are remembered are the same.
+//! Whether two parts of records are the same.
 ghost use Rattle.std.specs.Prelude.{◌≡◌, ◌↔◌, IsTrue};
 
 use crate::record::{OutputRecord, Record};
@@ -11,7 +11,7 @@ use gb_tree::prints::Prints;
 
 /// What can be compared with another of its type.
 pub trait Same {
-    /// Whether the two are equal in all that is remembered of them.
+    /// Whether the two are equal in all that records have of them.
     fn is_same(&self, other: &Self) -> bool
         ensures { IsTrue result ↔ (self.now ≡ other.now) };
 }

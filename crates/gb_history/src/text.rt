@@ -5,7 +5,7 @@ ghost use Rattle.std.specs.List.{AllByRecursion};
 ghost use Rattle.std.specs.Str.{IsUtf8};
 ghost use Rattle.serde_json.specs.View.{view};
 ghost use Rattle.serde_json.specs.Written.{compact_text};
-ghost use Rattle.gb_history.specs.Remembered.{Remembered, IsRemembered, IsSaid};
+ghost use Rattle.gb_history.specs.Record.{Record as Recorded, IsWellFormed, IsSaid};
 ghost use Rattle.gb_history.specs.Text.{history_json, record_json, record_text, text_in, history_text_in};
 ghost use Rattle.gb_history.specs.Text.{sealed, FitsEdition, IsTextOf, TextsSayOneRecord, TextsSayOneHistory};
 ghost use Rattle.gb_history.specs.Tokens.{data_tokens};
@@ -40,9 +40,9 @@ fn sealed_text(json: Vec<u8>) -> Result<Vec<u8>, AllocError>
 
 /// The sealed text of records as JSON.
 pub(crate) fn sealed_json(writer: Writer) -> Result<Vec<u8>, AllocError>
-    ensures { (edition : Written) (entries : List (List ℕ × Remembered)) → writer.before ≡ []
-        → writer.tokens ≡ data_tokens (history_json edition entries)
-        → IfOk result (λ text. text.items ≡ history_text_in edition entries) }
+    ensures { (edition : Written) (records : List (List ℕ × Recorded)) → writer.before ≡ []
+        → writer.tokens ≡ data_tokens (history_json edition records)
+        → IfOk result (λ text. text.items ≡ history_text_in edition records) }
 {
     sealed_text(writer.into_inner())
 }
@@ -56,7 +56,7 @@ fn text_in(
     room: usize,
 ) -> Result<Vec<u8>, AllocError>
     ensures text { IfOk result (λ text. text.items ≡ text_in edition path.now run.now) }
-    ensures held { OnOk result (IsRemembered run.now) }
+    ensures held { OnOk result (IsWellFormed run.now) }
     ensures utf8 { OnOk result (IsUtf8 path.now) }
 {
     let mut writer = Writer::new(Vec::with_capacity(alloc, room)?);
@@ -67,7 +67,7 @@ fn text_in(
 /// The text of the record of a task.
 pub fn record_text(alloc: Global, path: &TaskPath, run: &Record) -> Result<Vec<u8>, AllocError>
     ensures text { IfOk result (λ text. text.items ≡ record_text path.now run.now) }
-    ensures held { OnOk result (IsRemembered run.now) }
+    ensures held { OnOk result (IsWellFormed run.now) }
     ensures utf8 { OnOk result (IsUtf8 path.now) }
 {
     text_in(alloc, Edition::Second, path, run, USUAL_LENGTH)
@@ -92,9 +92,9 @@ pub(crate) fn before_seal(bytes: &[u8]) -> Option<&[u8]>
 
 /// A JSON text, and the edition that it says it is written in.
 pub(crate) fn json_in(alloc: Global, json: &[u8]) -> Result<(Edition, Json), RecordFault>
-    ensures { (edition : Written) (entries : List (List ℕ × Remembered)) → AllByRecursion IsSaid entries
-        → json.now ≡ compact_text (history_json edition entries)
-        → MatchResult result (λ got. (got.0 ≡ edition) × (view got.1 ≡ history_json edition entries))
+    ensures { (edition : Written) (records : List (List ℕ × Recorded)) → AllByRecursion IsSaid records
+        → json.now ≡ compact_text (history_json edition records)
+        → MatchResult result (λ got. (got.0 ≡ edition) × (view got.1 ≡ history_json edition records))
         (λ e. e ≡ OutOfMemory) }
 {
     let json = json_from(alloc, json)?;
@@ -106,7 +106,7 @@ pub(crate) fn json_in(alloc: Global, json: &[u8]) -> Result<(Edition, Json), Rec
 
 /// The edition and the record that a JSON text says.
 fn parsed(alloc: Global, json: &[u8]) -> Result<(Edition, Record), RecordFault>
-    ensures read { (edition : Written) (path : List ℕ) (run : Remembered) → IsUtf8 path → IsRemembered run
+    ensures read { (edition : Written) (path : List ℕ) (run : Recorded) → IsUtf8 path → IsWellFormed run
         → AllByRecursion (FitsEdition edition) run.actions
         → json.now ≡ compact_text (record_json edition path run)
         → MatchResult result (λ got. (got.0 ≡ edition) × (got.1 ≡ run)) (λ e. e ≡ OutOfMemory) }
@@ -121,7 +121,7 @@ fn parsed(alloc: Global, json: &[u8]) -> Result<(Edition, Record), RecordFault>
 fn read_directly(alloc: Global, path: &TaskPath, bytes: &[u8]) -> Option<Record>
     ensures exact { IfSome result (λ run. bytes.now ≡ record_text path.now run) }
     ensures utf8 { OnSome result (IsUtf8 path.now) }
-    ensures held { IfSome result IsRemembered }
+    ensures held { IfSome result IsWellFormed }
 {
     let found = record_in(alloc, before_seal(bytes)?)?;
     let text = text_in(alloc, Edition::Second, path, &found, bytes.len()).ok()?;
@@ -136,8 +136,8 @@ fn read_directly(alloc: Global, path: &TaskPath, bytes: &[u8]) -> Option<Record>
 fn read_by_tree(alloc: Global, path: &TaskPath, bytes: &[u8]) -> Result<Record, RecordFault>
     ensures exact { IfOk result (λ run. IsTextOf path.now run bytes.now) }
     ensures utf8 { OnOk result (IsUtf8 path.now) }
-    ensures held { IfOk result IsRemembered }
-    ensures back { (run : Remembered) → IsUtf8 path.now → IsRemembered run → IsTextOf path.now run bytes.now
+    ensures held { IfOk result IsWellFormed }
+    ensures back { (run : Recorded) → IsUtf8 path.now → IsWellFormed run → IsTextOf path.now run bytes.now
         → MatchResult result (λ got. got ≡ run) (λ e. e ≡ OutOfMemory) }
 {
     let Some(json) = before_seal(bytes) else {
@@ -156,9 +156,9 @@ pub fn read_record(alloc: Global, path: &TaskPath, bytes: &[u8]) -> Result<Recor
     // What is read has the text.
     ensures exact { IfOk result (λ run. IsTextOf path.now run bytes.now) }
     ensures utf8 { OnOk result (IsUtf8 path.now) }
-    ensures held { IfOk result IsRemembered }
+    ensures held { IfOk result IsWellFormed }
     // The text of a record of the task is read as that record.
-    ensures back { (run : Remembered) → IsUtf8 path.now → IsRemembered run → IsTextOf path.now run bytes.now
+    ensures back { (run : Recorded) → IsUtf8 path.now → IsWellFormed run → IsTextOf path.now run bytes.now
         → MatchResult result (λ got. got ≡ run) (λ e. e ≡ OutOfMemory) }
 {
     match read_directly(alloc, path, bytes) {

@@ -7,11 +7,11 @@ ghost use Rattle.hex.specs.Hex.{encode_lower};
 ghost use Rattle.json.specs.Token.{key};
 ghost use Rattle.serde_json.specs.Data.{boolean, number, unsigned, string, array, object, no_members, member};
 ghost use Rattle.serde_json.specs.View.{items_of};
-ghost use Rattle.gb_history.specs.Remembered.{IsArgument, IsInput, IsAction, IsPrint, ArePrints};
-ghost use Rattle.gb_history.specs.Remembered.{IsOutput, IsRemembered, AreHeld};
+ghost use Rattle.gb_history.specs.Record.{IsArgument, IsInput, IsAction, IsPrint, ArePrints};
+ghost use Rattle.gb_history.specs.Record.{IsOutput, IsWellFormed, AreHeld};
 ghost use Rattle.gb_history.specs.Text.{value_json, input_json, plain_object, versioned_object, action_json};
 ghost use Rattle.gb_history.specs.Text.{print_json, prints_json, output_json, shape_text, run_json};
-ghost use Rattle.gb_history.specs.Text.{edition_number, record_json, entry_json, history_json};
+ghost use Rattle.gb_history.specs.Text.{edition_number, record_json, held_json, history_json};
 ghost use Rattle.gb_history.specs.Tokens.{data_tokens};
 
 use crate::record::{Edition, OutputRecord, Record};
@@ -334,7 +334,7 @@ fn write_run(
     ensures json { OnOk result
         (writer.new.tokens ≡ writer.old.tokens ++ data_tokens (run_json edition path.now run.now)) }
     ensures before { writer.new.before ≡ writer.old.before }
-    ensures held { OnOk result (IsRemembered run.now) }
+    ensures held { OnOk result (IsWellFormed run.now) }
     ensures utf8 { OnOk result (IsUtf8 path.now) }
     ensures task { OnOk result (IsTrue (is_task_path path.now)) }
 {
@@ -371,7 +371,7 @@ fn write_only(
     ensures json { OnOk result (writer.new.tokens
         ≡ writer.old.tokens ++ data_tokens (array (items_of (run_json edition path.now run.now ∷ [])))) }
     ensures before { writer.new.before ≡ writer.old.before }
-    ensures held { OnOk result (IsRemembered run.now) }
+    ensures held { OnOk result (IsWellFormed run.now) }
     ensures utf8 { OnOk result (IsUtf8 path.now) }
 {
     writer.begin_array()?;
@@ -389,7 +389,7 @@ pub fn write_record(
     ensures json { OnOk result
         (writer.new.tokens ≡ writer.old.tokens ++ data_tokens (record_json edition path.now run.now)) }
     ensures before { writer.new.before ≡ writer.old.before }
-    ensures held { OnOk result (IsRemembered run.now) }
+    ensures held { OnOk result (IsWellFormed run.now) }
     ensures utf8 { OnOk result (IsUtf8 path.now) }
 {
     writer.begin_object()?;
@@ -400,13 +400,13 @@ pub fn write_record(
 }
 
 /// Records in the order of the paths of their tasks.
-fn write_entries(
+fn write_records(
     writer: &mut Writer,
     edition: Edition,
     records: &BTreeMap<TaskPath, Record>,
 ) -> Result<(), AllocError>
     ensures json { OnOk result (writer.new.tokens ≡ writer.old.tokens ++ data_tokens
-        (array (items_of (map (entry_json edition) records.now.entries)))) }
+        (array (items_of (map (held_json edition) records.now.entries)))) }
     ensures before { writer.new.before ≡ writer.old.before }
     ensures held { OnOk result (AreHeld records.now.entries) }
 {
@@ -431,6 +431,6 @@ pub fn write_history(
     writer.begin_object()?;
     write_number(writer, "form", edition_number(edition))?;
     writer.key("tasks")?;
-    write_entries(writer, edition, records)?;
+    write_records(writer, edition, records)?;
     writer.end_object()
 }

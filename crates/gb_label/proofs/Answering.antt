@@ -3,7 +3,7 @@ use Rattle.std.proofs.Common.{◌≡◌, ℕ, List, Option, Some, refl, sym, sub
 use Rattle.gb_folder.specs.Calls.{Asks, Call, no_change}
 use Rattle.gb_folder.specs.Files.{Tearing}
 use Rattle.gb_history.specs.Decision.{DecidesFrom}
-use Rattle.gb_history.specs.Remembered.{Remembered}
+use Rattle.gb_history.specs.Record.{Record}
 use Rattle.gb_history.specs.declared.decide.Decision.{Decision}
 use Rattle.gb_history.specs.declared.decide.Decision.TheVariants as decisions
 use Rattle.gb_history.specs.declared.decide.Present.{Present}
@@ -17,14 +17,14 @@ use Rattle.gb_label.specs.Deciding.{IsPresentOf}
 
 -- where all is to be done anew nothing is to be answered
 pub full_decided : {F : Type 0} (failures : F → ℕ) (may_leave : F → Tearing) (asked : F → Call → F → Type 0) (old new : F) (options : Options) (task : Task)
-    (last : Option Remembered) (inputs : List Read) (decision : Decision) (outputs : List Read)
+    (last : Option Record) (inputs : List Read) (decision : Decision) (outputs : List Read)
     → decision ≡ decisions.Full → WasDecided failures may_leave asked old new options task last inputs decision outputs
 full_decided failures may_leave asked old new options task last inputs decision outputs full =
     subst (λ (d : Decision). WasDecided failures may_leave asked old new options task last inputs d outputs) (sym full) tt
 
 -- what a record decides on outputs that were answered
 pub record_decided : {F : Type 0} (failures : F → ℕ) (may_leave : F → Tearing) (asked : F → Call → F → Type 0) (old new : F) (options : Options) (task : Task)
-    (run : Remembered) (inputs : List Read) (decision : Decision) (outputs : List Read)
+    (run : Record) (inputs : List Read) (decision : Decision) (outputs : List Read)
     → AreOutputs task outputs → AreOutputsAnswered failures may_leave asked old new task outputs → (present : Present)
     → IsPresentOf options task (prints_read inputs) (records_with task.outputs (prints_read outputs)) present → DecidesFrom run present decision
     → WasDecided failures may_leave asked old new options task (Some run) inputs decision outputs
@@ -36,7 +36,7 @@ record_decided failures may_leave asked old new options task run inputs decision
 -- what was decided on what was answered on a part of the way
 module _ {F : Type 0} {failures : F → ℕ} {may_leave : F → Tearing} {asked : F → Call → F → Type 0} where
   pub decided_longer : {first old new end : F} → Asks failures may_leave asked no_change first old → Asks failures may_leave asked no_change new end
-      → (options : Options) (task : Task) (last : Option Remembered) (inputs : List Read) (decision : Decision) (outputs : List Read)
+      → (options : Options) (task : Task) (last : Option Record) (inputs : List Read) (decision : Decision) (outputs : List Read)
       → WasDecided failures may_leave asked old new options task last inputs decision outputs
       → WasDecided failures may_leave asked first end options task last inputs decision outputs
   decided_longer before behind options task last inputs decisions.UpToDate outputs was = (was.0, outputs_longer before behind task outputs was.1, was.2)

@@ -3,7 +3,7 @@ use Rattle.std.specs.Prelude.{◌≡◌, List, [], ◌∷◌, map}
 use Rattle.std.proofs.Common.{refl, sym, ap, ◌∙◌}
 use Rattle.gb_folder.specs.Files.{is_empty}
 use Rattle.gb_history.specs.Decision.{DecidesFrom}
-use Rattle.gb_history.specs.Remembered.{Prints, Remembered, prints_in}
+use Rattle.gb_history.specs.Record.{Prints, Record, prints_in}
 use Rattle.gb_history.specs.declared.decide.Decision.{Decision}
 use Rattle.gb_history.specs.declared.decide.Decision.TheVariants as decisions
 use Rattle.gb_history.specs.declared.decide.Present.{Present}
@@ -21,12 +21,12 @@ as_empty [] (output ∷ outputs) same = absurd (cc)
 as_empty (record' ∷ records) [] same = absurd (cc)
 as_empty (record' ∷ records) (output ∷ outputs) same = refl
 
-pub may_decide : (options : Options) (task : Task) (run : Remembered) (inputs : List Prints) (outputs : List OutputRecord) (present : Present)
+pub may_decide : (options : Options) (task : Task) (run : Record) (inputs : List Prints) (outputs : List OutputRecord) (present : Present)
     (decision : Decision) → IsPresentOf options task inputs outputs present
     → map (λ found. found.0) (prints_in outputs) ≡ map (λ output. output.name) task.outputs → DecidesFrom run present decision
     → MayDecide options task decision
 may_decide options task run inputs outputs present decisions.UpToDate is names from = (
-  sym (as_empty outputs task.outputs names) ∙ sym (ap (λ (now : Remembered). is_empty now.outputs) is.now) ∙ from.has_outputs,
+  sym (as_empty outputs task.outputs names) ∙ sym (ap (λ (now : Record). is_empty now.outputs) is.now) ∙ from.has_outputs,
   sym is.stale ∙ from.not_stale,
   sym is.rerun ∙ from.no_rerun,
 )

@@ -7,7 +7,7 @@ use Rattle.gb_action.specs.Files.{Tree}
 use Rattle.gb_action.specs.declared.output.Form.{Form}
 use Rattle.gb_action.specs.declared.output.OutputFiles.{OutputFiles}
 use Rattle.gb_folder.specs.Files.{Files, Place}
-use Rattle.gb_history.specs.Remembered.{Prints, prints_in}
+use Rattle.gb_history.specs.Record.{Prints, prints_in}
 use Rattle.gb_meaning.specs.Tree.{tree_of}
 use Rattle.gb_plan.specs.Task.{seen_outputs}
 use Rattle.gb_plan.specs.declared.task.FileProperty.{FileProperty}

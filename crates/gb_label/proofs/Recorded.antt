@@ -2,7 +2,7 @@
 use Rattle.std.specs.Prelude.{◌≡◌, ℕ, List, [], ◌∷◌, map}
 use Rattle.std.proofs.Common.{refl, sym, ap, subst, ◌∙◌}
 use Rattle.gb_folder.specs.Files.{Files}
-use Rattle.gb_history.specs.Remembered.{Prints, prints_in}
+use Rattle.gb_history.specs.Record.{Prints, prints_in}
 use Rattle.gb_history.specs.declared.decide.Decision.{Decision}
 use Rattle.gb_history.specs.declared.decide.Decision.TheVariants as decisions
 use Rattle.gb_history.specs.declared.record.OutputRecord.{OutputRecord}

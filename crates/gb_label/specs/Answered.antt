@@ -3,7 +3,7 @@ use Rattle.std.specs.Prelude.{ℕ, ◌≡◌, true, List, Option, Some, ⊤}
 use Rattle.gb_folder.specs.Calls.{Call}
 use Rattle.gb_folder.specs.Files.{Tearing}
 use Rattle.gb_history.specs.Decision.{DecidesFrom}
-use Rattle.gb_history.specs.Remembered.{Prints, Remembered}
+use Rattle.gb_history.specs.Record.{Prints, Record}
 use Rattle.gb_history.specs.declared.decide.Decision.{Decision}
 use Rattle.gb_history.specs.declared.decide.Decision.TheVariants as decisions
 use Rattle.gb_history.specs.declared.decide.Present.{Present}
@@ -36,9 +36,9 @@ WasLookedAt failures may_leave asked old new task (looks.Goes inputs) =
     AreInputsAnswered failures may_leave asked old new task inputs.items
 
 -- The record that was read finds the task up to date on inputs and outputs with these digests.
-pub record IsFoundCurrent (options : Options) (task : Task) (last : Option Remembered)
+pub record IsFoundCurrent (options : Options) (task : Task) (last : Option Record)
     (inputs outputs : List Prints) : Type 0 where
-  pub run : Remembered
+  pub run : Record
   pub read : last ≡ Some run
   pub present : Present
   pub has : IsPresentOf options task inputs (records_with task.outputs outputs) present
@@ -47,7 +47,7 @@ pub record IsFoundCurrent (options : Options) (task : Task) (last : Option Remem
 -- What was decided on: outputs that were answered, where the decision goes by them; and what is up to date
 -- was found so on just these and these inputs.
 abbrev pub WasDecided : {F : Type 0} → (F → ℕ) → (F → Tearing) → (F → Call → F → Type 0) → F → F → Options
-    → Task → Option Remembered → List Read → Decision → List Read → Type 0
+    → Task → Option Record → List Read → Decision → List Read → Type 0
 WasDecided failures may_leave asked old new options task last inputs decisions.UpToDate outputs =
     AreOutputs task outputs × AreOutputsAnswered failures may_leave asked old new task outputs
     × IsFoundCurrent options task last (prints_read inputs) (prints_read outputs)
@@ -57,7 +57,7 @@ WasDecided failures may_leave asked old new options task last inputs decisions.F
 
 -- what a turn is prepared for goes by what was answered
 abbrev pub WasPrepared : {F : Type 0} → (F → ℕ) → (F → Tearing) → (F → Call → F → Type 0) → F → F → Options
-    → Task → Option Remembered → Prepared → Type 0
+    → Task → Option Record → Prepared → Type 0
 WasPrepared failures may_leave asked old new options task last prepared.Skips = ⊤
 WasPrepared failures may_leave asked old new options task last prepared.HasNoActions = ⊤
 WasPrepared failures may_leave asked old new options task last prepared.HasNoSource =

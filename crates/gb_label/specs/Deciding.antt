@@ -4,7 +4,7 @@ use Rattle.std.specs.List.{filter, flat_map}
 use Rattle.gb_folder.specs.Files.{Contents, Files, Place, is_empty}
 use Rattle.gb_history.specs.Ascending.{ascends}
 use Rattle.gb_history.specs.Decision.{DecidesFrom}
-use Rattle.gb_history.specs.Remembered.{AreInOrder, Prints, Remembered}
+use Rattle.gb_history.specs.Record.{AreInOrder, Prints, Record}
 use Rattle.gb_history.specs.declared.decide.Decision.{Decision}
 use Rattle.gb_history.specs.declared.decide.Decision.TheVariants as decisions
 use Rattle.gb_history.specs.declared.decide.Decision.TheVariants.{Full}
@@ -44,16 +44,16 @@ pub record IsPresentOf (options : Options) (task : Task) (inputs : List Prints) 
 -- What is decided of a task from its record: what the record and the present say; or that it runs in full,
 -- since nothing is remembered of it, it is to run anew, or its outputs are such as no run leaves.
 pub data IsDecided (options : Options) (task : Task) (folder : Contents)
-    : Option Remembered → Decision → Type 0 where
-  by_record : {run : Remembered} {decision : Decision} (present : Present)
+    : Option Record → Decision → Type 0 where
+  by_record : {run : Record} {decision : Decision} (present : Present)
       → IsPresentOf options task (digests_in (trees_of task folder.files))
       (map (recorded_of folder.files) task.outputs) present
       → DecidesFrom run present decision
       → IsDecided options task folder (Some run) decision
   forgotten : IsDecided options task folder None Full
-  anew : {run : Remembered} → (options.rerun ≡ true) ⊎ (task.is_stale ≡ true)
+  anew : {run : Record} → (options.rerun ≡ true) ⊎ (task.is_stale ≡ true)
       → IsDecided options task folder (Some run) Full
-  grown : {run : Remembered} → is_empty (flat_map (print_faults folder) task.outputs) ≡ false
+  grown : {run : Record} → is_empty (flat_map (print_faults folder) task.outputs) ≡ false
       → IsDecided options task folder (Some run) Full
 
 -- what may be decided over any folder: that a task is up to date only where it may be told so

@@ -2,7 +2,7 @@
 use Rattle.std.specs.Prelude.{◌≡◌, true, false, Option, Some, None, ⊤}
 use Rattle.std.specs.List.{list_any}
 use Rattle.gb_folder.specs.Files.{Contents, Files, is_empty}
-use Rattle.gb_history.specs.Remembered.{Remembered}
+use Rattle.gb_history.specs.Record.{Record}
 use Rattle.gb_history.specs.declared.decide.Decision.{Decision}
 use Rattle.gb_history.specs.declared.decide.Decision.TheVariants as decisions
 use Rattle.gb_meaning.specs.Label.{HasNoActions, HasNoSource, Skips, early_case}
@@ -15,7 +15,7 @@ use Rattle.gb_label.specs.declared.prepare.Prepared.TheVariants as prepared
 use Rattle.gb_label.specs.declared.prepare.Seen.{Seen}
 
 -- It is the task's case; and where it is none, what is decided from its record.
-abbrev pub IsPrepared : Options → Task → Contents → Option Remembered → Prepared → Type 0
+abbrev pub IsPrepared : Options → Task → Contents → Option Record → Prepared → Type 0
 IsPrepared options task folder run prepared.Skips = early_case task folder ≡ Some Skips
 IsPrepared options task folder run prepared.HasNoActions = early_case task folder ≡ Some HasNoActions
 IsPrepared options task folder run prepared.HasNoSource = early_case task folder ≡ Some HasNoSource

@@ -1,14 +1,16 @@
 -- What a turn reads, once, and why it does not get to.
 use Rattle.std.specs.Prelude.{ℕ, ◌≡◌, ◌⊎◌, Bool, List, Some, map, IsTrue}
 use Rattle.std.specs.List.{AllByRecursion, AllZip, list_any, zip}
+use Rattle.sha2.specs.Sha256.{sha256}
 use Rattle.gb_action.specs.Files.{Trees}
 use Rattle.gb_action.specs.declared.output.OutputFiles.{OutputFiles}
 use Rattle.gb_core.specs.Lists.{first_of}
 use Rattle.gb_core.specs.Place.{is_under}
 use Rattle.gb_folder.specs.Files.{Contents, Files, Place}
-use Rattle.gb_history.specs.Remembered.{Prints}
+use Rattle.gb_history.specs.Record.{Prints}
 use Rattle.gb_history.specs.declared.record.OutputRecord.{OutputRecord}
 use Rattle.gb_meaning.specs.Tree.{told_of_tree}
+use Rattle.gb_meaning.specs.TrueRecord.{output_record_of}
 use Rattle.gb_plan.specs.declared.task.FileProperty.{FileProperty}
 use Rattle.gb_plan.specs.declared.task.Output.{Output}
 use Rattle.gb_plan.specs.Task.{is_output_of, roots_of}
@@ -33,13 +35,9 @@ is_input_of task place = list_any (is_under place) (roots_of task)
 abbrev pub digests_in : Trees → List (List ℕ × List (List ℕ × List ℕ))
 digests_in trees = map (λ tree. (tree.0, digests_of tree.1)) trees
 
--- an output of these files, with the digests of its own by their paths from its place
+-- an output of these files, as it is recorded
 abbrev pub recorded_of : Files → Output → OutputRecord
-recorded_of files output = record {
-  form = output.form;
-  place = output.place;
-  prints = (output.name, digests_of (files_from files output.place));
-}
+recorded_of files output = output_record_of sha256 files output
 
 -- what hinders reading the files of an output
 abbrev pub print_faults : Contents → Output → List Fault

@@ -4,7 +4,7 @@ ghost use Rattle.std.specs.List.{flat_map, list_any};
 ghost use Rattle.gb_folder.specs.Calls.{Asks, no_change};
 ghost use Rattle.gb_folder.specs.Files.{is_empty, is_own};
 ghost use Rattle.gb_history.specs.Decision.{DecidesFrom};
-ghost use Rattle.gb_history.specs.Remembered.{prints_in};
+ghost use Rattle.gb_history.specs.Record.{prints_in};
 ghost use Rattle.gb_history.specs.declared.decide.Present.{Present};
 ghost use Rattle.gb_meaning.specs.Tree.{listing_faults, trees_of};
 ghost use Rattle.gb_plan.specs.Task.{is_output_of};

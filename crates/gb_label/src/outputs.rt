@@ -3,7 +3,7 @@ ghost use Rattle.std.specs.Prelude.{◌≡◌, [], map, IsTrue, IfOk, IfErr, OnO
 ghost use Rattle.std.specs.List.{AllByRecursion, flat_map};
 ghost use Rattle.gb_core.specs.Place.{is_under};
 ghost use Rattle.gb_folder.specs.Calls.{Asks, no_change};
-ghost use Rattle.gb_history.specs.Remembered.{prints_in};
+ghost use Rattle.gb_history.specs.Record.{prints_in};
 ghost use Rattle.gb_plan.specs.Task.{is_output_of, seen_outputs};
 ghost use Rattle.gb_store.specs.Faults.{Blames, BlamesOnly, IsOfMachine};
 ghost use Rattle.gb_tree.specs.Answered.{IsTreeRead, WereSeen};

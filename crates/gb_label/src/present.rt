@@ -1,6 +1,6 @@
 //! What a task has before it acts, as it is compared with its record.
 ghost use Rattle.std.specs.Prelude.{◌≡◌, ◌++◌, ◌∷◌, [], map, IfOk, OnOk};
-ghost use Rattle.gb_history.specs.Remembered.{prints_in};
+ghost use Rattle.gb_history.specs.Record.{prints_in};
 ghost use Rattle.gb_label.specs.Deciding.{HasNamesInOrder, IsPresentOf, incremental_names};
 
 use crate::record::record_of;

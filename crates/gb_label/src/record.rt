@@ -1,6 +1,6 @@
 //! The record of a task: what it declares, with the digests of its inputs and outputs.
 ghost use Rattle.std.specs.Prelude.{◌≡◌, IfOk, map};
-ghost use Rattle.gb_history.specs.Remembered.{prints_in};
+ghost use Rattle.gb_history.specs.Record.{prints_in};
 ghost use Rattle.gb_label.specs.Deciding.{HasNamesInOrder};
 
 use gb_action::list::ActionList;

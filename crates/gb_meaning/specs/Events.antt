@@ -28,7 +28,8 @@ use Rattle.gb_meaning.specs.Edits.{Shown, PutStep, RemoveStep, LossStep}
 use Rattle.gb_meaning.specs.Scratch.{from_scratch}
 use Rattle.gb_tree.specs.Property.{last_segment}
 use Rattle.gb_meaning.specs.Turn.{May, Rules, Guard, Builds, TouchesRecord, IsWritten}
-use Rattle.gb_meaning.specs.TrueRecord.{Record, RecordTexts, record_of, outside}
+use Rattle.gb_history.specs.Record.{Record}
+use Rattle.gb_meaning.specs.TrueRecord.{RecordTexts, record_of, outside}
 
 -- What a run is about: what the kinds mean; what scripts register with the values of `-P`, or their first
 -- fault; and how records are read, where each stands, what its text is, and the digest of contents; and what

@@ -24,7 +24,8 @@ use Rattle.gb_plan.specs.Ready.{Rows}
 use Rattle.gb_meaning.specs.Memory.{Memory}
 use Rattle.gb_plan.specs.Graph.{Registry, IsRegistry, build_folder}
 use Rattle.gb_meaning.specs.Turn.{Guard, heard_of}
-use Rattle.gb_meaning.specs.TrueRecord.{Record, RecordTexts, SaysNoRecord, AreApart}
+use Rattle.gb_history.specs.Record.{Record}
+use Rattle.gb_meaning.specs.TrueRecord.{RecordTexts, SaysNoRecord, AreApart}
 use Rattle.gb_meaning.specs.TrueRecord.{StandsFor, outside, memory_contents}
 use Rattle.gb_core.specs.Path.{is_task_path}
 use Rattle.gb_meaning.specs.Edits.{Shown}

@@ -1,42 +1,42 @@
--- What is stored of a run: digests in place of contents; and when it is true.
+-- The record that an entry has: digests in place of contents; and when a folder holds true records.
 use Rattle.std.specs.Prelude.{ℕ, ◌≡◌, not, List, ◌++◌, map, Ok, Contains, Option, None, Some, IsTrue, ⊤}
 use Rattle.std.specs.FinMap.Entries.{is_sorted}
 use Rattle.gb_core.specs.Path.{is_task_path}
 use Rattle.std.specs.List.{flat_map, AllByRecursion}
-use Rattle.gb_folder.specs.Files.{Place, Bytes, Contents, file_at, files_where, is_own, IsFolder}
+use Rattle.gb_folder.specs.Files.{Place, Bytes, Contents, Files, file_at, files_where, is_own, IsFolder}
 use Rattle.gb_core.specs.Lists.{byte_order}
+use Rattle.gb_history.specs.Record.{Prints, Record}
+use Rattle.gb_history.specs.declared.record.OutputRecord.{OutputRecord}
 use Rattle.gb_meaning.specs.Kinds.{Name, Kinds}
 use Rattle.gb_plan.specs.Task.{Path}
-use Rattle.gb_action.specs.Meanings.{Values}
-use Rattle.gb_plan.specs.declared.task.Action.{Action}
 use Rattle.gb_plan.specs.declared.task.Output.{Output}
-use Rattle.gb_action.specs.Files.{Trees}
+use Rattle.gb_action.specs.Files.{Tree, Trees}
 use Rattle.gb_tree.specs.Tree.{files_from}
 use Rattle.gb_meaning.specs.Made.{made_of}
 use Rattle.gb_meaning.specs.Memory.{Entry, Memory, World, recalled}
 
--- digests by path, for each name
-abbrev pub Prints : Type 0
-Prints = List (Name × List (Place × List ℕ))
+-- the digests of a tree's files by their paths, beside its name
+abbrev pub print_of : (Bytes → List ℕ) → Name × Tree → Prints
+print_of digest tree = (tree.0, map (λ file. (file.0, digest file.1)) tree.1)
 
-pub record Record : Type 0 where
-  pub actions : List Action
-  pub values : Values
-  pub inputs : Prints
-  pub outputs : List Output
-  pub files : Prints
+abbrev pub prints_of : (Bytes → List ℕ) → Trees → List Prints
+prints_of digest trees = map (print_of digest) trees
 
-abbrev pub prints_of : (Bytes → List ℕ) → Trees → Prints
-prints_of digest trees = map (λ tree. (tree.0, map (λ file. (file.0, digest file.1)) tree.1)) trees
+-- an output of these files, with the digests of its own by their paths from its place
+abbrev pub output_record_of : (Bytes → List ℕ) → Files → Output → OutputRecord
+output_record_of digest files output = record {
+  form = output.form;
+  place = output.place;
+  prints = print_of digest (output.name, files_from files output.place);
+}
 
--- what is stored of an entry: inputs by their paths, outputs by their paths from the output's place
+-- the record of an entry
 abbrev pub record_of : (Bytes → List ℕ) → Entry → Record
 record_of digest entry = record {
   actions = entry.actions;
   values = entry.values;
   inputs = prints_of digest entry.inputs;
-  outputs = entry.outputs;
-  files = prints_of digest (map (λ output. (output.name, files_from entry.files output.place)) entry.outputs);
+  outputs = map (output_record_of digest entry.files) entry.outputs;
 }
 
 -- the outputs are what the actions make of the inputs; it does not say when

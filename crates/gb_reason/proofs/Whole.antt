@@ -8,7 +8,7 @@ use Rattle.gb_action.proofs.Told.{told-is_change}
 use Rattle.gb_action.specs.Changes.{changes_between}
 use Rattle.gb_folder.specs.Files.{is_empty}
 use Rattle.gb_history.specs.Decision.{DecidesFrom, IsUpToDate}
-use Rattle.gb_history.specs.Remembered.{Remembered, prints_in}
+use Rattle.gb_history.specs.Record.{Record, prints_in}
 use Rattle.gb_history.specs.declared.decide.Decision.{Decision}
 use Rattle.gb_history.specs.declared.decide.Decision.TheVariants as decisions
 use Rattle.gb_history.specs.declared.decide.Present.{Present}
@@ -32,19 +32,19 @@ orders : (outputs : List OutputRecord) → AllByRecursion HasOrder (prints_in ou
 orders [] all = tt
 orders (output ∷ outputs) all = (all.0, orders outputs all.1)
 
-abbrev of_actions : Remembered → Remembered → List Reason
+abbrev of_actions : Record → Record → List Reason
 of_actions old new = cond (pointwise is_action old.actions new.actions) [] (reasons.Actions ∷ [])
 
-abbrev of_values : Remembered → Remembered → List Reason
+abbrev of_values : Record → Record → List Reason
 of_values old new = part has_name of_value reasons.ValueNames old.values new.values
 
-abbrev of_outputs : Remembered → Remembered → List Reason
+abbrev of_outputs : Record → Record → List Reason
 of_outputs old new = part is_output of_output reasons.OutputNames old.outputs new.outputs
 
-abbrev of_inputs : Remembered → Remembered → List Reason
+abbrev of_inputs : Record → Record → List Reason
 of_inputs old new = part has_name of_files reasons.FileNames old.inputs new.inputs
 
-module _ (old new : Remembered) where
+module _ (old new : Record) where
   actions_same : of_actions old new ≡ [] → old.actions ≡ new.actions
   actions_same none = by (pointwise is_action old.actions new.actions) refl none
     where
@@ -69,7 +69,7 @@ module _ (old new : Remembered) where
       part_same has_name of_files reasons.FileNames HasOrder files_same old.inputs new.inputs p.inputs q.inputs front.1 in
       λ i. record { actions = actions i; values = values i; inputs = inputs i; outputs = outputs i }
 
-pub none_differs : (run : Remembered) → differences run run ≡ []
+pub none_differs : (run : Record) → differences run run ≡ []
 none_differs run =
     ap₂ (λ (a b : List Reason). a ++ b)
     (ap₂ (λ (a b : List Reason). a ++ b)
@@ -78,7 +78,7 @@ none_differs run =
     (part_none is_output of_output reasons.OutputNames output_own output_none run.outputs))
     (part_none has_name of_files reasons.FileNames name_own files_none run.inputs)
 
-module _ (run : Remembered) (present : Present) where
+module _ (run : Record) (present : Present) where
   abbrev Parted : Bool → Bool → Bool → List Reason
   Parted rerun stale bare =
       cond rerun (reasons.Rerun ∷ [])
@@ -116,7 +116,7 @@ none_is_up_to_date (Some run) present decision p q decides = by decision decides
 
 -- ---- Each is real
 
-module _ (run : Remembered) (present : Present) where
+module _ (run : Record) (present : Present) where
   abbrev Real : Reason → Type 0
   Real = IsRealFrom run present
 

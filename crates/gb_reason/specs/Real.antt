@@ -9,7 +9,7 @@ use Rattle.gb_action.specs.Files.{Tree}
 use Rattle.gb_action.specs.declared.change.Change.{Change}
 use Rattle.gb_action.specs.declared.output.Form.{Form}
 use Rattle.gb_history.specs.Decision.{Decides}
-use Rattle.gb_history.specs.Remembered.{Remembered, prints_in}
+use Rattle.gb_history.specs.Record.{Record, prints_in}
 use Rattle.gb_history.specs.declared.decide.Decision.{Decision}
 use Rattle.gb_history.specs.declared.decide.Decision.TheVariants as decisions
 use Rattle.gb_history.specs.declared.decide.Present.{Present}
@@ -27,24 +27,24 @@ abbrev pub declared : OutputRecord → List ℕ × Form × List ℕ
 declared output = (output.prints.0, output.form, output.place)
 
 -- an input value of this name is not what it was
-abbrev pub IsOtherValue : Remembered → Remembered → List ℕ → Value → Value → Type 0
+abbrev pub IsOtherValue : Record → Record → List ℕ → Value → Value → Type 0
 IsOtherValue old new name was is =
     Contains old.values (name, was) × Contains new.values (name, is) × (was ≢ is)
 
 -- the files of the output at this place changed in this way
-abbrev pub IsOutputChange : Remembered → Remembered → List ℕ → Change → Type 0
+abbrev pub IsOutputChange : Record → Record → List ℕ → Change → Type 0
 IsOutputChange old new place change =
     (left : OutputRecord) × (stands : OutputRecord) × Contains old.outputs left × Contains new.outputs stands
     × (left.place ≡ place) × (stands.place ≡ place) × IsChange left.prints.1 stands.prints.1 change
 
 -- the files of this property changed in this way
-abbrev pub IsFileChange : Remembered → Remembered → List ℕ → Change → Type 0
+abbrev pub IsFileChange : Record → Record → List ℕ → Change → Type 0
 IsFileChange old new name change =
     (read : Tree) × (stands : Tree) × Contains old.inputs (name, read) × Contains new.inputs (name, stands)
     × IsChange read stands change
 
 -- the reason is true of a run that is remembered and of what the task has now
-abbrev pub IsRealFrom : Remembered → Present → Reason → Type 0
+abbrev pub IsRealFrom : Record → Present → Reason → Type 0
 IsRealFrom run present reasons.NoRecord = ⊥
 IsRealFrom run present reasons.Rerun = present.rerun ≡ true
 IsRealFrom run present reasons.Stale = present.is_stale ≡ true
@@ -57,24 +57,24 @@ IsRealFrom run present (reasons.Output place change) = IsOutputChange run presen
 IsRealFrom run present reasons.FileNames = names run.inputs ≢ names present.now.inputs
 IsRealFrom run present (reasons.File name change) = IsFileChange run present.now name change
 
-abbrev pub IsReal : Option Remembered → Present → Reason → Type 0
+abbrev pub IsReal : Option Record → Present → Reason → Type 0
 IsReal None present reason = reason ≡ reasons.NoRecord
 IsReal (Some run) present reason = IsRealFrom run present reason
 
 -- each reason is true
 abbrev pub EachIsReal : Type 0
 EachIsReal =
-    (old : Option Remembered) (present : Present) (reason : Reason)
+    (old : Option Record) (present : Present) (reason : Reason)
     → Contains (reasons_of old present) reason → IsReal old present reason
 
 -- the paths of each property and of each output strictly rise, as they do in any record
-pub record HasPathsInOrder (run : Remembered) : Type 0 where
+pub record HasPathsInOrder (run : Record) : Type 0 where
   pub inputs : AllByRecursion (λ prints. IsTrue (is_sorted byte_order prints.1)) run.inputs
   pub outputs : AllByRecursion (λ prints. IsTrue (is_sorted byte_order prints.1)) (prints_in run.outputs)
 
 -- there is none exactly where the task is up to date
 abbrev pub NoneIsUpToDate : Type 0
 NoneIsUpToDate =
-    (old : Option Remembered) (present : Present) (decision : Decision)
-    → ((run : Remembered) → old ≡ Some run → HasPathsInOrder run) → HasPathsInOrder present.now
+    (old : Option Record) (present : Present) (decision : Decision)
+    → ((run : Record) → old ≡ Some run → HasPathsInOrder run) → HasPathsInOrder present.now
     → Decides old present decision → (reasons_of old present ≡ []) ↔ (decision ≡ decisions.UpToDate)

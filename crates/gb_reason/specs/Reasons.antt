@@ -7,7 +7,7 @@ use Rattle.gb_folder.specs.Files.{is_empty}
 use Rattle.gb_core.specs.declared.value.Value.{Value}
 use Rattle.gb_action.specs.Changes.{changes_between}
 use Rattle.gb_action.specs.Shapes.{is_form}
-use Rattle.gb_history.specs.Remembered.{Prints, Remembered}
+use Rattle.gb_history.specs.Record.{Prints, Record}
 use Rattle.gb_history.specs.declared.decide.Present.{Present}
 use Rattle.gb_history.specs.declared.record.OutputRecord.{OutputRecord}
 use Rattle.gb_reason.specs.Same.{is_action, is_value}
@@ -39,7 +39,7 @@ abbrev pub of_files : Prints × Prints → List Reason
 of_files pair = map (reasons.File pair.0.0) (changes_between pair.0.1 pair.1.1)
 
 -- how a run differs from another: its actions, input values, outputs and file properties, in this order
-abbrev pub differences : Remembered → Remembered → List Reason
+abbrev pub differences : Record → Record → List Reason
 differences old new =
     (if pointwise is_action old.actions new.actions then [] else reasons.Actions ∷ [])
     ++ part has_name of_value reasons.ValueNames old.values new.values
@@ -47,13 +47,13 @@ differences old new =
     ++ part has_name of_files reasons.FileNames old.inputs new.inputs
 
 -- Where a task runs whatever is remembered, that is the one reason; and else how it differs.
-abbrev pub reasons_from : Remembered → Present → List Reason
+abbrev pub reasons_from : Record → Present → List Reason
 reasons_from run present =
     if present.rerun then reasons.Rerun ∷ []
     else if present.is_stale then reasons.Stale ∷ []
     else if is_empty present.now.outputs then reasons.NoOutputs ∷ []
     else differences run present.now
 
-abbrev pub reasons_of : Option Remembered → Present → List Reason
+abbrev pub reasons_of : Option Record → Present → List Reason
 reasons_of None present = reasons.NoRecord ∷ []
 reasons_of (Some run) present = reasons_from run present

@@ -5,7 +5,7 @@ ghost use Rattle.std.specs.List.{AllByRecursion};
 ghost use Rattle.std.specs.Option.{option_copied};
 ghost use Rattle.std.specs.FinMap.Entries.{is_sorted};
 ghost use Rattle.gb_core.specs.Lists.{byte_order};
-ghost use Rattle.gb_history.specs.Remembered.{prints_in};
+ghost use Rattle.gb_history.specs.Record.{prints_in};
 ghost use Rattle.gb_history.specs.Decision.{Decides};
 ghost use Rattle.gb_history.specs.declared.decide.Decision.{Decision};
 ghost use Rattle.gb_reason.specs.Real.{HasPathsInOrder};

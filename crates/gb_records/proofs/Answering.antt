@@ -9,7 +9,7 @@ use Rattle.gb_folder.proofs.Answering.{on_longer_way, on_way_here}
 use Rattle.gb_folder.specs.Files.{Bytes, Place, Tearing}
 use Rattle.gb_folder.specs.declared.folder.FolderFault.{FolderFault}
 use Rattle.gb_folder.specs.declared.folder.FolderFault.TheVariants as folders
-use Rattle.gb_history.specs.Remembered.{Remembered}
+use Rattle.gb_history.specs.Record.{Record}
 use Rattle.gb_history.specs.Places.{record_place}
 use Rattle.gb_meaning.specs.Events.{max_record}
 use Rattle.gb_plan.specs.Task.{Path}
@@ -17,13 +17,13 @@ use Rattle.gb_report.specs.declared.fault.Fault.{Fault}
 use Rattle.gb_report.specs.declared.fault.Fault.TheVariants as faults
 use Rattle.gb_records.specs.Answered.{WasAnswered}
 use Rattle.gb_records.specs.Faults.{none_for}
-use Rattle.gb_records.specs.Said.{IsReadAs, IsText, said_of}
+use Rattle.gb_records.specs.Said.{IsReadAs, IsText}
 
 -- where there is no place for a record, none was answered
-pub none_placed : {F : Type 0} (failures : F → ℕ) (may_leave : F → Tearing) (asked : F → Call → F → Type 0) (old new : F) (path : Path) (fault : PlaceFault) (result : Result (Option Remembered) Fault) → (fault ≡ places.BadPlace → result ≡ Ok None)
+pub none_placed : {F : Type 0} (failures : F → ℕ) (may_leave : F → Tearing) (asked : F → Call → F → Type 0) (old new : F) (path : Path) (fault : PlaceFault) (result : Result (Option Record) Fault) → (fault ≡ places.BadPlace → result ≡ Ok None)
     → (fault ≡ places.OutOfMemory → result ≡ Err faults.OutOfMemory) → IfOk result (WasAnswered failures may_leave asked old new path)
-none_placed failures may_leave asked old new path places.BadPlace result bad out = subst (λ (r : Result (Option Remembered) Fault). IfOk r (WasAnswered failures may_leave asked old new path)) (sym (bad refl)) tt
-none_placed failures may_leave asked old new path places.OutOfMemory result bad out = subst (λ (r : Result (Option Remembered) Fault). IfOk r (WasAnswered failures may_leave asked old new path)) (sym (out refl)) tt
+none_placed failures may_leave asked old new path places.BadPlace result bad out = subst (λ (r : Result (Option Record) Fault). IfOk r (WasAnswered failures may_leave asked old new path)) (sym (bad refl)) tt
+none_placed failures may_leave asked old new path places.OutOfMemory result bad out = subst (λ (r : Result (Option Record) Fault). IfOk r (WasAnswered failures may_leave asked old new path)) (sym (out refl)) tt
 
 -- nor where none stands
 pub none_stood : {F : Type 0} (failures : F → ℕ) (may_leave : F → Tearing) (asked : F → Call → F → Type 0) (old new : F) (path : Path) (place : Place) (fault : FolderFault) → IfOk (none_for place fault) (WasAnswered failures may_leave asked old new path)
@@ -36,12 +36,12 @@ none_stood failures may_leave asked old new path place folders.BadFileName = tt
 
 module _ {F : Type 0} {failures : F → ℕ} {may_leave : F → Tearing} {asked : F → Call → F → Type 0} where
   pub answered_longer : (first old new last : F) → Asks failures may_leave asked no_change first old → Asks failures may_leave asked no_change new last
-      → (path : Path) (read : Option Remembered) → WasAnswered failures may_leave asked old new path read → WasAnswered failures may_leave asked first last path read
+      → (path : Path) (read : Option Record) → WasAnswered failures may_leave asked old new path read → WasAnswered failures may_leave asked first last path read
   answered_longer first old new last before behind path None was = was
   answered_longer first old new last before behind path (Some run) was = (was.0, was.1, on_longer_way before behind was.2)
 
   pub all_answered_longer : (first old new last : F) → Asks failures may_leave asked no_change first old → Asks failures may_leave asked no_change new last
-      → (paths : List Path) (read : List (Option Remembered)) → AllZip (WasAnswered failures may_leave asked old new) paths read → AllZip (WasAnswered failures may_leave asked first last) paths read
+      → (paths : List Path) (read : List (Option Record)) → AllZip (WasAnswered failures may_leave asked old new) paths read → AllZip (WasAnswered failures may_leave asked first last) paths read
   all_answered_longer first old new last before behind [] [] all = all
   all_answered_longer first old new last before behind [] (x ∷ xs) all = all
   all_answered_longer first old new last before behind (path ∷ paths) [] all = all
@@ -49,13 +49,13 @@ module _ {F : Type 0} {failures : F → ℕ} {may_leave : F → Tearing} {asked 
       (answered_longer first old new last before behind path x all.0, all_answered_longer first old new last before behind paths xs all.1)
 
   -- what is read in an answer was answered
-  pub answered_here : (old new : F) (path : Path) (bytes : Bytes) (result : Result (Option Remembered) Fault) → Asks failures may_leave asked no_change old new
+  pub answered_here : (old new : F) (path : Path) (bytes : Bytes) (result : Result (Option Record) Fault) → Asks failures may_leave asked no_change old new
       → asked old (Reads (record_place path) max_record (Ok bytes)) new → IfOk result (IsReadAs path (Some bytes)) → IfOk result (WasAnswered failures may_leave asked old new path)
   answered_here old new path bytes (Err fault) asks call read = tt
   answered_here old new path bytes (Ok None) asks call read = tt
   answered_here old new path bytes (Ok (Some run)) asks call read = (
     bytes,
-    subst (λ (b : Bytes). IsText path (said_of run) b) (sym (same bytes read.0 read.1)) read.2,
+    subst (λ (b : Bytes). IsText path run b) (sym (same bytes read.0 read.1)) read.2,
     on_way_here call,
   )
     where

@@ -19,7 +19,7 @@ use Rattle.gb_report.specs.declared.fault.Fault.TheVariants as faults
 use Rattle.gb_plan.specs.Task.{Path}
 use Rattle.gb_store.proofs.Emptied.{without_none, blocked_none}
 use Rattle.gb_history.specs.Places.{record_place}
-use Rattle.gb_history.specs.Remembered.{Remembered, IsRemembered}
+use Rattle.gb_history.specs.Record.{Record, IsWellFormed}
 use Rattle.gb_history.specs.Text.{record_text}
 use Rattle.gb_history.specs.declared.record.Edition.TheVariants as editions
 use Rattle.gb_history.proofs.Lists.{all_true}
@@ -29,7 +29,7 @@ use Rattle.gb_meaning.specs.Memory.{Entry, Memory, remember, forget}
 use Rattle.gb_meaning.specs.TrueRecord.{SaysNoRecord}
 use Rattle.gb_meaning.proofs.Lemmas.Files.{same_place}
 use Rattle.gb_records.specs.Faults.{none_for, removed_by, unwritten_for}
-use Rattle.gb_records.specs.Said.{IsText, IsSaidOf, IsReadAt, said_of}
+use Rattle.gb_records.specs.Said.{IsText, IsSaidOf, IsReadAt}
 use Rattle.gb_records.specs.Standing.{ComesToNothing, Standing, StandsWithout, StandsWith, taken_out, written_in}
 use Rattle.gb_records.proofs.Standing.{at_left, elsewhere_left, forgotten, remembered, torn_in, torn_out}
 
@@ -96,30 +96,28 @@ stands_out may_leave path old new folders.BadFileName memory good sound same mis
 
 -- ---- a write
 
--- the text that is written of a run says it
-pub text_said : (path : Path) (run : Remembered) → IsUtf8 path → IsRemembered run → length (record_text path run) ≤ max_record
-    → IsText path (said_of run) (record_text path run)
+-- the text that is written of a record says it
+pub text_said : (path : Path) (run : Record) → IsUtf8 path → IsWellFormed run → length (record_text path run) ≤ max_record
+    → IsText path run (record_text path run)
 text_said path run utf8 held short = record {
-  run = run;
-  is = refl;
   utf8 = utf8;
   held = held;
   text = record { edition = editions.Second; fits = all_true run.actions; same = refl };
   short = short;
 }
 
-pub put : (path : Path) (old new : Contents) (memory : Memory) (entry : Entry) (run : Remembered) → IsTrue (is_task_path path) → new ≡ written_in path run old
-    → IsText path (said_of run) (record_text path run) → IsSaidOf run entry → Standing old.files memory → Standing new.files (remember memory path entry)
+pub put : (path : Path) (old new : Contents) (memory : Memory) (entry : Entry) (run : Record) → IsTrue (is_task_path path) → new ≡ written_in path run old
+    → IsText path run (record_text path run) → IsSaidOf run entry → Standing old.files memory → Standing new.files (remember memory path entry)
 put path old new memory entry run good written said of stood =
     subst (λ (c : Contents). Standing c.files (remember memory path entry)) (sym written)
     (remembered old.files (with_file old.files (record_place path) (record_text path run)) memory path entry (record_text path run) good stood
     (elsewhere_left old.files path (Some (record_text path run))) (at_left old.files (record_place path) (Some (record_text path run)))
     (subst (λ s. IsText path s (record_text path run)) of said))
 
-pub stands_in : (may_leave : Tearing) (path : Path) (old new : Contents) (fault : FolderFault) (memory : Memory) (entry : Entry) (run : Remembered)
+pub stands_in : (may_leave : Tearing) (path : Path) (old new : Contents) (fault : FolderFault) (memory : Memory) (entry : Entry) (run : Record)
     → IsTrue (is_task_path path) → (fault ≢ folders.Device → new ≡ old)
     → (fault ≡ folders.Device → LeftAt may_leave (record_place path) (Some (record_text path run)) old new) → TearsAreSeen IsText record_place may_leave
-    → IsText path (said_of run) (record_text path run) → IsSaidOf run entry → Standing old.files memory
+    → IsText path run (record_text path run) → IsSaidOf run entry → Standing old.files memory
     → StandsWith path entry memory (Err (unwritten_for fault)) new.files
 stands_in may_leave path old new folders.OutOfMemory memory entry run good same torn seen said of stood = same_stands old new memory (same (λ e. cc)) stood
 stands_in may_leave path old new folders.Device memory entry run good same torn seen said of stood =
@@ -178,7 +176,7 @@ pub read_more : {X Y : Type 0} (R : X → Y → Type 0) (xs : List X) (i : ℕ) 
     → AllZip R (take i xs) out → R x y → more ≡ out ++ y ∷ [] → AllZip R (take (i + 1) xs) more
 read_more R xs i x out more y low at all here is = rw (take_more xs i x low, ← at, is) (all_zip_push R (take i xs) out x y all here)
 
-pub placeless_read : (files : Files) (path : Path) (fault : PlaceFault) (result : Result (Option Remembered) Fault) → are_placed files ≡ true
+pub placeless_read : (files : Files) (path : Path) (fault : PlaceFault) (result : Result (Option Record) Fault) → are_placed files ≡ true
     → (fault ≡ places.BadPlace → is_place (record_place path) ≡ false) → (fault ≡ places.BadPlace → result ≡ Ok None)
     → (fault ≡ places.OutOfMemory → result ≡ Err faults.OutOfMemory) → IfOk result (IsReadAt files path)
 placeless_read files path places.BadPlace result all bad none out =

@@ -17,25 +17,22 @@ use Rattle.gb_plan.specs.declared.task.Action.{Action}
 use Rattle.gb_plan.specs.declared.task.Output.{Output}
 use Rattle.gb_plan.specs.declared.task.TaskDeclaration.{TaskDeclaration as Task}
 use Rattle.gb_tree.specs.Tree.{path_from, files_from}
+use Rattle.gb_history.specs.Record.{Record, prints_in}
 use Rattle.gb_meaning.specs.Kinds.{Kinds}
 use Rattle.gb_meaning.specs.Memory.{Entry, entry_of, output_files}
-use Rattle.gb_meaning.specs.TrueRecord.{Record, contents_in, contents_of, prints_of, record_of}
+use Rattle.gb_meaning.specs.TrueRecord.{contents_in, contents_of, output_record_of, prints_of, record_of}
 use Rattle.gb_meaning.proofs.Lemmas.Files.{at-where, same_files, sorted-where}
 use Rattle.gb_meaning.proofs.Lemmas.Making.{IsRight, made_of_is_right}
 use Rattle.gb_records.specs.Digests.{IsClearTo, RecordsTellEntries, UpToDateIsCurrent}
 use Rattle.gb_meaning.specs.Label.{IsCurrent}
 use Rattle.gb_meaning.proofs.Common.{some_same}
 use Rattle.gb_history.specs.Decision.{IsUpToDate}
-use Rattle.gb_records.specs.Said.{output_said, remembered_of, said_of}
 use Rattle.gb_records.proofs.Apart.{found_from, output_seen, trees_back}
 use Rattle.gb_records.proofs.Calls.{unplaced}
 use Rattle.gb_records.proofs.Placed.{made_placed}
-use Rattle.gb_records.proofs.Told.{run_back}
+use Rattle.gb_records.proofs.Outputs.{output_trees, prints_told, same_outputs}
 
 -- ---- the files at the outputs, told by their trees
-
-abbrev output_trees : Files → List Output → Trees
-output_trees files outputs = map (λ (output : Output). let tree : List ℕ × Tree = (output.name, files_from files output.place) in tree) outputs
 
 at_outputs : (a b : Files) → are_placed a ≡ true → are_placed b ≡ true → (outputs : List Output) → list_any (λ (output : Output). is_own output.place) outputs ≡ false
     → output_trees a outputs ≡ output_trees b outputs → (q : Place) → is_place q ≡ true → list_any (λ (output : Output). is_under q output.place) outputs ≡ true
@@ -127,10 +124,10 @@ inputs_in all entry h = trees_in all entry.inputs (λ x c. h x (Contains-append_
 files_in : (all : List Bytes) (entry : Entry) → ((x : Bytes) → Contains (contents_of entry) x → Contains all x) → InAll all entry.files
 files_in all entry h = tree_in all entry.files (λ x c. h x (Contains-append_right (contents_in entry.inputs) (map (λ file. file.1) entry.files) x c))
 
--- the files at the outputs, where these and their digests are the same
-pub files_told : (kinds : Kinds) (task : Task) (files : Files) (entry : Entry) → IsClearTo kinds task files entry → entry.outputs ≡ task.outputs
-    → (record_of sha256 entry).files ≡ (record_of sha256 (entry_of task files)).files → entry.files ≡ output_files task files
-files_told kinds task files entry clear outputs e =
+-- the files at the outputs, where their records are the same
+pub files_told : (kinds : Kinds) (task : Task) (files : Files) (entry : Entry) → IsClearTo kinds task files entry
+    → (record_of sha256 entry).outputs ≡ (record_of sha256 (entry_of task files)).outputs → entry.files ≡ output_files task files
+files_told kinds task files entry clear e =
     same_by_outputs task.outputs entry.files now.files
     (subst (λ outs. IsRight outs entry.files) outputs (made_of_is_right kinds entry.outputs entry.values entry.inputs entry.actions entry.files clear.is_made))
     (now_right task files clear.is_folder.in_order)
@@ -145,8 +142,13 @@ files_told kinds task files entry clear outputs e =
     all : List Bytes
     all = contents_of entry ++ contents_of now
 
+    outputs : entry.outputs ≡ task.outputs
+    outputs = same_outputs entry now e
+
     told : prints_of sha256 (output_trees entry.files task.outputs) ≡ prints_of sha256 (output_trees now.files task.outputs)
-    told = ap (λ outs. prints_of sha256 (output_trees entry.files outs)) (sym outputs) ∙ e
+    told =
+        ap (λ outs. prints_of sha256 (output_trees entry.files outs)) (sym outputs) ∙ sym (prints_told entry.files entry.outputs)
+        ∙ ap prints_in e ∙ prints_told now.files task.outputs
 
     trees : output_trees entry.files task.outputs ≡ output_trees now.files task.outputs
     trees = trees_back sha256 (Contains all) clear.apart _ _ (outputs_in all entry.files (files_in all entry (old_in entry now)) task.outputs)
@@ -155,7 +157,7 @@ files_told kinds task files entry clear outputs e =
 pub records_tell_entries : RecordsTellEntries
 records_tell_entries kinds task files entry clear e =
     same_entries entry now (ap (λ (r : Record). r.actions) e) (ap (λ (r : Record). r.values) e) inputs outputs
-    (files_told kinds task files entry clear outputs (ap (λ (r : Record). r.files) e))
+    (files_told kinds task files entry clear (ap (λ (r : Record). r.outputs) e))
   where
     now : Entry
     now = entry_of task files
@@ -164,7 +166,7 @@ records_tell_entries kinds task files entry clear e =
     all = contents_of entry ++ contents_of now
 
     outputs : entry.outputs ≡ task.outputs
-    outputs = ap (λ (r : Record). r.outputs) e
+    outputs = same_outputs entry now (ap (λ (r : Record). r.outputs) e)
 
     inputs : entry.inputs ≡ now.inputs
     inputs = trees_back sha256 (Contains all) clear.apart entry.inputs now.inputs (inputs_in all entry (old_in entry now)) (inputs_in all now (now_in entry now)) (ap (λ (r : Record). r.inputs) e)
@@ -179,14 +181,14 @@ pub up_to_date_is_current : UpToDateIsCurrent
 up_to_date_is_current kinds options task world entry run present remembered of is clear = (forward, backward)
   where
     outputs : is_empty present.now.outputs ≡ is_empty task.outputs
-    outputs = sym (empty_map output_said present.now.outputs) ∙ ap (λ (r : Record). is_empty r.outputs) is.now
+    outputs = ap (λ (r : Record). is_empty r.outputs) is.now ∙ empty_map (output_record_of sha256 (output_files task world.folder.files)) task.outputs
 
     forward : IsUpToDate run present → IsCurrent options task world
     forward u = record {
       has_outputs = sym outputs ∙ u.has_outputs;
       not_stale = sym is.stale ∙ u.not_stale;
       no_rerun = sym is.rerun ∙ u.no_rerun;
-      same = remembered ∙ ap Some (records_tell_entries kinds task world.folder.files entry clear (sym of ∙ ap said_of u.same ∙ is.now));
+      same = remembered ∙ ap Some (records_tell_entries kinds task world.folder.files entry clear (sym of ∙ u.same ∙ is.now));
     }
 
     backward : IsCurrent options task world → IsUpToDate run present
@@ -196,5 +198,5 @@ up_to_date_is_current kinds options task world entry run present remembered of i
       has_outputs = outputs ∙ c.has_outputs;
       same =
           let same : entry ≡ entry_of task world.folder.files = some_same (sym remembered ∙ c.same) in
-          sym (run_back run) ∙ ap remembered_of (of ∙ ap (record_of sha256) same ∙ sym is.now) ∙ run_back present.now;
+          of ∙ ap (record_of sha256) same ∙ sym is.now;
     }

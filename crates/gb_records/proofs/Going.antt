@@ -9,24 +9,24 @@ use Rattle.gb_folder.specs.Files.{Bytes, Files}
 use Rattle.gb_action.specs.Files.{Tree, tree_at}
 use Rattle.gb_report.specs.declared.report.Options.{Options}
 use Rattle.gb_plan.specs.declared.task.FileProperty.{FileProperty}
+use Rattle.gb_plan.specs.declared.task.Output.{Output}
 use Rattle.gb_plan.specs.declared.task.TaskDeclaration.{TaskDeclaration as Task}
 use Rattle.gb_history.specs.declared.decide.Present.{Present}
-use Rattle.gb_history.specs.declared.record.OutputRecord.{OutputRecord}
 use Rattle.gb_history.specs.Decision.{IsAlike, IsSince, changes_of, changes_since, is_incremental}
-use Rattle.gb_history.specs.Remembered.{Remembered, Prints}
+use Rattle.gb_history.specs.Record.{Record, Prints}
 use Rattle.gb_meaning.specs.Kinds.{Kinds}
 use Rattle.gb_meaning.specs.Label.{IsIncremental, changes_from, has_one_writer}
 use Rattle.gb_meaning.specs.Memory.{Entry, entry_of, output_files}
 use Rattle.gb_meaning.specs.Tree.{tree_of}
-use Rattle.gb_meaning.specs.TrueRecord.{Record, contents_of, prints_of, record_of}
+use Rattle.gb_meaning.specs.TrueRecord.{contents_of, output_record_of, prints_of, record_of}
 use Rattle.gb_meaning.proofs.Common.{some_same}
 use Rattle.gb_records.specs.Digests.{ChangesAreOfContents, IsClearTo, IsPresent, SinceIsIncremental}
-use Rattle.gb_records.specs.Said.{IsSaidOf, output_said, remembered_of}
+use Rattle.gb_records.specs.Said.{IsSaidOf}
 use Rattle.gb_records.proofs.Digests.{InAll, files_told, inputs_in, now_in, old_in}
+use Rattle.gb_records.proofs.Outputs.{same_outputs}
 use Rattle.gb_records.proofs.Since.{IsRight, SameUnless, alike_trees, alike_prints, changes_told, found_of, map_where, map_where_back, named_trees, names_right, same_of, sorted_prints}
-use Rattle.gb_records.proofs.Told.{run_back}
 
-module _ (kinds : Kinds) (options : Options) (task : Task) (files : Files) (entry : Entry) (run : Remembered) (present : Present)
+module _ (kinds : Kinds) (options : Options) (task : Task) (files : Files) (entry : Entry) (run : Record) (present : Present)
     (of : IsSaidOf run entry) (is : IsPresent options task files present) (clear : IsClearTo kinds task files entry) where
   now : Entry
   now = entry_of task files
@@ -68,9 +68,6 @@ module _ (kinds : Kinds) (options : Options) (task : Task) (files : Files) (entr
       ap₂ (λ (x y : List Prints). flat_map (changes_of present.incremental.items) (zip x y)) run_inputs now_inputs
       ∙ changes_told all clear.apart files present.incremental.items entry.inputs task.files old_seen now_seen (same_trees since.alike) right sorted
 
-  outputs_of : (r : Record) → List OutputRecord
-  outputs_of r = (remembered_of r).outputs
-
 pub changes_are_of_contents : ChangesAreOfContents
 changes_are_of_contents kinds options task files entry run present of is clear since = told kinds options task files entry run present of is clear since
 
@@ -89,16 +86,15 @@ since_is_incremental kinds options task world entry run present remembered of is
         let found = found_of world.folder.files (is_incremental present.incremental.items) entry.inputs task.files
         (right kinds options task world.folder.files entry run present of is clear) (sorted kinds options task world.folder.files entry run present of is clear)
         (same_trees kinds options task world.folder.files entry run present of is clear since.alike) in
-        let outputs : entry.outputs ≡ task.outputs = sym (ap (λ (r : Record). r.outputs) of) ∙ ap (map output_said) since.same_outputs ∙ ap (λ (r : Record). r.outputs) is.now in
-        let prints : (record_of sha256 entry).files ≡ (record_of sha256 (entry_of task world.folder.files)).files =
-        sym (ap (λ (r : Record). r.files) of) ∙ ap (map (λ (output : OutputRecord). output.prints)) since.same_outputs ∙ ap (λ (r : Record). r.files) is.now in
+        let outputs : (record_of sha256 entry).outputs ≡ (record_of sha256 (entry_of task world.folder.files)).outputs =
+        sym (ap (λ (r : Record). r.outputs) of) ∙ since.same_outputs ∙ ap (λ (r : Record). r.outputs) is.now in
         record {
           entry = entry;
           remembered = remembered;
           same_actions = sym actions ∙ since.same_actions ∙ ap (λ (r : Record). r.actions) is.now;
           same_values = sym (ap (λ (r : Record). r.values) of) ∙ since.same_values ∙ ap (λ (r : Record). r.values) is.now;
-          same_outputs = outputs;
-          same_files = files_told kinds task world.folder.files entry clear outputs prints;
+          same_outputs = same_outputs entry (entry_of task world.folder.files) outputs;
+          same_files = files_told kinds task world.folder.files entry clear outputs;
           same_properties = found.0;
           same_others = map_where (λ property. tree_at entry.inputs property.name) (λ property. tree_of property world.folder.files) task.files found.1;
           not_stale = sym is.stale ∙ since.not_stale;
@@ -129,6 +125,6 @@ since_is_incremental kinds options task world entry run present remembered of is
       where
         run_outputs : entry.outputs ≡ task.outputs → entry.files ≡ output_files task world.folder.files → run.outputs ≡ present.now.outputs
         run_outputs outputs held =
-            ap (λ (r : Remembered). r.outputs) (sym (run_back run)) ∙ ap (λ (r : Record). (remembered_of r).outputs) of
-            ∙ ap₂ (λ outs fs. (remembered_of (record_of sha256 (record { actions = entry.actions; values = entry.values; inputs = entry.inputs; outputs = outs; files = fs }))).outputs) outputs held
-            ∙ ap (λ (r : Record). (remembered_of r).outputs) (sym is.now) ∙ ap (λ (r : Remembered). r.outputs) (run_back present.now)
+            ap (λ (r : Record). r.outputs) of
+            ∙ ap₂ (λ (outs : List Output) (fs : Files). map (output_record_of sha256 fs) outs) outputs held
+            ∙ ap (λ (r : Record). r.outputs) (sym is.now)

@@ -3,6 +3,7 @@ pub mod Calls
 pub mod Told
 pub mod Apart
 pub mod Placed
+pub mod Outputs
 pub mod Digests
 pub mod Since
 pub mod Going

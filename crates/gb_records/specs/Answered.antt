@@ -4,15 +4,15 @@ use Rattle.gb_folder.specs.Answers.{IsOnWay}
 use Rattle.gb_folder.specs.Calls.{Call, Reads}
 use Rattle.gb_folder.specs.Files.{Bytes, Tearing}
 use Rattle.gb_history.specs.Places.{record_place}
-use Rattle.gb_history.specs.Remembered.{Remembered}
+use Rattle.gb_history.specs.Record.{Record}
 use Rattle.gb_meaning.specs.Events.{max_record}
 use Rattle.gb_plan.specs.Task.{Path}
-use Rattle.gb_records.specs.Said.{IsText, said_of}
+use Rattle.gb_records.specs.Said.{IsText}
 
 -- a text of the record was answered, as its place was read on the way
 abbrev pub WasAnswered : {F : Type 0} → (F → ℕ) → (F → Tearing) → (F → Call → F → Type 0) → F → F → Path
-    → Option Remembered → Type 0
+    → Option Record → Type 0
 WasAnswered failures may_leave asked old new path None = ⊤
 WasAnswered failures may_leave asked old new path (Some run) =
-    (bytes : Bytes) × IsText path (said_of run) bytes
+    (bytes : Bytes) × IsText path run bytes
     × IsOnWay failures may_leave asked (Reads (record_place path) max_record (Ok bytes)) old new

@@ -5,7 +5,7 @@ use Rattle.sha2.specs.Sha256.{sha256}
 use Rattle.gb_report.specs.declared.report.Options.{Options}
 use Rattle.gb_folder.specs.Files.{Files, IsFolder, are_placed, is_own}
 use Rattle.gb_plan.specs.declared.task.TaskDeclaration.{TaskDeclaration as Task}
-use Rattle.gb_history.specs.Remembered.{Remembered, AreInOrder}
+use Rattle.gb_history.specs.Record.{Record, AreInOrder}
 use Rattle.gb_history.specs.Decision.{IsSince, IsUpToDate, changes_since}
 use Rattle.gb_history.specs.declared.decide.Present.{Present}
 use Rattle.gb_meaning.specs.Kinds.{Kinds}
@@ -41,7 +41,7 @@ pub record IsPresent (options : Options) (task : Task) (files : Files) (present 
 -- a task is up to date by its record exactly where it is by whole contents
 abbrev pub UpToDateIsCurrent : Type 0
 UpToDateIsCurrent =
-    (kinds : Kinds) (options : Options) (task : Task) (world : World) (entry : Entry) (run : Remembered)
+    (kinds : Kinds) (options : Options) (task : Task) (world : World) (entry : Entry) (run : Record)
     (present : Present) → recalled world.memory task.path ≡ Some entry → IsSaidOf run entry
     → IsPresent options task world.folder.files present → IsClearTo kinds task world.folder.files entry
     → IsUpToDate run present ↔ IsCurrent options task world
@@ -49,7 +49,7 @@ UpToDateIsCurrent =
 -- it goes on by changes exactly where it does by whole contents, and one action writes
 abbrev pub SinceIsIncremental : Type 0
 SinceIsIncremental =
-    (kinds : Kinds) (options : Options) (task : Task) (world : World) (entry : Entry) (run : Remembered)
+    (kinds : Kinds) (options : Options) (task : Task) (world : World) (entry : Entry) (run : Record)
     (present : Present) → recalled world.memory task.path ≡ Some entry → IsSaidOf run entry
     → IsPresent options task world.folder.files present → IsClearTo kinds task world.folder.files entry
     → (IsSince run present × IsTrue (has_one_writer kinds task.actions))
@@ -58,7 +58,7 @@ SinceIsIncremental =
 -- the changes of its digests are those of the contents
 abbrev pub ChangesAreOfContents : Type 0
 ChangesAreOfContents =
-    (kinds : Kinds) (options : Options) (task : Task) (files : Files) (entry : Entry) (run : Remembered)
+    (kinds : Kinds) (options : Options) (task : Task) (files : Files) (entry : Entry) (run : Record)
     (present : Present) → IsSaidOf run entry → IsPresent options task files present
     → IsClearTo kinds task files entry → IsSince run present
     → changes_since run present ≡ changes_from task entry.inputs files

@@ -3,7 +3,7 @@ use Rattle.std.specs.Prelude.{ℕ, Option, None, Result, Ok, Err}
 use Rattle.gb_folder.specs.Files.{Place}
 use Rattle.gb_folder.specs.declared.folder.FolderFault.{FolderFault}
 use Rattle.gb_folder.specs.declared.folder.FolderFault.TheVariants as folders
-use Rattle.gb_history.specs.Remembered.{Remembered}
+use Rattle.gb_history.specs.Record.{Record}
 use Rattle.gb_report.specs.declared.fault.Fault.{Fault}
 use Rattle.gb_report.specs.declared.fault.Fault.TheVariants as faults
 use Rattle.gb_records.specs.declared.fault.Unwritten.{Unwritten}
@@ -28,7 +28,7 @@ unwritten_for folders.TooLarge = unwritten.NotWritten
 unwritten_for folders.BadFileName = unwritten.NotWritten
 
 -- what it means for a read: no record, but where memory or the device failed
-abbrev pub none_for : Place → FolderFault → Result (Option Remembered) Fault
+abbrev pub none_for : Place → FolderFault → Result (Option Record) Fault
 none_for place folders.OutOfMemory = Err faults.OutOfMemory
 none_for place folders.Device = Err (faults.Device place)
 none_for place folders.Missing = Ok None

@@ -6,13 +6,14 @@ use Rattle.gb_core.specs.Path.{is_task_path}
 use Rattle.gb_core.specs.Place.{is_beneath}
 use Rattle.gb_folder.specs.Files.{Place, Bytes, Files, Contents, DiffersOnlyAt, IsFolder, is_own}
 use Rattle.gb_plan.specs.Task.{Path}
-use Rattle.gb_history.specs.Remembered.{Remembered, IsRemembered}
+use Rattle.gb_history.specs.Record.{Record, IsWellFormed}
 use Rattle.gb_history.specs.Places.{record_place}
+use Rattle.gb_history.specs.Text.{record_text}
 use Rattle.gb_meaning.specs.Events.{max_record}
 use Rattle.gb_meaning.specs.Kinds.{Kinds}
 use Rattle.gb_meaning.specs.Memory.{Memory}
-use Rattle.gb_meaning.specs.TrueRecord.{Record, RecordTexts, StandsFor, IsMade}
-use Rattle.gb_records.specs.Said.{IsText, said_of, text_of}
+use Rattle.gb_meaning.specs.TrueRecord.{RecordTexts, StandsFor, IsMade}
+use Rattle.gb_records.specs.Said.{IsText}
 use Rattle.gb_records.specs.Standing.{Standing}
 
 -- How records read, where each stands, and which text is written of one, as builds are to have it.
@@ -22,11 +23,10 @@ pub record AreRecords (says : RecordTexts) (stands_at : Path → Place)
   pub one : (path : Path) (one other : Record) (bytes : Bytes) → says path one bytes → says path other bytes
       → one ≡ other
   -- none is above 64 MiB
-  pub short : (path : Path) (said : Record) (bytes : Bytes) → says path said bytes → length bytes ≤ max_record
-  -- what is written of a run says it
-  pub back : (path : Path) (run : Remembered) → IsTrue (is_task_path path) → IsRemembered run
-      → length (written path (said_of run)) ≤ max_record
-      → says path (said_of run) (written path (said_of run))
+  pub short : (path : Path) (run : Record) (bytes : Bytes) → says path run bytes → length bytes ≤ max_record
+  -- what is written of a record says it
+  pub back : (path : Path) (run : Record) → IsTrue (is_task_path path) → IsWellFormed run
+      → length (written path run) ≤ max_record → says path run (written path run)
   -- records stand where the tool keeps its own
   pub own : (path : Path) → IsTrue (is_own (stands_at path))
   -- two tasks' records do not stand at one place, nor one beneath another
@@ -36,7 +36,7 @@ pub record AreRecords (says : RecordTexts) (stands_at : Path → Place)
       → ¬ IsTrue (is_beneath (stands_at one) (stands_at other))
 
 abbrev pub TextsAreRecords : Type 0
-TextsAreRecords = AreRecords IsText record_place text_of
+TextsAreRecords = AreRecords IsText record_place record_text
 
 -- where files differ outside of the tool's own alone, the same records stand
 abbrev pub StandsElsewhere : Type 0

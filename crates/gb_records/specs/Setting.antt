@@ -2,10 +2,11 @@
 use Rattle.sha2.specs.Sha256.{sha256}
 use Rattle.gb_folder.specs.Files.{Tearing}
 use Rattle.gb_history.specs.Places.{record_place}
+use Rattle.gb_history.specs.Text.{record_text}
 use Rattle.gb_meaning.specs.Events.{Setting}
 use Rattle.gb_meaning.specs.Headline.{Registering}
 use Rattle.gb_meaning.specs.Kinds.{Kinds}
-use Rattle.gb_records.specs.Said.{IsText, text_of}
+use Rattle.gb_records.specs.Said.{IsText}
 
 -- These are the kinds, scripts register so, and this is what a stopped call may leave.
 abbrev pub setting_by : Kinds → Registering → Tearing → Setting
@@ -15,6 +16,6 @@ setting_by kinds registers may_leave = record {
   digest = sha256;
   says = IsText;
   record_place = record_place;
-  record_text = text_of;
+  record_text = record_text;
   may_leave = may_leave;
 }

@@ -10,7 +10,7 @@ use Rattle.gb_core.specs.Place.{is_place}
 use Rattle.gb_folder.specs.Files.{Bytes, Files, Contents, HasRisen, Tearing, file_at}
 use Rattle.gb_folder.specs.Files.{is_blocked, with_file, without}
 use Rattle.gb_plan.specs.Task.{Path}
-use Rattle.gb_history.specs.Remembered.{Remembered}
+use Rattle.gb_history.specs.Record.{Record}
 use Rattle.gb_history.specs.Text.{record_text}
 use Rattle.gb_history.specs.Places.{record_place}
 use Rattle.gb_meaning.specs.Events.{max_record}
@@ -36,7 +36,7 @@ taken_out was_read path folder =
     if was_read then record folder { files = without folder.files (record_place path) } else folder
 
 -- the folder with the record of a run
-abbrev pub written_in : Path → Remembered → Contents → Contents
+abbrev pub written_in : Path → Record → Contents → Contents
 written_in path run folder =
     record folder { files = with_file folder.files (record_place path) (record_text path run) }
 

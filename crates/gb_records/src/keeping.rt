@@ -9,7 +9,7 @@ ghost use Rattle.gb_history.specs.Text.{record_text};
 ghost use Rattle.gb_meaning.specs.Headline.{TearsAreSeen};
 ghost use Rattle.gb_meaning.specs.Memory.{Entry, Memory, recalled};
 ghost use Rattle.gb_records.specs.Faults.{removed_by};
-ghost use Rattle.gb_records.specs.Said.{IsText, IsSaidOf, said_of};
+ghost use Rattle.gb_records.specs.Said.{IsText, IsSaidOf};
 ghost use Rattle.gb_records.specs.Standing.{ComesToNothing, Standing, StandsWithout};
 ghost use Rattle.gb_records.specs.Standing.{StandsWith, taken_out, written_in};
 
@@ -77,7 +77,7 @@ pub fn put_in<F: Folder>(
         path.now run.now)) folder.old folder.new }
     ensures written { IsTrue F.tells → OnOk result
         (F.contents folder.new ≡ written_in path.now run.now (F.contents folder.old)) }
-    ensures said { OnOk result (IsText path.now (said_of run.now) (record_text path.now run.now)) }
+    ensures said { OnOk result (IsText path.now run.now (record_text path.now run.now)) }
     ensures err { IsTrue F.tells → IfErr result (λ fault. ComesToNothing (F.may_leave folder.old) path.now
         (Some (record_text path.now run.now)) (F.failures folder.old) (F.failures folder.new)
         (F.contents folder.old) fault (F.contents folder.new)) }

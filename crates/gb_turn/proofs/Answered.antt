@@ -10,7 +10,7 @@ use Rattle.gb_action.specs.declared.output.Form.{Form}
 use Rattle.gb_action.specs.declared.output.OutputFiles.{OutputFiles}
 use Rattle.gb_folder.specs.Calls.{Asks, Call, no_change}
 use Rattle.gb_folder.specs.Files.{Files, Tearing, is_empty}
-use Rattle.gb_history.specs.Remembered.{Prints, Remembered}
+use Rattle.gb_history.specs.Record.{Prints, Record}
 use Rattle.gb_history.specs.declared.decide.Decision.{Decision}
 use Rattle.gb_history.specs.declared.decide.Decision.TheVariants as decisions
 use Rattle.gb_history.specs.declared.decide.Present.{Present}
@@ -129,7 +129,7 @@ module _ {F : Type 0} (failures : F → ℕ) (may_leave : F → Tearing) (asked 
 
   -- ---- what is settled
 
-  current_on : (options : Options) (task : Task) (last : Option Remembered) (inputs outputs : List Read) → AreInputs task inputs → AreInputsAnswered failures may_leave asked old new task inputs
+  current_on : (options : Options) (task : Task) (last : Option Record) (inputs outputs : List Read) → AreInputs task inputs → AreInputsAnswered failures may_leave asked old new task inputs
       → AreOutputs task outputs → AreOutputsAnswered failures may_leave asked old new task outputs
       → IsFoundCurrent options task last (prints_read inputs) (prints_read outputs) → IsCurrentOn failures may_leave asked options task last old new
   current_on options task last inputs outputs of read are stood found = record {
@@ -149,7 +149,7 @@ module _ {F : Type 0} (failures : F → ℕ) (may_leave : F → Tearing) (asked 
     decides = found.decides;
   }
 
-  pub was_settled : (options : Options) (task : Task) (last : Option Remembered) (path : Path) (need : Bool) (result : Result Prepared Fault)
+  pub was_settled : (options : Options) (task : Task) (last : Option Record) (path : Path) (need : Bool) (result : Result Prepared Fault)
       → IfOk result (MayPrepare task) → IfOk result (WasPrepared failures may_leave asked old new options task last)
       → WasSettled failures may_leave asked old new options task last (settled_as task path result need)
   was_settled options task last path need (Err fault) may was = λ told acts. absurd (let e = told in (cc))
@@ -162,7 +162,7 @@ module _ {F : Type 0} (failures : F → ℕ) (may_leave : F → Tearing) (asked 
   was_settled options task last path need (Ok (prepared.Decided decisions.Full seen)) may was = (was.1, was.2)
 
   -- what was decided to go on by changes was decided on outputs that were answered
-  pub outputs_answered : (options : Options) (task : Task) (last : Option Remembered) (inputs : List Read) (decision : Decision) (changes : List Changes) (outputs : List Read)
+  pub outputs_answered : (options : Options) (task : Task) (last : Option Record) (inputs : List Read) (decision : Decision) (changes : List Changes) (outputs : List Read)
       → decision ≡ decisions.Incremental changes → WasDecided failures may_leave asked old new options task last inputs decision outputs
       → AreOutputsAnswered failures may_leave asked old new task outputs
   outputs_answered options task last inputs decision changes outputs is was =

@@ -10,7 +10,7 @@ use Rattle.gb_folder.specs.Calls.{Asks, Call, Permit, changes_at, no_change, put
 use Rattle.gb_folder.specs.Files.{Bytes, Files, IsFolder, Place, Tearing, are_placed}
 use Rattle.gb_folder.proofs.Asked.{asks_more, asks_taken, take_at, takes_where}
 use Rattle.gb_history.specs.Places.{record_place}
-use Rattle.gb_history.specs.Remembered.{Remembered}
+use Rattle.gb_history.specs.Record.{Record}
 use Rattle.gb_history.specs.Text.{record_text}
 use Rattle.gb_run.specs.AskingChanges.{GoesOn}
 use Rattle.gb_meaning.specs.Headline.{Agrees}
@@ -119,7 +119,7 @@ module _ {F : Type 0} {failures : F → ℕ} {may_leave : F → Tearing} {asked 
   made_in_turn task text changes = asks_more (permitted_outputs task text) changes
 
   -- the record is put in
-  pub put_in_turn : (task : Task) (text : Bytes → Type 0) (run : Remembered) → text (record_text task.path run)
+  pub put_in_turn : (task : Task) (text : Bytes → Type 0) (run : Record) → text (record_text task.path run)
       → Asks failures may_leave asked (put_at (record_place task.path) (record_text task.path run)) old new → Asks failures may_leave asked (in_turn_with task text) old new
   put_in_turn task text run is puts = asks_more (permitted_record task text (record_text task.path run) is) puts
 
@@ -135,7 +135,7 @@ module _ {F : Type 0} (failures : F → ℕ) (may_leave : F → Tearing) (asked 
   run_read task trees read inputs named = inl (trees, read, inputs, named)
 
   -- and so they were where something was decided anew
-  pub anew_read : (options : Options) (task : Task) (last : Remembered) (is : Anew) (read : F) → IsAnew options task last is → WasReadAnew failures may_leave asked old read task is
+  pub anew_read : (options : Options) (task : Task) (last : Record) (is : Anew) (read : F) → IsAnew options task last is → WasReadAnew failures may_leave asked old read task is
       → HasRead failures may_leave asked old task
   unfolding HasRead
   anew_read options task last (anew.ByChanges inputs outputs changes) read is was = inl (inputs.trees, read, was.0, is.0.named)
@@ -154,14 +154,14 @@ module _ {F S : Type 0} (failures : F → ℕ) (may_leave : F → Tearing) (aske
   full_is_one task trees read inputs named bytes is = (trees, read, inputs, named, is)
 
   -- what was decided anew came to a run in full
-  pub full_anew : (options : Options) (task : Task) (last : Remembered) (inputs : Inputs) (read : F) → WasReadAnew failures may_leave asked old read task (anew.InFull inputs)
+  pub full_anew : (options : Options) (task : Task) (last : Record) (inputs : Inputs) (read : F) → WasReadAnew failures may_leave asked old read task (anew.InFull inputs)
       → IsAnew options task last (anew.InFull inputs) → (bytes : Bytes)
       → IsTextIn meanings rows task inputs.trees bytes → IsTextAnew failures may_leave asked old meanings rows options task last bytes
   unfolding IsInFull IsTextAnew
   full_anew options task last inputs read was is_anew bytes is = inl (inputs.trees, read, was, is_anew.named, is)
 
   -- or to one by changes
-  pub going_anew : (options : Options) (task : Task) (last : Remembered) (inputs : Inputs) (outputs : Outputs) (changes : List Changes) (read : F)
+  pub going_anew : (options : Options) (task : Task) (last : Record) (inputs : Inputs) (outputs : Outputs) (changes : List Changes) (read : F)
       → WasReadAnew failures may_leave asked old read task (anew.ByChanges inputs outputs changes) → (bytes : Bytes)
       → IsAnew options task last (anew.ByChanges inputs outputs changes) → IsTextBy meanings rows task inputs.trees changes outputs.seen bytes
       → IsTextAnew failures may_leave asked old meanings rows options task last bytes
@@ -180,26 +180,26 @@ module _ {F S : Type 0} (failures : F → ℕ) (may_leave : F → Tearing) (aske
   })
 
   -- a run in full is one of the task, whatever was read of it
-  pub full_of_task : (options : Options) (task : Task) (last : Option Remembered) (bytes : Bytes)
+  pub full_of_task : (options : Options) (task : Task) (last : Option Record) (bytes : Bytes)
       → IsInFull failures may_leave asked old meanings rows task bytes → IsTextOf failures may_leave asked old meanings rows options task last bytes
   unfolding IsTextOf
   full_of_task options task None bytes is = is
   full_of_task options task (Some last) bytes is = inl is
 
   -- and so is one that was decided anew, where one action writes
-  pub anew_of_task : (options : Options) (task : Task) (last : Remembered)
+  pub anew_of_task : (options : Options) (task : Task) (last : Record)
       → ((kinds : Kinds) → Agrees meanings rows kinds → IsTrue (has_one_writer kinds task.actions)) → (bytes : Bytes)
       → IsTextAnew failures may_leave asked old meanings rows options task last bytes → IsTextOf failures may_leave asked old meanings rows options task (Some last) bytes
   unfolding IsTextOf IsTextAnew
   anew_of_task options task last one bytes (inl full) = inl full
   anew_of_task options task last one bytes (inr on) = inr (on, one)
 
-pub full_text : {S : Type 0} (meanings : Meanings S) (rows : Rows S) (task : Task) (trees : Trees) (run : Remembered)
+pub full_text : {S : Type 0} (meanings : Meanings S) (rows : Rows S) (task : Task) (trees : Trees) (run : Record)
     → ((kinds : Kinds) → Agrees meanings rows kinds → IsRecordOf kinds task trees run) → IsTextIn meanings rows task trees (record_text task.path run)
 unfolding IsTextIn
 full_text meanings rows task trees run made = (run, refl, made)
 
-pub going_text : {S : Type 0} (meanings : Meanings S) (rows : Rows S) (task : Task) (trees : Trees) (changes : List Changes) (seen : List OutputFiles) (run : Remembered)
+pub going_text : {S : Type 0} (meanings : Meanings S) (rows : Rows S) (task : Task) (trees : Trees) (changes : List Changes) (seen : List OutputFiles) (run : Record)
     → ((kinds : Kinds) → Agrees meanings rows kinds → (old : Trees) (standing : Files) → IsFolder standing → IsTrue (are_placed standing)
     → GoesOn kinds task old trees changes seen standing → IsRecordOf kinds task trees run) → IsTextBy meanings rows task trees changes seen (record_text task.path run)
 unfolding IsTextBy

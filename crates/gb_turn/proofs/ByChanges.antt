@@ -11,7 +11,7 @@ use Rattle.gb_core.specs.Lists.{byte_order}
 use Rattle.gb_core.specs.Path.{is_task_path}
 use Rattle.gb_folder.specs.Files.{Contents, Files, Place, SameTearing, Tearing, is_empty, is_own}
 use Rattle.gb_history.specs.Places.{record_place}
-use Rattle.gb_history.specs.Remembered.{Prints}
+use Rattle.gb_history.specs.Record.{Prints}
 use Rattle.gb_label.specs.Deciding.{HasNamesInOrder}
 use Rattle.gb_meaning.specs.Kinds.{Kinds}
 use Rattle.gb_meaning.specs.Label.{Moment}

@@ -4,7 +4,7 @@ use Rattle.std.specs.List.{flat_map, list_any}
 use Rattle.std.proofs.Common.{refl, sym, ap, ap₂, subst, ◌∙◌}
 use Rattle.gb_action.specs.Files.{Trees}
 use Rattle.gb_folder.specs.Files.{Place, Bytes, Contents, Files, files_where, is_empty, is_own, places_under}
-use Rattle.gb_history.specs.Remembered.{Remembered}
+use Rattle.gb_history.specs.Record.{Record}
 use Rattle.gb_history.specs.declared.decide.Decision.{Decision}
 use Rattle.gb_history.specs.declared.decide.Decision.TheVariants as decisions
 use Rattle.gb_history.specs.declared.record.OutputRecord.{OutputRecord}
@@ -18,7 +18,6 @@ use Rattle.gb_plan.specs.declared.task.Output.{Output}
 use Rattle.gb_plan.specs.declared.task.TaskDeclaration.{TaskDeclaration as Task}
 use Rattle.gb_report.specs.declared.fault.Fault.{Fault}
 use Rattle.gb_report.specs.declared.report.Options.{Options}
-use Rattle.gb_tree.specs.Prints.{digests_of}
 use Rattle.gb_tree.specs.Tree.{Entries, entries_from, odd_roots, too_large, too_many}
 use Rattle.gb_tree.specs.declared.fault.TreeFault.{TreeFault}
 use Rattle.gb_label.specs.Reading.{digests_in, print_faults, recorded_of}
@@ -26,10 +25,7 @@ use Rattle.gb_turn.specs.Case.{OutsideIsEnough}
 use Rattle.gb_turn.proofs.Outside.{early_outside, trees_outside}
 use Rattle.gb_turn.proofs.Own.{is_kept, kept_under}
 use Rattle.gb_turn.proofs.Part.{all_from, from_same, large_same, under_same}
-
--- an output with these files, as it is recorded
-abbrev recorded_as : Output → Files → OutputRecord
-recorded_as output tree = record { form = output.form; place = output.place; prints = (output.name, digests_of tree) }
+use Rattle.gb_turn.proofs.Present.{recorded_as}
 
 module _ (folder : Contents) where
   recorded_outside : (outputs : List Output) → list_any (λ (o : Output). is_own o.place) outputs ≡ false
@@ -71,7 +67,7 @@ module _ (folder : Contents) where
       (printed_outside outputs (none_right (is_own output.place) (list_any (λ (o : Output). is_own o.place) outputs) out))
 
 module _ (options : Options) (task : Task) (folder : Contents) (out : list_any (λ (o : Output). is_own o.place) task.outputs ≡ false) where
-  decided_outside : (read : Option Remembered) (decision : Decision) → IsDecided options task folder read decision → IsDecided options task (outside folder) read decision
+  decided_outside : (read : Option Record) (decision : Decision) → IsDecided options task folder read decision → IsDecided options task (outside folder) read decision
   decided_outside (Some run) decision (by_record present is decides) =
       by_record present
       (subst (λ (outputs : List OutputRecord). IsPresentOf options task (digests_in (trees_of task (outside folder).files)) outputs present) (sym (recorded_outside folder task.outputs out))

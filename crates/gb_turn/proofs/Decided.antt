@@ -5,7 +5,7 @@ use Rattle.std.proofs.Common.{sym, ap, subst, ◌∙◌, inl, inr}
 use mathlib.Core.Bool.{true≢false}
 use Rattle.gb_folder.specs.Files.{is_empty}
 use Rattle.gb_history.specs.Decision.{DecidesFrom}
-use Rattle.gb_history.specs.Remembered.{Remembered}
+use Rattle.gb_history.specs.Record.{Record}
 use Rattle.gb_history.specs.declared.decide.Decision.{Decision}
 use Rattle.gb_history.specs.declared.decide.Decision.TheVariants as decisions
 use Rattle.gb_history.specs.declared.decide.Present.{Present}
@@ -32,7 +32,7 @@ use Rattle.gb_turn.proofs.Present.{present_is_of_contents}
 module _ (kinds : Kinds) (options : Options) (task : Task) (world : World) where
   -- ---- a record that counts
 
-  module _ (run : Remembered) (entry : Entry) (remembered : recalled world.memory task.path ≡ Some entry) (said : IsSaidOf run entry)
+  module _ (run : Record) (entry : Entry) (remembered : recalled world.memory task.path ≡ Some entry) (said : IsSaidOf run entry)
       (clear : IsClearTo kinds task world.folder.files entry) (present : Present) (is : IsPresent options task world.folder.files present) where
     by_case : (decision : Decision) → DecidesFrom run present decision → IsCaseFor kinds options task world decision
     by_case decisions.UpToDate same = (up_to_date_is_current kinds options task world entry run present remembered said is clear).0 same

@@ -7,12 +7,12 @@ use Rattle.sha2.specs.Sha256.{sha256}
 use Rattle.gb_action.specs.Files.{Trees}
 use Rattle.gb_core.specs.Lists.{byte_order}
 use Rattle.gb_folder.specs.Files.{Place, Bytes, Files, file_at, is_own}
-use Rattle.gb_history.specs.Remembered.{Prints, prints_in}
+use Rattle.gb_history.specs.Record.{Prints}
 use Rattle.gb_meaning.specs.Kinds.{Kinds}
 use Rattle.gb_meaning.specs.Made.{made_of, put_over, rest_of, with_outputs}
 use Rattle.gb_meaning.specs.Memory.{entry_of, output_files}
 use Rattle.gb_meaning.specs.Tree.{trees_of}
-use Rattle.gb_meaning.specs.TrueRecord.{IsMade, prints_of}
+use Rattle.gb_meaning.specs.TrueRecord.{IsMade, output_record_of}
 use Rattle.gb_meaning.proofs.Lemmas.Files.{at-put_over, at-where, or_else, same_files, sorted-put_over, sorted-where}
 use Rattle.gb_meaning.proofs.Lemmas.Making.{IsRight, made_of_is_right}
 use Rattle.gb_meaning.proofs.Lemmas.Reading.{AllUnseen, trees_same}
@@ -30,7 +30,7 @@ use Rattle.gb_label.specs.Reading.{digests_in, recorded_of}
 use Rattle.gb_turn.specs.Keeping.{run_now}
 use Rattle.gb_turn.proofs.Outside.{kept, trees_outside}
 use Rattle.gb_turn.proofs.Own.{is_kept, kept_at, swapped}
-use Rattle.gb_turn.proofs.Present.{output_trees, outputs_told, part_same, prints_told}
+use Rattle.gb_turn.proofs.Present.{part_same}
 
 -- a task that reads none of its own outputs sees nothing at them
 pub sees_none : (task : Task) → reads_output_of task task ≡ false → AllUnseen (λ q. not (is_output_of task q)) task
@@ -125,13 +125,10 @@ module _ (kinds : Kinds) (task : Task) (out : list_any (λ (o : Output). is_own 
         actions = task.actions;
         values = task.values;
         inputs = (read ∙ ap digests_in (sym trees_after)) i;
-        outputs = outputs_told ran task.outputs i;
-        files = files_are i;
+        outputs = outputs_are i;
       }
     where
-      files_are : prints_in (map (recorded_of ran) task.outputs) ≡ prints_of sha256 (output_trees (output_files task (with_outputs task (kept old) files)) task.outputs)
-      files_are =
-          prints_told ran task.outputs
-          ∙ ap (prints_of sha256)
-          (sym (part_same (is_output_of task) ran task.outputs (λ q any. any))
-          ∙ ap (λ (fs : Files). output_trees fs task.outputs) (sym files_entry))
+      outputs_are : map (recorded_of ran) task.outputs ≡ map (output_record_of sha256 (output_files task (with_outputs task (kept old) files))) task.outputs
+      outputs_are =
+          sym (part_same (is_output_of task) ran task.outputs (λ q any. any))
+          ∙ ap (λ (fs : Files). map (recorded_of fs) task.outputs) (sym files_entry)

@@ -6,7 +6,7 @@ use Rattle.gb_turn.specs.Case.{IsCaseOf, IsKnown, OutsideIsEnough, PreparedIsCas
 use Rattle.gb_turn.specs.Turns.{IdleTurnsAreTurns, IsIdleTurn, RunsAreOfCase}
 use Rattle.gb_core.specs.Lists.{first_of}
 use Rattle.gb_folder.specs.Files.{Place, Bytes, Contents, Files, HasRisen, file_at, is_empty, is_own}
-use Rattle.gb_history.specs.Remembered.{Remembered}
+use Rattle.gb_history.specs.Record.{Record}
 use Rattle.gb_history.specs.declared.decide.Decision.TheVariants as decisions
 use Rattle.gb_label.specs.Looking.{IsHindered}
 use Rattle.gb_label.specs.Preparing.{IsPrepared, IsRead, IsSeen, MayPrepare}
@@ -88,7 +88,7 @@ module _ (setting : Setting) (own : Files) (options : Options) (plan : Plan) (ta
     begun = λ other is printed. not_false printed;
   }
 
-module _ (setting : Setting) (options : Options) (plan : Plan) (task : Task) (path : Path) (moment : Moment) (old : Contents) (before after : ℕ) (need : Bool) (read : Option Remembered)
+module _ (setting : Setting) (options : Options) (plan : Plan) (task : Task) (path : Path) (moment : Moment) (old : Contents) (before after : ℕ) (need : Bool) (read : Option Record)
     (out : list_any (λ (o : Output). is_own o.place) task.outputs ≡ false) (folder : moment.world.folder ≡ outside old) (count : moment.failures ≡ before)
     (needed : some_outcome is_executed moment (needs_in plan task) ≡ need) (known : IsKnown setting.kinds task moment.world read)
     (is_enough : OutsideIsEnough) (is_case : PreparedIsCase) (are_turns : IdleTurnsAreTurns) (are_runs : RunsAreOfCase) where

@@ -7,7 +7,7 @@ use Rattle.sha2.specs.Sha256.{sha256}
 use Rattle.gb_core.specs.Lists.{byte_order}
 use Rattle.gb_folder.specs.Files.{Bytes, Files, file_at, is_empty}
 use Rattle.gb_history.specs.Places.{record_place}
-use Rattle.gb_history.specs.Remembered.{Remembered}
+use Rattle.gb_history.specs.Record.{Record}
 use Rattle.gb_meaning.specs.Kinds.{Kinds}
 use Rattle.gb_meaning.specs.Memory.{Entry, Memory, World, entry_of, folder_contents, recalled}
 use Rattle.gb_meaning.specs.TrueRecord.{AreApart, IsMade, SaysNoRecord, Stores, contents_of, record_of}
@@ -17,7 +17,7 @@ use Rattle.gb_meaning.proofs.Lemmas.Seen.{entry_seen}
 use Rattle.gb_plan.specs.Task.{Path, has_path}
 use Rattle.gb_plan.specs.declared.task.TaskDeclaration.{TaskDeclaration as Task}
 use Rattle.gb_records.specs.Digests.{IsClearTo}
-use Rattle.gb_records.specs.Said.{IsReadAs, IsText, said_of}
+use Rattle.gb_records.specs.Said.{IsReadAs, IsText}
 use Rattle.gb_records.proofs.Told.{texts_are_records}
 use Rattle.gb_turn.specs.Case.{IsKnown}
 use Rattle.gb_turn.specs.Known.{AreWorth, WhatIsReadIsKnown}
@@ -73,17 +73,17 @@ module _ (kinds : Kinds) (task : Task) (files : Files) (memory : Memory) (world 
     apart = apart entry e;
   }
 
-  known : (left : Option Bytes) (entry : Option Entry) (read : Option Remembered) → recalled memory task.path ≡ entry → Stores sha256 IsText task.path left entry → IsReadAs task.path left read
+  known : (left : Option Bytes) (entry : Option Entry) (read : Option Record) → recalled memory task.path ≡ entry → Stores sha256 IsText task.path left entry → IsReadAs task.path left read
       → IsKnown kinds task world read
   known left None None e stored is = worth.kept ∙ e
-  known left None (Some run) e stored is = absurd (subst (SaysNoRecord IsText task.path) is.1 stored (said_of run) is.2)
+  known left None (Some run) e stored is = absurd (subst (SaysNoRecord IsText task.path) is.1 stored run is.2)
   known left (Some entry) None e stored is = absurd (subst (SaysNoRecord IsText task.path) stored.1 is (record_of sha256 entry) stored.2)
   known left (Some entry) (Some run) e stored is =
       let same : is.0 ≡ stored.0 = some_same (sym is.1 ∙ stored.1) in
-      let text : IsText task.path (said_of run) stored.0 = subst (IsText task.path (said_of run)) same is.2 in (
+      let text : IsText task.path run stored.0 = subst (IsText task.path run) same is.2 in (
         entry,
         worth.kept ∙ e,
-        texts_are_records.one task.path (said_of run) (record_of sha256 entry) stored.0 text stored.2,
+        texts_are_records.one task.path run (record_of sha256 entry) stored.0 text stored.2,
         clear entry e,
       )
 

@@ -8,7 +8,7 @@ use Rattle.gb_folder.proofs.Changes.{HasRisen-before}
 use Rattle.gb_action.specs.Changes.{Changes}
 use Rattle.gb_turn.specs.Case.{IsCaseFor, IsKnown}
 use Rattle.gb_turn.specs.Turns.{IsRunFor, goes_by_changes}
-use Rattle.gb_history.specs.Remembered.{Remembered}
+use Rattle.gb_history.specs.Record.{Record}
 use Rattle.gb_history.specs.declared.decide.Decision.{Decision}
 use Rattle.gb_history.specs.declared.decide.Decision.TheVariants as decisions
 use Rattle.gb_label.specs.Preparing.{IsReadFor, IsSeenFor}
@@ -45,7 +45,7 @@ pub due_anew : (kinds : Kinds) (options : Options) (task : Task) (world : World)
     → IsKnown kinds task world None → IsDue kinds options task world
 due_anew kinds options task world decision case runs known = record { case = case; not_current = runs.not_current; not_incremental = λ since. none_some (sym known ∙ since.remembered) }
 
-pub due_to_go_on : (kinds : Kinds) (options : Options) (task : Task) (world : World) (decision : Decision) (changes : List Changes) (last : Remembered) → decision ≡ decisions.Incremental changes
+pub due_to_go_on : (kinds : Kinds) (options : Options) (task : Task) (world : World) (decision : Decision) (changes : List Changes) (last : Record) → decision ≡ decisions.Incremental changes
     → early_case task world.folder ≡ None → IsCaseFor kinds options task world decision → goes_by_changes kinds task decision ≡ true
     → IsKnown kinds task world (Some last) → IsToGoOn kinds options task world last
 due_to_go_on kinds options task world decision changes last is case case_for one known =
@@ -55,20 +55,20 @@ due_to_go_on kinds options task world decision changes last is case case_for one
     by so goes = record { case = case; not_current = so.0; since = (so.1 goes).0; known = known }
 
 -- what is known of a task is true
-pub known_made : (kinds : Kinds) (task : Task) (world : World) (read : Option Remembered) → IsKnown kinds task world read → (entry : Entry) → recalled world.memory task.path ≡ Some entry → IsMade kinds entry
+pub known_made : (kinds : Kinds) (task : Task) (world : World) (read : Option Record) → IsKnown kinds task world read → (entry : Entry) → recalled world.memory task.path ≡ Some entry → IsMade kinds entry
 known_made kinds task world None known entry is = none_some (sym known ∙ is)
 known_made kinds task world (Some run) known entry is = subst (IsMade kinds) (same known.0 entry (sym known.1 ∙ is)) known.3.is_made
   where
     same : (one other : Entry) → Some one ≡ Some other → one ≡ other
     same one other e = cc
 
-pub none_known : (kinds : Kinds) (task : Task) (world : World) (read : Option (Bor Remembered)) → ((run : Bor Remembered) → read ≡ Some run → ⊥) → IsKnown kinds task world (option_copied read)
+pub none_known : (kinds : Kinds) (task : Task) (world : World) (read : Option (Bor Record)) → ((run : Bor Record) → read ≡ Some run → ⊥) → IsKnown kinds task world (option_copied read)
     → IsKnown kinds task world None
 none_known kinds task world None none known = known
 none_known kinds task world (Some run) none known = absurd (none run refl)
 
 -- a task that is to go on is due by the changes since its record
-pub due_since : (kinds : Kinds) (options : Options) (task : Task) (world : World) (last : Remembered) (goes : IsToGoOn kinds options task world last)
+pub due_since : (kinds : Kinds) (options : Options) (task : Task) (world : World) (last : Record) (goes : IsToGoOn kinds options task world last)
     → IsDueByChanges kinds options task world (changes_from task goes.since.entry.inputs world.folder.files)
 due_since kinds options task world last goes = record {
   case = goes.case;

@@ -5,7 +5,7 @@ use Rattle.gb_action.specs.Files.{Trees}
 use Rattle.gb_action.specs.Meanings.{Meanings}
 use Rattle.gb_folder.specs.Files.{Files, SameTearing, Tearing, is_empty}
 use Rattle.gb_history.specs.Places.{record_place}
-use Rattle.gb_history.specs.Remembered.{Prints, Remembered}
+use Rattle.gb_history.specs.Record.{Prints, Record}
 use Rattle.gb_history.specs.declared.record.OutputRecord.{OutputRecord}
 use Rattle.gb_meaning.specs.Headline.{TearsAreSeen}
 use Rattle.gb_meaning.specs.Kinds.{Kinds}
@@ -36,25 +36,25 @@ records_at files [] = refl
 records_at files (output ∷ outputs) = ap (λ (l : List OutputRecord). recorded_of files output ∷ l) (records_at files outputs)
 
 -- the record of a run by what it made
-pub record_is : (kinds : Kinds) (task : Task) (trees : Trees) (inputs made : List Prints) (outputs : List OutputRecord) (run : Remembered)
+pub record_is : (kinds : Kinds) (task : Task) (trees : Trees) (inputs made : List Prints) (outputs : List OutputRecord) (run : Record)
     → run ≡ record { actions = task.actions; values = task.values; inputs = inputs; outputs = outputs } → inputs ≡ digests_in trees → outputs ≡ records_with task.outputs made
     → (held : Files) → made_of kinds task.actions task.values trees task.outputs ≡ Ok held → made ≡ prints_at task.outputs held → IsRecordOf kinds task trees run
 record_is kinds task trees inputs made outputs run is are with held makes stands = (
   held,
   makes,
-  is ∙ ap₂ (λ (ins : List Prints) (os : List OutputRecord). let r : Remembered = record { actions = task.actions; values = task.values; inputs = ins; outputs = os } in r) are
+  is ∙ ap₂ (λ (ins : List Prints) (os : List OutputRecord). let r : Record = record { actions = task.actions; values = task.values; inputs = ins; outputs = os } in r) are
       (with ∙ ap (records_with task.outputs) stands ∙ records_at held task.outputs),
 )
 
 -- it is that of what stands, where what was made does
-pub record_stands : (kinds : Kinds) (task : Task) (trees : Trees) (inputs : List Prints) (new : Files) (run : Remembered) → (of : IsRecordOf kinds task trees run) → inputs ≡ digests_in trees
+pub record_stands : (kinds : Kinds) (task : Task) (trees : Trees) (inputs : List Prints) (new : Files) (run : Record) → (of : IsRecordOf kinds task trees run) → inputs ≡ digests_in trees
     → ((held : Files) → made_of kinds task.actions task.values trees task.outputs ≡ Ok held → prints_at task.outputs new ≡ prints_at task.outputs held)
     → run ≡ run_now task inputs new
 record_stands kinds task trees inputs new run of are stand =
     of.2 ∙ ap₂ (run_with task) (sym are)
     (sym (records_at of.0 task.outputs) ∙ ap (records_with task.outputs) (sym (stand of.0 of.1)) ∙ records_at new task.outputs)
   where
-    run_with : Task → List Prints → List OutputRecord → Remembered
+    run_with : Task → List Prints → List OutputRecord → Record
     run_with t ins os = record { actions = t.actions; values = t.values; inputs = ins; outputs = os }
 
 -- a task with outputs has its record

@@ -7,7 +7,7 @@ use Rattle.gb_action.specs.declared.output.OutputFiles.{OutputFiles}
 use Rattle.gb_turn.specs.Case.{IsCaseFor, IsCaseOf, OutsideIsEnough, PreparedIsCase}
 use Rattle.gb_folder.specs.Files.{Contents, Files, is_own}
 use Rattle.gb_history.specs.Decision.{DecidesFrom}
-use Rattle.gb_history.specs.Remembered.{Prints, Remembered, prints_in}
+use Rattle.gb_history.specs.Record.{Prints, Record, prints_in}
 use Rattle.gb_history.specs.declared.decide.Decision.{Decision}
 use Rattle.gb_history.specs.declared.decide.Decision.TheVariants as decisions
 use Rattle.gb_history.specs.declared.decide.Present.{Present}
@@ -40,18 +40,18 @@ records_seen : (files : Files) (outputs : List Output) → records_with outputs 
 records_seen files [] = refl
 records_seen files (output ∷ outputs) = ap (λ (l : List OutputRecord). recorded_of files output ∷ l) (records_seen files outputs)
 
-module _ (options : Options) (task : Task) (last : Remembered) (present : Present) (decision : Decision) (inputs : Inputs) (outputs : Outputs) (read stood : List Prints)
+module _ (options : Options) (task : Task) (last : Record) (present : Present) (decision : Decision) (inputs : Inputs) (outputs : Outputs) (read stood : List Prints)
     (named : map (λ tree. tree.0) inputs.trees ≡ seen_files task.files) (digests : read ≡ digests_in inputs.trees)
     (formed : map (λ output. (output.name, output.form)) outputs.seen ≡ seen_outputs task.outputs) (are : stood ≡ prints_seen outputs.seen)
     (is : IsPresentOf options task read (records_with task.outputs stood) present) (decides : DecidesFrom last present decision)
     (left : inputs.prints.items ≡ present.now.inputs) (kept : outputs.prints.items ≡ prints_in present.now.outputs) where
   whole : AreWhole task inputs
-  whole = record { named = named; digests = left ∙ ap (λ (now : Remembered). now.inputs) is.now ∙ digests }
+  whole = record { named = named; digests = left ∙ ap (λ (now : Record). now.inputs) is.now ∙ digests }
 
   whole_outputs : AreWholeOutputs task outputs
   whole_outputs = record {
     formed = formed;
-    digests = kept ∙ ap (λ (now : Remembered). prints_in now.outputs) is.now ∙ prints_with task.outputs stood (named_outputs task.outputs outputs.seen stood are formed) ∙ are;
+    digests = kept ∙ ap (λ (now : Record). prints_in now.outputs) is.now ∙ prints_with task.outputs stood (named_outputs task.outputs outputs.seen stood are formed) ∙ are;
   }
 
   decided : (changes : List Changes) → decision ≡ decisions.Incremental changes → AreDecided options task last inputs.trees outputs.seen changes

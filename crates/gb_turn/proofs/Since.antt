@@ -16,7 +16,7 @@ use Rattle.gb_core.specs.Place.{is_under}
 use Rattle.gb_folder.specs.Files.{Place, Bytes, Contents, Files, file_at, is_own}
 use Rattle.gb_history.specs.Ascending.{ascends}
 use Rattle.gb_history.specs.Places.{record_place}
-use Rattle.gb_history.specs.Remembered.{ArePrints}
+use Rattle.gb_history.specs.Record.{ArePrints}
 use Rattle.gb_history.proofs.Rising.{ascends-is_sorted}
 use Rattle.gb_label.specs.Deciding.{HasNamesInOrder}
 use Rattle.gb_meaning.specs.Kinds.{Kinds}
@@ -245,7 +245,7 @@ ordered_inputs files memory path entry standing is_path known =
     by : Stores sha256 IsText path (file_at files (record_place path)) (Some entry) → list_all (λ (tree : List ℕ × Tree). is_sorted byte_order tree.1) entry.inputs ≡ true
     by stored =
         let text : IsText path (record_of sha256 entry) stored.0 = stored.2 in
-        all_sorted sha256 entry.inputs (subst (AllByRecursion ArePrints) (ap (λ said. said.inputs) text.is) text.held.inputs)
+        all_sorted sha256 entry.inputs text.held.inputs
 
 -- ---- what a run by changes goes on from
 

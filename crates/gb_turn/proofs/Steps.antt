@@ -11,7 +11,7 @@ use Rattle.gb_core.specs.Place.{is_place, is_under}
 use Rattle.gb_folder.specs.Files.{Place, Bytes, Contents, Files, HasRisen, Tearing, file_at, files_where, is_blocked, is_empty, is_own}
 use Rattle.gb_folder.proofs.Changes.{HasRisen-after, HasRisen-before, file_at-files_where}
 use Rattle.gb_history.specs.Places.{record_place}
-use Rattle.gb_history.specs.Remembered.{Prints, Remembered}
+use Rattle.gb_history.specs.Record.{Prints, Record}
 use Rattle.gb_history.specs.Text.{record_text}
 use Rattle.gb_meaning.specs.Events.{IsTornInRun, Setting, StandsInRun, is_record_shut_out, is_record_too_long, is_touched_by, max_record, may_come, own_files}
 use Rattle.gb_meaning.specs.Kinds.{Kinds}
@@ -20,7 +20,7 @@ use Rattle.gb_meaning.specs.Made.{made, made_of, rest_of, with_outputs}
 use Rattle.gb_meaning.specs.Memory.{Entry, Memory, World, entry_of, forget, recalled, remember}
 use Rattle.gb_meaning.specs.Run.{Ended}
 use Rattle.gb_meaning.specs.Tree.{has_no_source, listing_faults, told_of_tree, trees_of}
-use Rattle.gb_meaning.specs.TrueRecord.{Record, outside, record_of}
+use Rattle.gb_meaning.specs.TrueRecord.{outside, record_of}
 use Rattle.gb_meaning.specs.Turn.{ByMachine, HasEnded, InventsNothing, IsWritten, KeepsRightFiles, Standing as Stands, TouchesRecordIn, cause_of, lines_of, memory_after}
 use Rattle.gb_meaning.proofs.Common.{none_some}
 use Rattle.gb_meaning.proofs.Lemmas.Files.{at-put_over, or_else}
@@ -31,9 +31,8 @@ use Rattle.gb_plan.specs.declared.task.Action.{Action}
 use Rattle.gb_plan.specs.declared.task.Output.{Output}
 use Rattle.gb_plan.specs.declared.task.TaskDeclaration.{TaskDeclaration as Task}
 use Rattle.gb_plan.proofs.Tests.{not_false, or_right}
-use Rattle.gb_records.specs.Said.{IsSaidOf, remembered_of, text_of}
+use Rattle.gb_records.specs.Said.{IsSaidOf}
 use Rattle.gb_records.specs.Standing.{CannotStand, Standing}
-use Rattle.gb_records.proofs.Told.{run_back}
 use Rattle.gb_report.specs.declared.fault.Fault.{Fault}
 use Rattle.gb_report.specs.declared.fault.Fault.TheVariants as faults
 use Rattle.gb_report.specs.declared.report.Options.{Options}
@@ -540,15 +539,14 @@ module _ (kinds : Kinds) (registry_of : Registering) (may_leave : Tearing) (opti
             abbrev too_long_of : Result Files (List Fault) → Bool
             too_long_of (Ok made_files) = not (is_empty task.outputs) && not (has_no_source task (kept old.files))
                 && nat_lt max_record
-                (length (text_of task.path (record_of sha256 (entry_of task (with_outputs task (kept old.files) made_files)))))
+                (length (record_text task.path (record_of sha256 (entry_of task (with_outputs task (kept old.files) made_files)))))
             too_long_of (Err hindrances) = false
 
             too_long : nat_lt max_record (length text_then) ≡ true → is_record_too_long setting task (kept old.files) ≡ true
             too_long e =
                 let by_made : is_record_too_long setting task (kept old.files) ≡ too_long_of (made kinds task (kept old.files)) = refl in
-                let same_text : length (text_of task.path (record_of sha256 entry_made_then)) ≡ length text_then =
-                ap (λ (said : Record). length (record_text task.path (remembered_of said))) (sym (said_then inputs inputs_are))
-                ∙ ap (λ (run : Remembered). length (record_text task.path run)) (run_back (run_now task inputs ran.files)) in
+                let same_text : length (record_text task.path (record_of sha256 entry_made_then)) ≡ length text_then =
+                ap (λ (run : Record). length (record_text task.path run)) (sym (said_then inputs inputs_are)) in
                 by_made ∙ ap too_long_of made_then
                 ∙ (λ i. (not (has_outputs i) && not (goes_on.source i)) && (ap (nat_lt max_record) same_text ∙ e) i)
 

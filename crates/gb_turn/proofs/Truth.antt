@@ -18,7 +18,7 @@ use Rattle.gb_core.specs.Lists.{byte_order}
 use Rattle.gb_folder.specs.Calls.{Call}
 use Rattle.gb_folder.specs.Files.{Place, Bytes, Files, Tearing, file_at}
 use Rattle.gb_history.specs.Decision.{IsAlike, changes_of, is_incremental}
-use Rattle.gb_history.specs.Remembered.{ArePrints, Prints, Remembered, prints_in}
+use Rattle.gb_history.specs.Record.{ArePrints, Prints, Record, prints_in}
 use Rattle.gb_history.specs.Text.{record_text}
 use Rattle.gb_history.specs.declared.decide.Present.{Present}
 use Rattle.gb_run.specs.AskingChanges.{GoesOn, request_of}
@@ -27,15 +27,15 @@ use Rattle.gb_meaning.specs.Kinds.{Kinds}
 use Rattle.gb_meaning.specs.Label.{has_one_writer}
 use Rattle.gb_meaning.specs.Made.{made_of}
 use Rattle.gb_meaning.specs.Memory.{Entry, output_files}
-use Rattle.gb_meaning.specs.TrueRecord.{Record, contents_in, contents_of, prints_of, record_of}
+use Rattle.gb_meaning.specs.TrueRecord.{contents_in, contents_of, prints_of}
 use Rattle.gb_meaning.proofs.Lemmas.Files.{at-where, same_files, same_place, sorted-where}
 use Rattle.gb_meaning.proofs.Lemmas.Making.{IsRight, made_of_is_right}
 use Rattle.gb_plan.specs.Task.{is_output_of, seen_files, seen_outputs}
 use Rattle.gb_plan.specs.declared.task.Output.{Output}
 use Rattle.gb_plan.specs.declared.task.TaskDeclaration.{TaskDeclaration as Task}
-use Rattle.gb_records.specs.Said.{output_said, said_of}
 use Rattle.gb_records.proofs.Apart.{trees_back, output_seen}
 use Rattle.gb_records.proofs.Digests.{tree_in, trees_in}
+use Rattle.gb_records.proofs.Outputs.{output_in, output_trees, outputs_told, prints_told}
 use Rattle.gb_records.proofs.Placed.{made_placed}
 use Rattle.gb_records.proofs.Since.{SameUnless, alike_trees}
 use Rattle.gb_tree.specs.Prints.{digests_of}
@@ -46,24 +46,13 @@ use Rattle.gb_turn.specs.Keeping.{IsRecordOf, run_now}
 use Rattle.gb_turn.specs.Truth.{AreMadeOf, FullRunsAreTrue, IsTextOfTrue, IsTrueBeside, LieApart, RunsByChangesStayTrue, UpToDateIsMade, contents_read}
 use Rattle.gb_turn.proofs.Made.{made_folder}
 use Rattle.gb_turn.proofs.Since.{all_sorted}
-use Rattle.gb_turn.proofs.Present.{output_trees, outputs_told, prints_told}
 
 -- ---- the record of what was made
 
 abbrev entry_by : Task → Trees → Files → Entry
 entry_by task trees files = record { actions = task.actions; values = task.values; inputs = trees; outputs = task.outputs; files = files }
 
-said_now : (task : Task) (trees : Trees) (files : Files) → said_of (run_now task (digests_in trees) files) ≡ record_of sha256 (entry_by task trees files)
-said_now task trees files =
-    ap₂ (λ (outs : List Output) (prints : List Prints). let r : Record = record {
-      actions = task.actions;
-      values = task.values;
-      inputs = prints_of sha256 trees;
-      outputs = outs;
-      files = prints;
-    } in r) (outputs_told files task.outputs) (prints_told files task.outputs)
-
-text_of_record : {F : Type 0} (failures : F → ℕ) (may_leave : F → Tearing) (asked : F → Call → F → Type 0) (old read : F) (kinds : Kinds) (task : Task) (trees : Trees) (run : Remembered) (bytes : Bytes)
+text_of_record : {F : Type 0} (failures : F → ℕ) (may_leave : F → Tearing) (asked : F → Call → F → Type 0) (old read : F) (kinds : Kinds) (task : Task) (trees : Trees) (run : Record) (bytes : Bytes)
     → AreInputsRead failures may_leave asked old read task trees → map (λ (tree : List ℕ × Tree). tree.0) trees ≡ seen_files task.files → IsRecordOf kinds task trees run
     → bytes ≡ record_text task.path run → IsTextOfTrue failures may_leave asked old kinds task bytes
 text_of_record failures may_leave asked old read kinds task trees run bytes inputs named of text = record {
@@ -77,7 +66,7 @@ text_of_record failures may_leave asked old read kinds task trees run bytes inpu
   inputs_read = inputs;
   named = named;
   is_made = of.1;
-  said = ap said_of of.2 ∙ said_now task trees of.0;
+  said = of.2;
 }
 
 pub full_runs_are_true : {F S : Type 0} (failures : F → ℕ) (may_leave : F → Tearing) (asked : F → Call → F → Type 0) (meanings : Meanings S) → FullRunsAreTrue failures may_leave asked meanings
@@ -188,7 +177,7 @@ first_formed a b l m e = cc
 others_formed : (a b : List ℕ × Form) (l m : List (List ℕ × Form)) → a ∷ l ≡ b ∷ m → l ≡ m
 others_formed a b l m e = cc
 
-said_with : (outputs : List Output) (seen : List OutputFiles) → AreFormed seen outputs → map output_said (records_with outputs (prints_seen seen)) ≡ outputs
+said_with : (outputs : List Output) (seen : List OutputFiles) → AreFormed seen outputs → map output_in (records_with outputs (prints_seen seen)) ≡ outputs
 said_with [] seen formed = refl
 said_with (output ∷ outputs) [] formed = absurd (let e = formed in (cc))
 said_with (output ∷ outputs) (one ∷ seen) formed =
@@ -245,7 +234,7 @@ same_lists all apart names (a ∷ old) (b ∷ new) p q =
 
 -- ---- what is known of a task whose record has the outputs that were seen
 
-module _ (kinds : Kinds) (task : Task) (last : Remembered) (trees : Trees) (seen : List OutputFiles) (lie : LieApart task)
+module _ (kinds : Kinds) (task : Task) (last : Record) (trees : Trees) (seen : List OutputFiles) (lie : LieApart task)
     (formed : AreFormed seen task.outputs) (so : IsTrueBeside kinds last (contents_read trees seen))
     (actions_are : last.actions ≡ task.actions) (values_are : last.values ≡ task.values)
     (outputs_are : last.outputs ≡ records_with task.outputs (prints_seen seen)) where
@@ -262,13 +251,19 @@ module _ (kinds : Kinds) (task : Task) (last : Remembered) (trees : Trees) (seen
   values = sym (ap (λ (r : Record). r.values) so.said) ∙ values_are
 
   outputs : so.entry.outputs ≡ task.outputs
-  outputs = sym (ap (λ (r : Record). r.outputs) so.said) ∙ ap (map output_said) outputs_are ∙ said_with task.outputs seen formed
+  outputs =
+      sym (outputs_told so.entry.files so.entry.outputs)
+      ∙ ap (map output_in) (sym (ap (λ (r : Record). r.outputs) so.said) ∙ outputs_are)
+      ∙ said_with task.outputs seen formed
 
   inputs_said : last.inputs ≡ prints_of sha256 so.entry.inputs
   inputs_said = ap (λ (r : Record). r.inputs) so.said
 
   told : prints_of sha256 (output_trees so.entry.files so.entry.outputs) ≡ prints_of sha256 (map pair_of seen)
-  told = sym (ap (λ (r : Record). r.files) so.said) ∙ ap prints_in outputs_are ∙ prints_with task.outputs seen formed
+  told =
+      sym (prints_told so.entry.files so.entry.outputs)
+      ∙ ap prints_in (sym (ap (λ (r : Record). r.outputs) so.said) ∙ outputs_are)
+      ∙ prints_with task.outputs seen formed
 
   old_in : AllByRecursion (λ (tree : List ℕ × Tree). AllByRecursion (λ (file : Place × Bytes). Contains all file.1) tree.1) so.entry.inputs
   old_in = trees_in all so.entry.inputs (λ x c. Contains-append_left (contents_of so.entry) (contents_read trees seen) x
@@ -361,16 +356,16 @@ runs_by_changes_stay_true failures may_leave asked meanings old rows kinds optio
     names = on.decided.present.incremental.items
 
     actions : last.actions ≡ task.actions
-    actions = on.decided.decides.1.same_actions ∙ ap (λ (run : Remembered). run.actions) on.decided.is.now
+    actions = on.decided.decides.1.same_actions ∙ ap (λ (run : Record). run.actions) on.decided.is.now
 
     values : last.values ≡ task.values
-    values = on.decided.decides.1.same_values ∙ ap (λ (run : Remembered). run.values) on.decided.is.now
+    values = on.decided.decides.1.same_values ∙ ap (λ (run : Record). run.values) on.decided.is.now
 
     outputs : last.outputs ≡ records_with task.outputs (prints_seen on.seen)
-    outputs = on.decided.decides.1.same_outputs ∙ ap (λ (run : Remembered). run.outputs) on.decided.is.now
+    outputs = on.decided.decides.1.same_outputs ∙ ap (λ (run : Record). run.outputs) on.decided.is.now
 
     inputs : on.decided.present.now.inputs ≡ digests_in on.trees
-    inputs = ap (λ (run : Remembered). run.inputs) on.decided.is.now
+    inputs = ap (λ (run : Record). run.inputs) on.decided.is.now
 
     alike : AllZip (IsAlike names) last.inputs (digests_in on.trees)
     alike = subst (λ prints. AllZip (IsAlike names) last.inputs prints) inputs on.decided.decides.1.alike
@@ -384,8 +379,8 @@ runs_by_changes_stay_true failures may_leave asked meanings old rows kinds optio
 pub up_to_date_is_made : {F : Type 0} (failures : F → ℕ) (may_leave : F → Tearing) (asked : F → Call → F → Type 0) → UpToDateIsMade failures may_leave asked
 up_to_date_is_made failures may_leave asked kinds options task last old new lie on so =
     made_now kinds task on.run on.trees on.seen lie on.formed so
-    (ap (λ (run : Remembered). run.actions) same) (ap (λ (run : Remembered). run.values) same)
-    (ap (λ (run : Remembered). run.outputs) same) (ap (λ (run : Remembered). run.inputs) same)
+    (ap (λ (run : Record). run.actions) same) (ap (λ (run : Record). run.values) same)
+    (ap (λ (run : Record). run.outputs) same) (ap (λ (run : Record). run.inputs) same)
   where
     same : on.run ≡ record { actions = task.actions; values = task.values; inputs = digests_in on.trees; outputs = records_with task.outputs (prints_seen on.seen) }
     same = on.decides.same ∙ on.has.now

@@ -8,7 +8,7 @@ use Rattle.gb_action.specs.Changes.{Changes}
 use Rattle.gb_action.specs.Files.{Trees}
 use Rattle.gb_core.specs.Lists.{byte_order}
 use Rattle.gb_folder.specs.Files.{Contents, Files, Place, SameTearing, Tearing, is_empty, is_own}
-use Rattle.gb_history.specs.Remembered.{Prints}
+use Rattle.gb_history.specs.Record.{Prints}
 use Rattle.gb_meaning.specs.Kinds.{Kinds}
 use Rattle.gb_meaning.specs.Label.{Moment, changes_from}
 use Rattle.gb_meaning.specs.Memory.{Entry, Memory, forget}

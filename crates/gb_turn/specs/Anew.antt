@@ -5,7 +5,7 @@ use Rattle.gb_action.specs.Files.{Trees}
 use Rattle.gb_action.specs.declared.output.OutputFiles.{OutputFiles}
 use Rattle.gb_folder.specs.Files.{Files}
 use Rattle.gb_history.specs.Decision.{DecidesFrom}
-use Rattle.gb_history.specs.Remembered.{Remembered}
+use Rattle.gb_history.specs.Record.{Record}
 use Rattle.gb_history.specs.declared.decide.Decision.{Decision}
 use Rattle.gb_history.specs.declared.decide.Decision.TheVariants as decisions
 use Rattle.gb_history.specs.declared.decide.Present.{Present}
@@ -34,7 +34,7 @@ pub record AreWholeOutputs (task : Task) (outputs : Outputs) : Type 0 where
   pub digests : outputs.prints.items ≡ prints_seen outputs.seen
 
 -- The changes are decided by the record on the digests of these trees and outputs.
-pub record AreDecided (options : Options) (task : Task) (last : Remembered) (trees : Trees)
+pub record AreDecided (options : Options) (task : Task) (last : Record) (trees : Trees)
     (seen : List OutputFiles) (changes : List Changes) : Type 0 where
   pub present : Present
   pub is : IsPresentOf options task (digests_in trees) (records_with task.outputs (prints_seen seen)) present
@@ -47,7 +47,7 @@ anew_by (decisions.Incremental changes) inputs outputs = anew.ByChanges inputs o
 anew_by decisions.Full inputs outputs = anew.InFull inputs
 
 -- What it comes to was decided on these very inputs and outputs.
-abbrev pub IsAnew : Options → Task → Remembered → Anew → Type 0
+abbrev pub IsAnew : Options → Task → Record → Anew → Type 0
 IsAnew options task last (anew.ByChanges inputs outputs changes) =
     AreWhole task inputs × AreWholeOutputs task outputs
     × AreDecided options task last inputs.trees outputs.seen changes

@@ -7,7 +7,7 @@ use Rattle.gb_action.specs.declared.output.OutputFiles.{OutputFiles}
 use Rattle.gb_folder.specs.Calls.{Asks, Call, Permit, no_change}
 use Rattle.gb_folder.specs.Files.{Bytes, Files, IsFolder, Tearing, are_placed}
 use Rattle.gb_history.specs.Places.{record_place}
-use Rattle.gb_history.specs.Remembered.{Remembered}
+use Rattle.gb_history.specs.Record.{Record}
 use Rattle.gb_history.specs.Text.{record_text}
 use Rattle.gb_label.specs.Answered.{WasSourceless}
 use Rattle.gb_label.specs.ReadingAnswered.{AreInputsRead, AreOutputsRead}
@@ -48,7 +48,7 @@ HasRead {F = F} failures may_leave asked old task =
 -- the task's actions make of them
 unfoldable pub IsTextIn : {S : Type 0} → Meanings S → Rows S → Task → Trees → Bytes → Type 0
 IsTextIn meanings rows task trees bytes =
-    (run : Remembered) × (bytes ≡ record_text task.path run)
+    (run : Record) × (bytes ≡ record_text task.path run)
     × ((kinds : Kinds) → Agrees meanings rows kinds → IsRecordOf kinds task trees run)
 
 -- of a run by these changes from outputs as they were seen: the same, where these were made of old trees from
@@ -56,7 +56,7 @@ IsTextIn meanings rows task trees bytes =
 unfoldable pub IsTextBy : {S : Type 0} → Meanings S → Rows S → Task → Trees → List Changes → List OutputFiles
     → Bytes → Type 0
 IsTextBy meanings rows task trees changes seen bytes =
-    (run : Remembered) × (bytes ≡ record_text task.path run)
+    (run : Record) × (bytes ≡ record_text task.path run)
     × ((kinds : Kinds) → Agrees meanings rows kinds → (old : Trees) (standing : Files) → IsFolder standing
     → IsTrue (are_placed standing) → GoesOn kinds task old trees changes seen standing
     → IsRecordOf kinds task trees run)
@@ -66,7 +66,7 @@ IsTextBy meanings rows task trees changes seen bytes =
 -- folder before anything was changed
 pub record IsTextOn {F S : Type 0} (failures : F → ℕ) (may_leave : F → Tearing)
     (asked : F → Call → F → Type 0) (old : F) (meanings : Meanings S) (rows : Rows S) (options : Options)
-    (task : Task) (last : Remembered) (bytes : Bytes) : Type 0 where
+    (task : Task) (last : Record) (bytes : Bytes) : Type 0 where
   pub trees : Trees
   pub changes : List Changes
   pub seen : List OutputFiles
@@ -87,7 +87,7 @@ IsInFull {F = F} failures may_leave asked old meanings rows task bytes =
 
 -- in full, or on from what the record says
 unfoldable pub IsTextAnew : {F S : Type 0} → (F → ℕ) → (F → Tearing) → (F → Call → F → Type 0) → F
-    → Meanings S → Rows S → Options → Task → Remembered → Bytes → Type 0
+    → Meanings S → Rows S → Options → Task → Record → Bytes → Type 0
 IsTextAnew failures may_leave asked old meanings rows options task last bytes =
     IsInFull failures may_leave asked old meanings rows task bytes
     ⊎ IsTextOn failures may_leave asked old meanings rows options task last bytes
@@ -95,7 +95,7 @@ IsTextAnew failures may_leave asked old meanings rows options task last bytes =
 -- of a run of the task, from the record that was read of it: in full, or on from what that says, where one
 -- action of the task writes files
 abbrev pub IsTextFrom : {F S : Type 0} → (F → ℕ) → (F → Tearing) → (F → Call → F → Type 0) → F → Meanings S
-    → Rows S → Options → Task → Option Remembered → Bytes → Type 0
+    → Rows S → Options → Task → Option Record → Bytes → Type 0
 IsTextFrom failures may_leave asked old meanings rows options task None bytes =
     IsInFull failures may_leave asked old meanings rows task bytes
 IsTextFrom failures may_leave asked old meanings rows options task (Some last) bytes =
@@ -104,7 +104,7 @@ IsTextFrom failures may_leave asked old meanings rows options task (Some last) b
     × ((kinds : Kinds) → Agrees meanings rows kinds → IsTrue (has_one_writer kinds task.actions)))
 
 unfoldable pub IsTextOf : {F S : Type 0} → (F → ℕ) → (F → Tearing) → (F → Call → F → Type 0) → F → Meanings S
-    → Rows S → Options → Task → Option Remembered → Bytes → Type 0
+    → Rows S → Options → Task → Option Record → Bytes → Type 0
 IsTextOf failures may_leave asked old meanings rows options task last bytes =
     IsTextFrom failures may_leave asked old meanings rows options task last bytes
 
@@ -114,7 +114,7 @@ IsTextOf failures may_leave asked old meanings rows options task last bytes =
 abbrev pub UnreadTurnsKeep : {F S : Type 0} → (F → ℕ) → (F → Tearing) → (F → Call → F → Type 0) → Meanings S
     → Type 0
 UnreadTurnsKeep {F = F} {S = S} failures may_leave asked meanings =
-    (rows : Rows S) (options : Options) (task : Task) (last : Option Remembered) (old new : F)
+    (rows : Rows S) (options : Options) (task : Task) (last : Option Record) (old new : F)
     → ¬ HasRead failures may_leave asked old task
     → Asks failures may_leave asked (once (HasRead failures may_leave asked old task) (in_turn_with task
     (IsTextOf failures may_leave asked old meanings rows options task last))) old new

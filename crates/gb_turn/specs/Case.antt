@@ -2,7 +2,7 @@
 use Rattle.std.specs.Prelude.{◌≡◌, false, [], map, Option, Some, None, IsTrue}
 use Rattle.std.specs.List.{flat_map, list_any}
 use Rattle.gb_folder.specs.Files.{Contents, Files, is_own}
-use Rattle.gb_history.specs.Remembered.{Remembered}
+use Rattle.gb_history.specs.Record.{Record}
 use Rattle.gb_history.specs.declared.decide.Decision.{Decision}
 use Rattle.gb_history.specs.declared.decide.Decision.TheVariants as decisions
 use Rattle.gb_history.specs.declared.decide.Present.{Present}
@@ -24,7 +24,7 @@ use Rattle.gb_report.specs.declared.report.Options.{Options}
 
 -- What was read of the task is the record of what is remembered of it; and that is true and clear, by what
 -- the task has now.
-abbrev pub IsKnown : Kinds → Task → World → Option Remembered → Type 0
+abbrev pub IsKnown : Kinds → Task → World → Option Record → Type 0
 IsKnown kinds task world None = recalled world.memory task.path ≡ None
 IsKnown kinds task world (Some run) =
     (entry : Entry) × (recalled world.memory task.path ≡ Some entry) × IsSaidOf run entry
@@ -69,20 +69,20 @@ MadeIsNotGrown =
 -- what is decided of a task that has a source is its case
 abbrev pub DecisionIsCase : Type 0
 DecisionIsCase =
-    (kinds : Kinds) (options : Options) (task : Task) (world : World) (read : Option Remembered)
+    (kinds : Kinds) (options : Options) (task : Task) (world : World) (read : Option Record)
     (decision : Decision) → IsKnown kinds task world read → early_case task world.folder ≡ None
     → IsDecided options task world.folder read decision → IsCaseFor kinds options task world decision
 
 -- what a turn is prepared for is its case
 abbrev pub PreparedIsCase : Type 0
 PreparedIsCase =
-    (kinds : Kinds) (options : Options) (task : Task) (world : World) (read : Option Remembered)
+    (kinds : Kinds) (options : Options) (task : Task) (world : World) (read : Option Record)
     (prepared : Prepared) → IsKnown kinds task world read
     → IsPrepared options task world.folder read prepared → IsCaseOf kinds options task world prepared
 
 -- a turn is prepared in a whole folder as in the folder without the tool's own files, if no output is its own
 abbrev pub OutsideIsEnough : Type 0
 OutsideIsEnough =
-    (options : Options) (task : Task) (folder : Contents) (read : Option Remembered) (prepared : Prepared)
+    (options : Options) (task : Task) (folder : Contents) (read : Option Record) (prepared : Prepared)
     → list_any (λ output. is_own output.place) task.outputs ≡ false
     → IsPrepared options task folder read prepared → IsPrepared options task (outside folder) read prepared

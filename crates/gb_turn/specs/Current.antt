@@ -5,7 +5,7 @@ use Rattle.gb_action.specs.declared.output.OutputFiles.{OutputFiles}
 use Rattle.gb_folder.specs.Calls.{Call}
 use Rattle.gb_folder.specs.Files.{Tearing, is_empty}
 use Rattle.gb_history.specs.Decision.{DecidesFrom}
-use Rattle.gb_history.specs.Remembered.{Remembered}
+use Rattle.gb_history.specs.Record.{Record}
 use Rattle.gb_history.specs.declared.decide.Decision.TheVariants as decisions
 use Rattle.gb_history.specs.declared.decide.Present.{Present}
 use Rattle.gb_label.specs.Answered.{WasDecided, WasSourceless}
@@ -24,9 +24,9 @@ use Rattle.gb_turn.specs.declared.settle.Settled.TheVariants as settled
 
 -- The record that was read of the task finds it up to date, on trees and files that calls answered.
 pub record IsCurrentOn {F : Type 0} (failures : F → ℕ) (may_leave : F → Tearing)
-    (asked : F → Call → F → Type 0) (options : Options) (task : Task) (last : Option Remembered)
+    (asked : F → Call → F → Type 0) (options : Options) (task : Task) (last : Option Record)
     (old new : F) : Type 0 where
-  pub run : Remembered
+  pub run : Record
   pub remembered : last ≡ Some run
   pub trees : Trees
   pub inputs_read : AreInputsRead failures may_leave asked old new task trees
@@ -40,14 +40,14 @@ pub record IsCurrentOn {F : Type 0} (failures : F → ℕ) (may_leave : F → Te
 
 -- where a task that has actions is told up to date it was found so
 abbrev pub IsToldCurrent : {F : Type 0} → (F → ℕ) → (F → Tearing) → (F → Call → F → Type 0) → Options → Task
-    → Option Remembered → F → F → Outcome → Type 0
+    → Option Record → F → F → Outcome → Type 0
 IsToldCurrent failures may_leave asked options task last old new outcome =
     outcome ≡ outcomes.UpToDate → is_empty task.actions ≡ false
     → IsCurrentOn failures may_leave asked options task last old new
 
 -- what is settled goes by what was answered
 abbrev pub WasSettled : {F : Type 0} → (F → ℕ) → (F → Tearing) → (F → Call → F → Type 0) → F → F → Options
-    → Task → Option Remembered → Settled → Type 0
+    → Task → Option Record → Settled → Type 0
 WasSettled failures may_leave asked old new options task last (settled.Told report) =
     IsToldCurrent failures may_leave asked options task last old new report.outcome
 WasSettled failures may_leave asked old new options task last (settled.Sourceless path) =

@@ -2,7 +2,7 @@
 use Rattle.std.specs.Prelude.{ℕ, ◌≡◌, ◌⊎◌, List, Option, Result, Ok, Err, map, if◌then◌else◌}
 use Rattle.gb_action.specs.Files.{Trees}
 use Rattle.gb_folder.specs.Files.{Bytes, Files, HasRisen, is_empty}
-use Rattle.gb_history.specs.Remembered.{Prints, Remembered}
+use Rattle.gb_history.specs.Record.{Prints, Record}
 use Rattle.gb_label.specs.Reading.{digests_in, recorded_of}
 use Rattle.gb_meaning.specs.Kinds.{Kinds}
 use Rattle.gb_meaning.specs.Made.{made_of}
@@ -14,7 +14,7 @@ use Rattle.gb_report.specs.declared.fault.Fault.{Fault}
 use Rattle.gb_report.specs.declared.fault.Fault.TheVariants as faults
 
 -- a run of the task with these input digests, whose outputs are those of these files
-abbrev pub run_now : Task → List Prints → Files → Remembered
+abbrev pub run_now : Task → List Prints → Files → Record
 run_now task inputs files = record {
   actions = task.actions;
   values = task.values;
@@ -29,7 +29,7 @@ IsUnwritten path next files before after fault =
     ⊎ ((fault ≡ faults.HistoryNotWritten) × (CannotStand files path next ⊎ HasRisen before after))
 
 -- The record is that of a run of the task on these trees, whose outputs are what its actions make of them.
-abbrev pub IsRecordOf : Kinds → Task → Trees → Remembered → Type 0
+abbrev pub IsRecordOf : Kinds → Task → Trees → Record → Type 0
 IsRecordOf kinds task trees run =
     (files : Files) × (made_of kinds task.actions task.values trees task.outputs ≡ Ok files)
     × (run ≡ run_now task (digests_in trees) files)

@@ -4,7 +4,7 @@ use Rattle.std.specs.List.{AllByRecursion, flat_map, list_any}
 use Rattle.sha2.specs.Sha256.{sha256}
 use Rattle.gb_core.specs.Path.{is_task_path}
 use Rattle.gb_folder.specs.Files.{Files, IsFolder, are_placed, is_empty, is_own}
-use Rattle.gb_history.specs.Remembered.{Remembered}
+use Rattle.gb_history.specs.Record.{Record}
 use Rattle.gb_meaning.specs.Kinds.{Kinds}
 use Rattle.gb_meaning.specs.Memory.{Memory, World, folder_contents, recalled}
 use Rattle.gb_meaning.specs.TrueRecord.{AreApart, IsMade, contents_of}
@@ -30,5 +30,5 @@ pub record AreWorth (kinds : Kinds) (task : Task) (files : Files) (memory : Memo
 -- what is read of a task where records stood that are worth it is known of the task
 abbrev pub WhatIsReadIsKnown : Type 0
 WhatIsReadIsKnown =
-    (kinds : Kinds) (task : Task) (files : Files) (memory : Memory) (world : World) (read : Option Remembered)
+    (kinds : Kinds) (task : Task) (files : Files) (memory : Memory) (world : World) (read : Option Record)
     → AreWorth kinds task files memory world → IsReadAt files task.path read → IsKnown kinds task world read

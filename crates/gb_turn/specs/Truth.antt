@@ -8,7 +8,7 @@ use Rattle.gb_action.specs.Meanings.{Meanings}
 use Rattle.gb_action.specs.declared.output.OutputFiles.{OutputFiles}
 use Rattle.gb_folder.specs.Calls.{Call}
 use Rattle.gb_folder.specs.Files.{Bytes, Files, Tearing, is_own}
-use Rattle.gb_history.specs.Remembered.{IsRemembered, Remembered}
+use Rattle.gb_history.specs.Record.{IsWellFormed, Record}
 use Rattle.gb_history.specs.Text.{record_text}
 use Rattle.gb_label.specs.ReadingAnswered.{AreInputsRead}
 use Rattle.gb_label.specs.Reading.{seen_of}
@@ -32,7 +32,7 @@ use Rattle.gb_turn.specs.Current.{IsCurrentOn}
 -- actions make of them, and the record has its digests.
 pub record IsTextOfTrue {F : Type 0} (failures : F → ℕ) (may_leave : F → Tearing)
     (asked : F → Call → F → Type 0) (old : F) (kinds : Kinds) (task : Task) (bytes : Bytes) : Type 0 where
-  pub run : Remembered
+  pub run : Record
   pub text : bytes ≡ record_text task.path run
   pub entry : Entry
   pub actions : entry.actions ≡ task.actions
@@ -49,7 +49,7 @@ abbrev pub contents_read : Trees → List OutputFiles → List Bytes
 contents_read trees seen = contents_in trees ++ contents_in (map (λ output. (output.name, output.files)) seen)
 
 -- The record is that of a true entry, no two contents of which and of these share a digest.
-pub record IsTrueBeside (kinds : Kinds) (last : Remembered) (contents : List Bytes) : Type 0 where
+pub record IsTrueBeside (kinds : Kinds) (last : Record) (contents : List Bytes) : Type 0 where
   pub entry : Entry
   pub is_made : IsMade kinds entry
   pub said : IsSaidOf last entry
@@ -73,9 +73,9 @@ FullRunsAreTrue {F = F} {S = S} failures may_leave asked meanings =
 abbrev pub RunsByChangesStayTrue : {F S : Type 0} → (F → ℕ) → (F → Tearing) → (F → Call → F → Type 0)
     → Meanings S → Type 0
 RunsByChangesStayTrue {F = F} {S = S} failures may_leave asked meanings =
-    (old : F) (rows : Rows S) (kinds : Kinds) (options : Options) (task : Task) (last : Remembered)
+    (old : F) (rows : Rows S) (kinds : Kinds) (options : Options) (task : Task) (last : Record)
     (bytes : Bytes) → Agrees meanings rows kinds → LieApart task
-    → IsTrue (has_one_writer kinds task.actions) → IsRemembered last
+    → IsTrue (has_one_writer kinds task.actions) → IsWellFormed last
     → (on : IsTextOn failures may_leave asked old meanings rows options task last bytes)
     → IsTrueBeside kinds last (contents_read on.trees on.seen)
     → IsTextOfTrue failures may_leave asked old kinds task bytes
@@ -90,6 +90,6 @@ pub record AreMadeOf (kinds : Kinds) (task : Task) (trees : Trees) (seen : List 
 -- its inputs: where the record that was read of it is true, as far as no two contents share a digest.
 abbrev pub UpToDateIsMade : {F : Type 0} → (F → ℕ) → (F → Tearing) → (F → Call → F → Type 0) → Type 0
 UpToDateIsMade {F = F} failures may_leave asked =
-    (kinds : Kinds) (options : Options) (task : Task) (last : Option Remembered) (old new : F) → LieApart task
+    (kinds : Kinds) (options : Options) (task : Task) (last : Option Record) (old new : F) → LieApart task
     → (on : IsCurrentOn failures may_leave asked options task last old new)
     → IsTrueBeside kinds on.run (contents_read on.trees on.seen) → AreMadeOf kinds task on.trees on.seen

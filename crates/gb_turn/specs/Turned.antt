@@ -3,7 +3,7 @@ use Rattle.std.specs.Prelude.{ℕ, ◌≡◌, not, Bool, ◌||◌, List, Result,
 use Rattle.gb_action.specs.Changes.{Changes}
 use Rattle.gb_folder.specs.Files.{Contents, Files, Place, Tearing, is_empty}
 use Rattle.gb_history.specs.Places.{record_place}
-use Rattle.gb_history.specs.Remembered.{Remembered}
+use Rattle.gb_history.specs.Record.{Record}
 use Rattle.gb_meaning.specs.Events.{Setting, own_files, rules_in}
 use Rattle.gb_meaning.specs.Kinds.{Kinds, Name}
 use Rattle.gb_meaning.specs.Label.{IsCurrent, IsIncremental, Moment, changes_from, early_case}
@@ -66,7 +66,7 @@ pub record IsDueByChanges (kinds : Kinds) (options : Options) (task : Task) (wor
 -- The task goes on from what its record says: no case settles the turn before, the task is not current, and
 -- what is remembered, of which this is the record, differs from what it has in incremental properties alone.
 pub record IsToGoOn (kinds : Kinds) (options : Options) (task : Task) (world : World)
-    (last : Remembered) : Type 0 where
+    (last : Record) : Type 0 where
   pub case : early_case task world.folder ≡ None
   pub not_current : ¬ IsCurrent options task world
   pub since : IsIncremental kinds options task world

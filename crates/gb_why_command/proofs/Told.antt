@@ -7,7 +7,7 @@ use Rattle.gb_folder.specs.Files.{Contents}
 use Rattle.gb_foretell.specs.Foretold.{AreForetold, IsForetold}
 use Rattle.gb_foretell.specs.declared.coming.Foretold.{Foretold}
 use Rattle.gb_foretell.proofs.Telling.{all_related, foretold_wider}
-use Rattle.gb_history.specs.Remembered.{Remembered}
+use Rattle.gb_history.specs.Record.{Record}
 use Rattle.gb_build.proofs.Keeping.{begun_before}
 use Rattle.gb_build.specs.Registering.{registers_in}
 use Rattle.gb_build.proofs.Refusing.{not_built}
@@ -40,10 +40,10 @@ abbrev pub shows : Contents → ℕ → Shown
 shows contents failures = record { contents = contents; failures = failures }
 
 pub foretold_since : (kinds : Kinds) (options : Options) (folder : Contents) (before later after : ℕ) → before ≤ later → later ≤ after
-    → (plan : Plan) (records : List (Option Remembered)) (told : List Foretold)
+    → (plan : Plan) (records : List (Option Record)) (told : List Foretold)
     → AreForetold kinds options folder later after plan records told → AreForetold kinds options folder before after plan records told
 foretold_since kinds options folder before later after earlier count plan records told =
-    let Is : ℕ → Planned × Option Remembered → Foretold → Type 0 = λ from pair one. IsForetold kinds options pair.0.task folder pair.1 from after one.coming in
+    let Is : ℕ → Planned × Option Record → Foretold → Type 0 = λ from pair one. IsForetold kinds options pair.0.task folder pair.1 from after one.coming in
     all_related (Is later) (Is before) (λ pair one is. foretold_wider kinds options pair.0.task folder pair.1 before later after after one.coming earlier count (omega arith) is)
     (zip plan records) told
 

@@ -11,7 +11,7 @@ use Rattle.gb_foretell.specs.Foretold.{AreForetold, IsReasoned}
 use Rattle.gb_foretell.specs.Marks.{AreMarked}
 use Rattle.gb_foretell.specs.declared.coming.Foretold.{Foretold}
 use Rattle.gb_graph.specs.Answer.{IsPlanOf, IsRefusalOf}
-use Rattle.gb_history.specs.Remembered.{Remembered}
+use Rattle.gb_history.specs.Record.{Record}
 use Rattle.gb_build.specs.Registering.{registers_in}
 use Rattle.gb_build.specs.Refusing.{IsUnread}
 use Rattle.gb_meaning.specs.Edits.{Shown}
@@ -52,7 +52,7 @@ status_of (Err fault) = if nat_eq (fault_number fault) 96 then 2 else 1
 -- stand there; the device fails up to this count.
 pub record AreToldOn {S : Type 0} (meanings : Meanings S) (rows : Rows S) (options : Options) (old : Shown)
     (after : ℕ) (plan : Plan) (told : List Foretold) : Type 0 where
-  pub records : List (Option Remembered)
+  pub records : List (Option Record)
   pub read : AllZip (IsReadAt old.contents.files) (order plan) records
   pub foretold : (kinds : Kinds) → Agrees meanings rows kinds
       → AreForetold kinds options old.contents old.failures after plan records told

@@ -2,7 +2,7 @@ use Rattle.std.proofs.Common.{List, Ok, Option, ap, arith, inl, subst, sym, ◌�
 use Rattle.std.proofs.lemmas.Result.{err_from_is_err_and}
 use Rattle.std.specs.List.{AllZip}
 use Rattle.gb_folder.specs.Files.{Contents}
-use Rattle.gb_history.specs.Remembered.{Remembered}
+use Rattle.gb_history.specs.Record.{Record}
 use Rattle.gb_meaning.specs.Edits.{Shown}
 use Rattle.gb_plan.specs.declared.plan.Planned.{Planned}
 use Rattle.gb_plan.specs.Graph.{order}
@@ -128,7 +128,7 @@ returns-clause-leads g c = λ tells kinds registry_of granted scripts remembered
     (omega (arith, c.records_for.ensures.asks.count, c.execute.ensures.asks.count)) scripts
     mid (c.records_for.ensures.same tells) c.records_for.ensures.asks.count (F.may_leave c.records_for.new.folder) c.records_for.ensures.asks.tearing
     c.as_slice-2.result.now
-    (λ wet. subst (λ (records : List (Option Remembered)). AllZip (IsReadAt old.contents.files) (order plan) records) (sym c.as_slice-2.ensures.value)
+    (λ wet. subst (λ (records : List (Option Record)). AllZip (IsReadAt old.contents.files) (order plan) records) (sym c.as_slice-2.ensures.value)
     (subst (λ (tasks : List Planned). AllZip (IsReadAt old.contents.files) (order tasks) c.in_ok-records.records.items) c.as_slice.ensures (c.in_ok-records.ensures.read tells wet)))
     (λ remembered clear seen worth. c.in_ok-report.ensures.build tells kinds registry_of remembered clear seen
     (granted_later (F.may_leave c.args.folder.now) (F.may_leave c.records_for.new.folder) c.records_for.ensures.asks.tearing granted) worth)
@@ -199,7 +199,7 @@ returns-clause-asks g c =
         records = c.as_slice-2.result.now;
         begun = mid;
         first = c.records_for.ensures.asks;
-        answered = λ wet. subst (λ (records : List (Option Remembered)). AllZip (WasAnswered F.failures F.may_leave F.asked start mid) (order plan) records) (sym c.as_slice-2.ensures.value)
+        answered = λ wet. subst (λ (records : List (Option Record)). AllZip (WasAnswered F.failures F.may_leave F.asked start mid) (order plan) records) (sym c.as_slice-2.ensures.value)
             (subst (λ (tasks : List Planned). AllZip (WasAnswered F.failures F.may_leave F.asked start mid) (order tasks) c.in_ok-records.records.items) c.as_slice.ensures (c.in_ok-records.ensures.answered wet));
         turns = c.execute.ensures.asks;
         current = c.in_ok-report.ensures.current;

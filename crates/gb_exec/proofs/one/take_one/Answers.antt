@@ -22,7 +22,7 @@ use Rattle.gb_exec.proofs.Outlining.{outline_passed, outline_started}
 use Rattle.gb_exec.proofs.Taking.{own_apart, read_so, turn_passed, turn_started}
 use Rattle.gb_exec.proofs.Asking.{turn_asks}
 use Rattle.gb_folder.specs.Calls.{Asks}
-use Rattle.gb_history.specs.Remembered.{Remembered}
+use Rattle.gb_history.specs.Record.{Record}
 use Rattle.gb_turn.specs.Asking.{HasRead, IsTextOf, in_turn_with, once}
 use Rattle.gb_turn.specs.Current.{IsToldCurrent}
 use Rattle.std.specs.Prelude.{Option}
@@ -169,7 +169,7 @@ returns-clause-asks g c = λ begun way.
     c.as_ref-last.ensures.value ∙ get_or_default build.records.now index c.index-build-index-2.result None within in
     turn_asks F.failures F.may_leave F.asked begun g.A.Actions.meanings build.table.now build.options tasks build.records.now index task
     (slice_get-get_or tasks index c.index-build-index.result c.requires.index) c.args.folder.now c.take_turn-report.new.folder way
-    (subst (λ (read : Option Remembered). Asks F.failures F.may_leave F.asked
+    (subst (λ (read : Option Record). Asks F.failures F.may_leave F.asked
     (once (HasRead F.failures F.may_leave F.asked c.args.folder.now task.task)
     (in_turn_with task.task (IsTextOf F.failures F.may_leave F.asked c.args.folder.now g.A.Actions.meanings build.table.now build.options task.task read)))
     c.args.folder.now c.take_turn-report.new.folder) last c.take_turn-report.ensures.asks)
@@ -184,6 +184,6 @@ returns-clause-current g c = λ planned at.
     let within : index < length build.records.now = omega (arith, c.requires.each, c.requires.index) in
     let last : option_copied c.as_ref-last.result ≡ slice_index_or build.records.now index None =
     c.as_ref-last.ensures.value ∙ get_or_default build.records.now index c.index-build-index-2.result None within in
-    subst (λ (read : Option Remembered). IsToldCurrent F.failures F.may_leave F.asked build.options planned.task read c.args.folder.now c.take_turn-report.new.folder c.take_turn-report.result.outcome) last
+    subst (λ (read : Option Record). IsToldCurrent F.failures F.may_leave F.asked build.options planned.task read c.args.folder.now c.take_turn-report.new.folder c.take_turn-report.result.outcome) last
     (subst (λ (p : Planned). IsToldCurrent F.failures F.may_leave F.asked build.options p.task (option_copied c.as_ref-last.result) c.args.folder.now c.take_turn-report.new.folder c.take_turn-report.result.outcome) same
     c.take_turn-report.ensures.current)

@@ -1,5 +1,5 @@
 use Rattle.std.proofs.Common.{List, map, ap, subst, ◌∙◌}
-use Rattle.gb_history.specs.Remembered.{Prints}
+use Rattle.gb_history.specs.Record.{Prints}
 use Rattle.gb_history.specs.declared.decide.Present.{Present}
 use Rattle.gb_label.specs.Deciding.{IsPresentOf}
 use Rattle.gb_label.proofs.Recorded.{names_read}

@@ -1,7 +1,7 @@
 use Rattle.std.proofs.Common.{List, Some, IfErr, refl, sym, ap, subst, ◌∙◌, inl}
 use Rattle.std.proofs.lemmas.Result.{err_from_is_err_and}
 use Rattle.gb_folder.specs.Files.{Contents}
-use Rattle.gb_history.specs.Remembered.{Prints}
+use Rattle.gb_history.specs.Record.{Prints}
 use Rattle.gb_history.specs.declared.record.OutputRecord.{OutputRecord}
 use Rattle.gb_label.specs.Deciding.{IsPresentOf, grown}
 use Rattle.gb_label.proofs.Cases.{cannot_before}

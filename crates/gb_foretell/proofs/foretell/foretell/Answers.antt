@@ -3,7 +3,7 @@ use Rattle.std.specs.List.{AllByRecursion, AllZip, zip}
 use Rattle.std.proofs.lemmas.List.{map-append, take_all}
 use Rattle.gb_folder.specs.Files.{Contents}
 use Rattle.gb_folder.proofs.Asked.{asks_then}
-use Rattle.gb_history.specs.Remembered.{Remembered}
+use Rattle.gb_history.specs.Record.{Record}
 use Rattle.gb_history.proofs.Lists.{AllByRecursion-push}
 use Rattle.gb_plan.specs.Graph.{order}
 use Rattle.gb_plan.specs.declared.plan.Planned.{Planned}
@@ -38,7 +38,7 @@ loop-at-preserved g c =
     let told : List Foretold = c.loop-at.told.items in
     let one : Foretold = c.in_ok-one.one in
     let planned : Planned = c.index-plan-at.result in
-    let last : Option Remembered = c.index-records-at.result in
+    let last : Option Record = c.index-records-at.result in
     let old : Contents = F.contents c.args.folder.now in
     let begun = F.failures c.args.folder.now in
     let mid = F.failures c.loop-at.folder in
@@ -59,14 +59,14 @@ loop-at-preserved g c =
           subst (λ (l : List Foretold). AreMarkedAfter [] (zip (take (at + 1) plan) l)) (sym more)
           (marked_more plan told at planned one c.loop-at-test.true inv.count c.index-plan-at.is inv.marked here);
       foretold = λ tells kinds agrees.
-          let Is : ℕ → Planned × Option Remembered → Foretold → Type 0 = λ until pair f. IsForetold kinds c.args.options pair.0.task old pair.1 begun until f.coming in
+          let Is : ℕ → Planned × Option Record → Foretold → Type 0 = λ until pair f. IsForetold kinds c.args.options pair.0.task old pair.1 begun until f.coming in
           subst (AllZip (Is new) (take (at + 1) (zip plan records))) (sym more)
           (related_more (Is new) plan records told at planned last one c.loop-at-test.true (omega (arith, c.loop-at-test.true, c.requires.each)) c.index-plan-at.is c.index-records-at.is
           (all_related (Is mid) (Is new)
           (λ pair f is. foretold_wider kinds c.args.options pair.0.task old pair.1 begun begun mid new f.coming (omega arith) inv.asks.count c.foretold.ensures.asks.count is)
           (take at (zip plan records)) told (inv.foretold tells kinds agrees))
           (foretold_wider kinds c.args.options planned.task old last begun mid new new one.coming inv.asks.count c.foretold.ensures.asks.count (omega arith)
-          (subst (λ (read : Option Remembered). IsForetold kinds c.args.options planned.task old read mid new one.coming) c.as_ref-last.ensures.value
+          (subst (λ (read : Option Record). IsForetold kinds c.args.options planned.task old read mid new one.coming) c.as_ref-last.ensures.value
           (subst (λ (folder : Contents). IsForetold kinds c.args.options planned.task folder (option_copied c.as_ref-last.result) mid new one.coming) (inv.same tells)
           (c.in_ok-one.ensures.foretold tells kinds agrees)))));
     }
@@ -81,5 +81,5 @@ returns-clause-marked g c =
 pub returns-clause-foretold : goal.returns-clause-foretold
 returns-clause-foretold g c = λ tells kinds agrees.
     let F = g.F.Folder in
-    subst (λ (pairs : List (Planned × Option Remembered)). AllZip (λ pair (f : Foretold). IsForetold kinds c.args.options pair.0.task (F.contents c.args.folder.now) pair.1 (F.failures c.args.folder.now) (F.failures c.loop-at.folder) f.coming) pairs c.loop-at.told.items)
+    subst (λ (pairs : List (Planned × Option Record)). AllZip (λ pair (f : Foretold). IsForetold kinds c.args.options pair.0.task (F.contents c.args.folder.now) pair.1 (F.failures c.args.folder.now) (F.failures c.loop-at.folder) f.coming) pairs c.loop-at.told.items)
     (all_pairs c.args.plan.now c.args.records.now c.loop-at.at c.loop-at-test.false) (c.loop-at.invariant.foretold tells kinds agrees)

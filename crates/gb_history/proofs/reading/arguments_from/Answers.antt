@@ -1,6 +1,6 @@
 use Rattle.std.proofs.Common.{◌≡◌, ap, ◌∙◌, arith}
 use Rattle.serde_json.specs.View.{view}
-use Rattle.gb_history.specs.Remembered.{IsArgument}
+use Rattle.gb_history.specs.Record.{IsArgument}
 use Rattle.gb_history.specs.Text.{value_json}
 use Rattle.gb_history.specs.declared.fault.RecordFault.TheVariants.{OutOfMemory}
 use Rattle.gb_history.proofs.Lists.{err_passes, next, read_one_more}

@@ -2,7 +2,7 @@ use Rattle.std.proofs.Common.{◌≡◌, List, map, take}
 use Rattle.std.specs.List.{AllByRecursion}
 use Rattle.serde_json.specs.View.{view}
 use Rattle.gb_core.specs.declared.value.Value.{Value}
-use Rattle.gb_history.specs.Remembered.{IsArgument}
+use Rattle.gb_history.specs.Record.{IsArgument}
 use Rattle.gb_history.specs.Text.{value_json}
 use Rattle.gb_history.proofs.reading.arguments_from.Given as goal
 

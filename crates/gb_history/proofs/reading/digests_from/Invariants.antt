@@ -1,7 +1,7 @@
 use Rattle.std.proofs.Common.{◌≡◌, List, ℕ, map, take}
 use Rattle.std.specs.List.{AllByRecursion}
 use Rattle.serde_json.specs.View.{view}
-use Rattle.gb_history.specs.Remembered.{IsPrint}
+use Rattle.gb_history.specs.Record.{IsPrint}
 use Rattle.gb_history.specs.Text.{print_json}
 use Rattle.gb_history.proofs.reading.digests_from.Given as goal
 

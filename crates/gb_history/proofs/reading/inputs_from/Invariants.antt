@@ -2,7 +2,7 @@ use Rattle.std.proofs.Common.{◌≡◌, List, ℕ, map, take}
 use Rattle.std.specs.List.{AllByRecursion}
 use Rattle.serde_json.specs.View.{view}
 use Rattle.gb_core.specs.declared.value.Value.{Value}
-use Rattle.gb_history.specs.Remembered.{IsInput}
+use Rattle.gb_history.specs.Record.{IsInput}
 use Rattle.gb_history.specs.Text.{input_json}
 use Rattle.gb_history.proofs.reading.inputs_from.Given as goal
 

@@ -1,6 +1,6 @@
 use Rattle.std.proofs.Common.{◌≡◌, ap, ◌∙◌, arith}
 use Rattle.serde_json.specs.View.{view}
-use Rattle.gb_history.specs.Remembered.{IsOutput}
+use Rattle.gb_history.specs.Record.{IsOutput}
 use Rattle.gb_history.specs.Text.{output_json}
 use Rattle.gb_history.specs.declared.fault.RecordFault.TheVariants.{OutOfMemory}
 use Rattle.gb_history.proofs.Lists.{err_passes, next, read_one_more}

@@ -2,7 +2,7 @@ use Rattle.std.proofs.Common.{◌≡◌, List, map, take}
 use Rattle.std.specs.List.{AllByRecursion}
 use Rattle.serde_json.specs.View.{view}
 use Rattle.gb_history.specs.declared.record.OutputRecord.{OutputRecord}
-use Rattle.gb_history.specs.Remembered.{IsOutput}
+use Rattle.gb_history.specs.Record.{IsOutput}
 use Rattle.gb_history.specs.Text.{output_json}
 use Rattle.gb_history.proofs.reading.outputs_from.Given as goal
 

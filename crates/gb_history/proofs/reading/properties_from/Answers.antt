@@ -1,7 +1,7 @@
 use Rattle.std.proofs.Common.{◌≡◌, ap, ◌∙◌, arith, codes}
 use Rattle.serde_json.specs.Find.{get}
 use Rattle.serde_json.specs.View.{view}
-use Rattle.gb_history.specs.Remembered.{ArePrints}
+use Rattle.gb_history.specs.Record.{ArePrints}
 use Rattle.gb_history.specs.Text.{prints_json}
 use Rattle.gb_history.specs.declared.fault.RecordFault.TheVariants.{OutOfMemory}
 use Rattle.gb_history.proofs.Lists.{err_passes, next, read_one_more}

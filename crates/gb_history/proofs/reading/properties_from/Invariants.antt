@@ -1,7 +1,7 @@
 use Rattle.std.proofs.Common.{◌≡◌, List, map, take}
 use Rattle.std.specs.List.{AllByRecursion}
 use Rattle.serde_json.specs.View.{view}
-use Rattle.gb_history.specs.Remembered.{Prints, ArePrints}
+use Rattle.gb_history.specs.Record.{Prints, ArePrints}
 use Rattle.gb_history.specs.Text.{prints_json}
 use Rattle.gb_history.proofs.reading.properties_from.Given as goal
 

@@ -1,6 +1,6 @@
 use Rattle.std.proofs.Common.{◌≡◌}
 use Rattle.std.specs.List.{AllByRecursion}
-use Rattle.gb_history.specs.Remembered.{IsAction}
+use Rattle.gb_history.specs.Record.{IsAction}
 use Rattle.gb_history.specs.Text.{FitsEdition, IsActionIn}
 use Rattle.gb_history.specs.declared.fault.RecordFault.TheVariants.{OutOfMemory}
 use Rattle.gb_history.proofs.Lists.{all_both, err_passes, result_same}

@@ -1,12 +1,12 @@
 use Rattle.std.proofs.Common.{◌≡◌, ℕ, List, true≢false, ap₂, sym, ◌∙◌}
 use Rattle.serde_json.specs.Written.{compact_text}
-use Rattle.gb_history.specs.Remembered.{Remembered}
+use Rattle.gb_history.specs.Record.{Record}
 use Rattle.gb_history.specs.Text.{record_json, text_in, history_text_in, sealed, IsTextOf}
 use Rattle.gb_history.specs.declared.fault.RecordFault.TheVariants.{OutOfMemory}
 use Rattle.gb_history.proofs.Lists.{err_passes}
 use Rattle.gb_history.proofs.text.read_by_tree.Goals as goal
 
-as_sealed : (bytes path : List ℕ) (run : Remembered) (of : IsTextOf path run bytes) → bytes ≡ sealed (compact_text (record_json of.edition path run))
+as_sealed : (bytes path : List ℕ) (run : Record) (of : IsTextOf path run bytes) → bytes ≡ sealed (compact_text (record_json of.edition path run))
 unfolding history_text_in
 as_sealed bytes path run of = of.same
 

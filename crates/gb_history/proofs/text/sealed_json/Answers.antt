@@ -8,7 +8,7 @@ use Rattle.gb_history.proofs.text.sealed_json.Goals as goal
 
 pub returns : goal.returns
 unfolding history_text_in
-returns c edition entries none tokens =
-    let same : c.into_inner.result.items ≡ compact_text (history_json edition entries) =
-    c.into_inner.ensures.items ∙ ap₂ (λ (text : List ℕ) (ts : List Token). text ++ print ts) none tokens ∙ print-outline (history_json edition entries) in
+returns c edition records none tokens =
+    let same : c.into_inner.result.items ≡ compact_text (history_json edition records) =
+    c.into_inner.ensures.items ∙ ap₂ (λ (text : List ℕ) (ts : List Token). text ++ print ts) none tokens ∙ print-outline (history_json edition records) in
     subst (λ l. IfOk c.sealed_text.result (λ text. text.items ≡ sealed l)) same c.sealed_text.ensures

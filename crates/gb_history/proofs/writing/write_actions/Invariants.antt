@@ -1,6 +1,6 @@
 use Rattle.std.proofs.Common.{◌≡◌, ◌++◌, drop, take}
 use Rattle.std.specs.List.{AllByRecursion}
-use Rattle.gb_history.specs.Remembered.{IsAction}
+use Rattle.gb_history.specs.Record.{IsAction}
 use Rattle.gb_history.specs.Text.{action_json}
 use Rattle.gb_history.proofs.Tokens.{rest_tokens}
 use Rattle.gb_history.proofs.writing.write_actions.Given as goal

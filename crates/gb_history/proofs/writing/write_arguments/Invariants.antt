@@ -1,6 +1,6 @@
 use Rattle.std.proofs.Common.{◌≡◌, ◌++◌, drop, take}
 use Rattle.std.specs.List.{AllByRecursion}
-use Rattle.gb_history.specs.Remembered.{IsArgument}
+use Rattle.gb_history.specs.Record.{IsArgument}
 use Rattle.gb_history.specs.Text.{value_json}
 use Rattle.gb_history.proofs.Tokens.{rest_tokens}
 use Rattle.gb_history.proofs.writing.write_arguments.Given as goal

@@ -1,6 +1,6 @@
 use Rattle.std.proofs.Common.{◌≡◌, ◌++◌, drop, take}
 use Rattle.std.specs.List.{AllByRecursion}
-use Rattle.gb_history.specs.Remembered.{IsInput}
+use Rattle.gb_history.specs.Record.{IsInput}
 use Rattle.gb_history.specs.Text.{input_json}
 use Rattle.gb_history.proofs.Tokens.{rest_tokens}
 use Rattle.gb_history.proofs.writing.write_inputs.Given as goal

@@ -1,6 +1,6 @@
 use Rattle.std.proofs.Common.{◌≡◌, ◌++◌, drop, take}
 use Rattle.std.specs.List.{AllByRecursion}
-use Rattle.gb_history.specs.Remembered.{IsOutput}
+use Rattle.gb_history.specs.Record.{IsOutput}
 use Rattle.gb_history.specs.Text.{output_json}
 use Rattle.gb_history.proofs.Tokens.{rest_tokens}
 use Rattle.gb_history.proofs.writing.write_outputs.Given as goal

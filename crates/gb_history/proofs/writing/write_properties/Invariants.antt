@@ -1,6 +1,6 @@
 use Rattle.std.proofs.Common.{◌≡◌, ◌++◌, drop, take}
 use Rattle.std.specs.List.{AllByRecursion}
-use Rattle.gb_history.specs.Remembered.{ArePrints}
+use Rattle.gb_history.specs.Record.{ArePrints}
 use Rattle.gb_history.specs.Text.{prints_json}
 use Rattle.gb_history.proofs.Tokens.{rest_tokens}
 use Rattle.gb_history.proofs.writing.write_properties.Given as goal

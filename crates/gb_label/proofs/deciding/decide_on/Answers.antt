@@ -1,5 +1,5 @@
 use Rattle.std.proofs.Common.{List, map, ap, ◌∙◌}
-use Rattle.gb_history.specs.Remembered.{Prints, prints_in}
+use Rattle.gb_history.specs.Record.{Prints, prints_in}
 use Rattle.gb_history.specs.declared.record.OutputRecord.{OutputRecord}
 use Rattle.gb_label.proofs.Recorded.{names_with}
 use Rattle.gb_label.proofs.deciding.decide_on.Goals as goal

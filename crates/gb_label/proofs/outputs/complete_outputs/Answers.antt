@@ -10,7 +10,7 @@ use Rattle.gb_action.specs.declared.output.Form.{Form}
 use Rattle.gb_action.specs.declared.output.OutputFiles.{OutputFiles}
 use Rattle.gb_folder.proofs.Asked.{asks_nothing, asks_then}
 use Rattle.gb_folder.specs.Files.{Contents}
-use Rattle.gb_history.specs.Remembered.{Prints}
+use Rattle.gb_history.specs.Record.{Prints}
 use Rattle.gb_plan.specs.Task.{is_output_of}
 use Rattle.gb_plan.specs.declared.task.Output.{Output}
 use Rattle.gb_store.proofs.Loops.{all_at}

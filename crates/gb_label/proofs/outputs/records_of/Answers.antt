@@ -5,7 +5,7 @@ use Rattle.std.proofs.lemmas.Iterator.Consumers.{YieldsList-at, YieldsList-end, 
 use Rattle.std.proofs.lemmas.List.{length_push, take_all}
 use Rattle.std.specs.Iterator.Adapters.{zip_second}
 use Rattle.std.specs.List.{zip}
-use Rattle.gb_history.specs.Remembered.{Prints}
+use Rattle.gb_history.specs.Record.{Prints}
 use Rattle.gb_history.specs.declared.record.OutputRecord.{OutputRecord}
 use Rattle.gb_plan.specs.declared.task.Output.{Output}
 use Rattle.gb_label.specs.Reading.{record_with}

@@ -1,5 +1,5 @@
 use Rattle.std.proofs.Common.{map, ap}
-use Rattle.gb_history.specs.Remembered.{prints_in}
+use Rattle.gb_history.specs.Record.{prints_in}
 use Rattle.gb_label.proofs.Names.{in_order}
 use Rattle.gb_label.proofs.record.record_of.Goals as goal
 

@@ -4,7 +4,7 @@ use Rattle.gb_folder.specs.declared.folder.FolderFault.TheVariants as folders
 use Rattle.gb_meaning.specs.Events.{max_record}
 use Rattle.gb_history.specs.Places.{record_place}
 use Rattle.gb_history.specs.Text.{record_text}
-use Rattle.gb_records.specs.Said.{IsText, said_of}
+use Rattle.gb_records.specs.Said.{IsText}
 use Rattle.gb_records.specs.Standing.{StandsWith}
 use Rattle.gb_records.proofs.Calls.{LeftAt, put, stands_in, text_said}
 use Rattle.gb_records.proofs.Asked.{put_as}
@@ -18,7 +18,7 @@ returns-in-Ok-clause-stands g c = λ tells seen memory entry stood of.
     let text : c.as_slice.result.now ≡ record_text path run = c.as_slice.ensures.value ∙ c.in_ok-text.ensures.text in
     let long : length c.in_ok-text.text.items ≡ length (record_text path run) = ap length c.in_ok-text.ensures.text in
     let short : length (record_text path run) ≤ max_record = omega arith in
-    let told : IsText path (said_of run) (record_text path run) = text_said path run c.in_ok-text.ensures.utf8 c.in_ok-text.ensures.held short in
+    let told : IsText path run (record_text path run) = text_said path run c.in_ok-text.ensures.utf8 c.in_ok-text.ensures.held short in
     put path old (g.F.Folder.contents c.write.new.self) memory entry run c.in_ok-place.ensures.path
     (c.in-Ok.ensures.written tells ∙ ap (λ p. record old { files = with_file old.files p c.as_slice.result.now }) c.in_ok-place.ensures.place
     ∙ ap (λ t. record old { files = with_file old.files (record_place path) t }) text) told of stood
@@ -33,7 +33,7 @@ returns-clause-stands g c = λ tells seen memory entry stood of.
     let text : c.as_slice.result.now ≡ record_text path run = c.as_slice.ensures.value ∙ c.in_ok-text.ensures.text in
     let long : length c.in_ok-text.text.items ≡ length (record_text path run) = ap length c.in_ok-text.ensures.text in
     let short : length (record_text path run) ≤ max_record = omega arith in
-    let told : IsText path (said_of run) (record_text path run) = text_said path run c.in_ok-text.ensures.utf8 c.in_ok-text.ensures.held short in
+    let told : IsText path run (record_text path run) = text_said path run c.in_ok-text.ensures.utf8 c.in_ok-text.ensures.held short in
     let torn = λ (e : c.in-Err.fault ≡ folders.Device). subst (λ t. LeftAt (F.may_leave c.args.folder.now) (record_place path) (Some t) old new) text
     (subst (λ p. LeftAt (F.may_leave c.args.folder.now) p (Some c.as_slice.result.now) old new) c.in_ok-place.ensures.place (c.write.ensures.torn tells (c.in-Err.is ∙ ap Err e))) in
     subst (λ r. StandsWith path entry memory (Err r) new.files) (sym c.unwritten_by.ensures)

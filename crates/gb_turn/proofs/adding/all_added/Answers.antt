@@ -2,7 +2,7 @@ use Rattle.std.proofs.Common.{◌≡◌, ◌+◌, ◌++◌, ℕ, List, get_or, m
 use Rattle.std.specs.List.{flat_map}
 use Rattle.gb_action.specs.Changes.{Changes}
 use Rattle.gb_action.specs.Files.{Tree}
-use Rattle.gb_history.specs.Remembered.{Prints}
+use Rattle.gb_history.specs.Record.{Prints}
 use Rattle.gb_meaning.specs.Tree.{tree_of}
 use Rattle.gb_plan.specs.declared.task.FileProperty.{FileProperty}
 use Rattle.gb_label.specs.Reading.{digests_in}

@@ -1,6 +1,6 @@
 use Rattle.std.proofs.Common.{List, IfErr, map, ap, ◌∙◌}
 use Rattle.std.proofs.lemmas.Result.{err_from_is_err_and}
-use Rattle.gb_history.specs.Remembered.{Prints, prints_in}
+use Rattle.gb_history.specs.Record.{Prints, prints_in}
 use Rattle.gb_history.specs.declared.record.OutputRecord.{OutputRecord}
 use Rattle.gb_label.proofs.Recorded.{names_with}
 use Rattle.gb_meaning.specs.Headline.{Agrees}

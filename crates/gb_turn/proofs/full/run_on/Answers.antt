@@ -2,7 +2,7 @@ use Rattle.std.proofs.Common.{◌≡◌, Some, Result, Err, IfErr, length, refl,
 use Rattle.std.proofs.lemmas.Result.{err_from_is_err_and}
 use Rattle.gb_folder.specs.Files.{Contents, Files}
 use Rattle.gb_folder.proofs.Changes.{SameTearing-chain}
-use Rattle.gb_history.specs.Remembered.{Remembered}
+use Rattle.gb_history.specs.Record.{Record}
 use Rattle.gb_history.specs.Text.{record_text}
 use Rattle.gb_meaning.specs.Memory.{recalled}
 use Rattle.gb_records.specs.Said.{IsSaidOf}
@@ -130,10 +130,10 @@ returns-clause-turn g c = λ tells kinds registry_of options plan moment given a
     (changes_chain (is_of_turn task) (F.contents start) (F.contents ran) (F.contents now) changed (record_in_turn task (F.contents ran) (F.contents now) (c.remember.ensures.changes tells)))
     (ap (λ (folder : Contents). folder.files) (outside_same task.path (F.contents ran) (F.contents now) (c.remember.ensures.changes tells)))
     c.remember.result
-    (subst (λ (run : Remembered). IfErr c.remember.result (IsUnwritten task.path (Some (record_text task.path run)) (F.contents ran).files (F.failures ran) (F.failures now))) stands (c.remember.ensures.err tells))
+    (subst (λ (run : Record). IfErr c.remember.result (IsUnwritten task.path (Some (record_text task.path run)) (F.contents ran).files (F.failures ran) (F.failures now))) stands (c.remember.ensures.err tells))
     c.remember.ensures.outputs
     (λ m entry stood of. c.remember.ensures.stands tells (seen_later _ _ (SameTearing-chain _ _ _ c.clear.ensures.asks.tearing c.make_anew.ensures.asks.tearing) given.tears) m entry stood
-    (subst (λ (run : Remembered). IsSaidOf run entry) (sym stands) of))
+    (subst (λ (run : Record). IsSaidOf run entry) (sym stands) of))
 
 pub returns-in_err-clear-clause-asks : goal.returns-in_err-clear-clause-asks
 returns-in_err-clear-clause-asks g c = taken_in_turn c.args.task.now _ c.clear.ensures.asks

@@ -1,7 +1,7 @@
 use Rattle.std.proofs.Common.{List, IfErr, map, refl, ap, ◌∙◌}
 use Rattle.std.proofs.lemmas.Result.{err_from_is_err_and}
 use Rattle.gb_action.specs.Files.{Trees}
-use Rattle.gb_history.specs.Remembered.{Prints, prints_in}
+use Rattle.gb_history.specs.Record.{Prints, prints_in}
 use Rattle.gb_history.specs.declared.record.OutputRecord.{OutputRecord}
 use Rattle.gb_run.specs.AskingChanges.{GoesOn}
 use Rattle.gb_run.specs.Changing.{Fails}

@@ -5,7 +5,7 @@ use Rattle.std.specs.List.{AllZip}
 use Rattle.std.specs.Prelude.{length}
 use Rattle.gb_folder.specs.Files.{Contents}
 use Rattle.gb_foretell.specs.Foretold.{AreForetold}
-use Rattle.gb_history.specs.Remembered.{Remembered}
+use Rattle.gb_history.specs.Record.{Record}
 use Rattle.gb_build.proofs.Read.{as_long, unread}
 use Rattle.gb_build.specs.Refusing.{IsUnread}
 use Rattle.gb_plan.proofs.Tests.{each_all}
@@ -50,7 +50,7 @@ returns-clause-told g c =
     let plan = c.args.plan.now in
     let told = c.in_ok-told.told.items in
     let old : Contents = F.contents c.args.folder.now in
-    let records : List (Option Remembered) = c.as_slice-2.result.now in
+    let records : List (Option Record) = c.as_slice-2.result.now in
     let before = F.failures c.args.folder.now in
     let later = F.failures c.read_records.new.folder in
     let after = F.failures c.foretell.new.folder in
@@ -61,7 +61,7 @@ returns-clause-told g c =
       foretold = λ tells. record {
         records = records;
         read =
-            subst (λ (read : List (Option Remembered)). AllZip (IsReadAt old.files) (order plan) read) (sym c.as_slice-2.ensures.value)
+            subst (λ (read : List (Option Record)). AllZip (IsReadAt old.files) (order plan) read) (sym c.as_slice-2.ensures.value)
             (subst (λ (paths : List Path). AllZip (IsReadAt old.files) paths c.in_ok-records.records.items) (c.as_slice.ensures.value ∙ c.in_ok-paths.ensures) (c.in_ok-records.ensures.read tells));
         foretold = λ kinds agrees.
             foretold_since kinds c.args.options old before later after c.read_records.ensures.asks.count c.foretell.ensures.asks.count plan records told

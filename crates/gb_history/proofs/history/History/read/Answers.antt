@@ -1,33 +1,33 @@
 use Rattle.std.proofs.Common.{◌≡◌, ℕ, List, true≢false, ap₂, sym, ◌∙◌}
 use Rattle.serde_json.specs.Written.{compact_text}
-use Rattle.gb_history.specs.Remembered.{Remembered}
+use Rattle.gb_history.specs.Record.{Record}
 use Rattle.gb_history.specs.Text.{history_json, history_text_in, sealed, IsHistoryText}
 use Rattle.gb_history.specs.declared.fault.RecordFault.TheVariants.{OutOfMemory}
 use Rattle.gb_history.proofs.Lists.{err_passes}
 use Rattle.gb_history.proofs.history.History.read.Goals as goal
 
-as_sealed : (bytes : List ℕ) (entries : List (List ℕ × Remembered)) (of : IsHistoryText entries bytes) → bytes ≡ sealed (compact_text (history_json of.edition entries))
+as_sealed : (bytes : List ℕ) (records : List (List ℕ × Record)) (of : IsHistoryText records bytes) → bytes ≡ sealed (compact_text (history_json of.edition records))
 unfolding history_text_in
-as_sealed bytes entries of = of.same
+as_sealed bytes records of = of.same
 
 pub returns-in_default-clause-back : goal.returns-in_default-clause-back
-returns-in_default-clause-back c entries held of =
-    absurd (c.in_default.ensures (compact_text (history_json of.edition entries)) (as_sealed c.args.bytes.now entries of))
+returns-in_default-clause-back c records held of =
+    absurd (c.in_default.ensures (compact_text (history_json of.edition records)) (as_sealed c.args.bytes.now records of))
 
 pub returns-in_err-edition-clause-back : goal.returns-in_err-edition-clause-back
-returns-in_err-edition-clause-back c entries held of =
-    let json : c.in-Some.json.now ≡ compact_text (history_json of.edition entries) = c.in-Some.ensures _ (as_sealed c.args.bytes.now entries of) in
-    let told : c.in_err-edition.field-0.0 ≡ OutOfMemory = c.in_err-edition.ensures.read of.edition entries held of.fits json in
-    err_passes c.from_residual.result (λ got. got ≡ entries) (λ x. x ≡ OutOfMemory) (rw told at c.from_residual.ensures.1)
+returns-in_err-edition-clause-back c records held of =
+    let json : c.in-Some.json.now ≡ compact_text (history_json of.edition records) = c.in-Some.ensures _ (as_sealed c.args.bytes.now records of) in
+    let told : c.in_err-edition.field-0.0 ≡ OutOfMemory = c.in_err-edition.ensures.read of.edition records held of.fits json in
+    err_passes c.from_residual.result (λ got. got ≡ records) (λ x. x ≡ OutOfMemory) (rw told at c.from_residual.ensures.1)
 
 pub returns-then-not-is_same-clause-back : goal.returns-then-not-is_same-clause-back
-returns-then-not-is_same-clause-back c entries held of =
-    let json : c.in-Some.json.now ≡ compact_text (history_json of.edition entries) = c.in-Some.ensures _ (as_sealed c.args.bytes.now entries of) in
-    let same = c.in_ok-edition.ensures.read of.edition entries held of.fits json in
+returns-then-not-is_same-clause-back c records held of =
+    let json : c.in-Some.json.now ≡ compact_text (history_json of.edition records) = c.in-Some.ensures _ (as_sealed c.args.bytes.now records of) in
+    let same = c.in_ok-edition.ensures.read of.edition records held of.fits json in
     let text : c.as_slice.result.now ≡ c.args.bytes.now = c.as_slice.ensures.value ∙ c.in_ok-text.ensures.text ∙ ap₂ history_text_in same.0 same.1 ∙ sym of.same in
     absurd (true≢false (sym (c.if-not-is_same.ensures.1 text)))
 
 pub returns-clause-back : goal.returns-clause-back
-returns-clause-back c entries held of =
-    let json : c.in-Some.json.now ≡ compact_text (history_json of.edition entries) = c.in-Some.ensures _ (as_sealed c.args.bytes.now entries of) in
-    (c.in_ok-edition.ensures.read of.edition entries held of.fits json).1
+returns-clause-back c records held of =
+    let json : c.in-Some.json.now ≡ compact_text (history_json of.edition records) = c.in-Some.ensures _ (as_sealed c.args.bytes.now records of) in
+    (c.in_ok-edition.ensures.read of.edition records held of.fits json).1

@@ -6,7 +6,7 @@ use Rattle.gb_history.proofs.history.History.text_in.Goals as goal
 
 pub returns-clause-text : goal.returns-clause-text
 returns-clause-text c =
-    subst (λ entries. IfOk c.sealed_json.result (λ text. text.items ≡ history_text_in c.args.edition entries)) c.self.view_is
+    subst (λ records. IfOk c.sealed_json.result (λ text. text.items ≡ history_text_in c.args.edition records)) c.self.view_is
     (c.sealed_json.ensures c.args.edition c.self.inside.records.entries
     (c.in_ok-write_history.ensures.before ∙ c.new-writer.ensures.before ∙ c.new.ensures.items)
     (

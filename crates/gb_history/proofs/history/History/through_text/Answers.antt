@@ -1,15 +1,15 @@
 use Rattle.std.proofs.Common.{ℕ, List, [], ◌∷◌, ◌∙◌}
 use Rattle.std.specs.List.{AllByRecursion}
-use Rattle.gb_history.specs.Remembered.{Remembered}
-use Rattle.gb_history.specs.Text.{EntryFits}
+use Rattle.gb_history.specs.Record.{Record}
+use Rattle.gb_history.specs.Text.{RecordFits}
 use Rattle.gb_history.specs.declared.record.Edition.TheVariants.{Second}
 use Rattle.gb_history.proofs.Lists.{all_true}
 use Rattle.gb_history.proofs.history.History.through_text.Goals as goal
 
 -- the second edition tells all versions
-all_fit : (entries : List (List ℕ × Remembered)) → AllByRecursion (EntryFits Second) entries
+all_fit : (records : List (List ℕ × Record)) → AllByRecursion (RecordFits Second) records
 all_fit [] = tt
-all_fit (entry ∷ entries) = (all_true entry.1.actions, all_fit entries)
+all_fit (one ∷ records) = (all_true one.1.actions, all_fit records)
 
 pub returns : goal.returns
 returns c =

@@ -1,4 +1,4 @@
--- What is remembered of a run of a task that ended well, with digests in place of contents.
+-- The record of a run that ended well, with digests in place of contents.
 use Rattle.std.specs.Prelude.{◌≡◌, ◌<◌, ℕ, List, length, map, IsTrue, ⊤}
 use Rattle.std.specs.List.{AllByRecursion}
 use Rattle.std.specs.Str.{IsUtf8}
@@ -20,16 +20,16 @@ Prints = List ℕ × List (List ℕ × List ℕ)
 abbrev pub prints_in : List OutputRecord → List Prints
 prints_in outputs = map (λ output. output.prints) outputs
 
--- A run that ended well: its actions with versions and arguments, its input values
--- and files, and its outputs.
-pub record Remembered : Type 0 where
+-- The record of a run that ended well: its actions with versions and arguments, its input values, the
+-- digests of its input files, and its outputs, each with the digests of its files.
+pub record Record : Type 0 where
   pub actions : List Action
   pub values : List (List ℕ × Value)
   pub inputs : List Prints
   pub outputs : List OutputRecord
 
 -- the names of values, properties and outputs strictly rise
-pub record AreInOrder (run : Remembered) : Type 0 where
+pub record AreInOrder (run : Record) : Type 0 where
   pub values : IsTrue (is_sorted byte_order run.values)
   pub inputs : IsTrue (is_sorted byte_order run.inputs)
   pub outputs : IsTrue (is_sorted byte_order (prints_in run.outputs))
@@ -66,7 +66,8 @@ ArePrints prints = IsName prints.0 × AllByRecursion IsPrint prints.1 × IsTrue 
 abbrev pub IsOutput : OutputRecord → Type 0
 IsOutput output = IsTrue (is_place output.place) × IsUtf8 output.place × ArePrints output.prints
 
-pub record IsRemembered (run : Remembered) : Type 0 where
+-- the parts of a record are such, and in order
+pub record IsWellFormed (run : Record) : Type 0 where
   pub actions : AllByRecursion IsAction run.actions
   pub values : AllByRecursion IsInput run.values
   pub inputs : AllByRecursion ArePrints run.inputs
@@ -74,13 +75,14 @@ pub record IsRemembered (run : Remembered) : Type 0 where
   pub in_order : AreInOrder run
 
 -- a path and a record, as far as a text can say them
-abbrev pub IsSaid : List ℕ × Remembered → Type 0
-IsSaid entry = IsUtf8 entry.0 × IsRemembered entry.1
+abbrev pub IsSaid : List ℕ × Record → Type 0
+IsSaid one = IsUtf8 one.0 × IsWellFormed one.1
 
-abbrev pub IsEntry : List ℕ × Remembered → Type 0
-IsEntry entry = IsTrue (is_task_path entry.0) × IsSaid entry
+-- what a history may hold of a task
+abbrev pub IsHeld : List ℕ × Record → Type 0
+IsHeld one = IsTrue (is_task_path one.0) × IsSaid one
 
 -- what a history holds: records of tasks, by strictly rising paths
-pub record AreHeld (entries : List (List ℕ × Remembered)) : Type 0 where
-  pub each : AllByRecursion IsEntry entries
-  pub in_order : IsTrue (is_sorted byte_order entries)
+pub record AreHeld (records : List (List ℕ × Record)) : Type 0 where
+  pub each : AllByRecursion IsHeld records
+  pub in_order : IsTrue (is_sorted byte_order records)
