@@ -30,7 +30,7 @@ use gb_report::fault::Fault;
 use gb_report::report::Report;
 use std::alloc::Global;
 
-/// Builds what is asked for: plans it, reads what is remembered of the plan's tasks, and executes the plan.
+/// Builds what is asked for: plans it, reads the records of the plan's tasks, and executes the plan.
 /// Each task that starts is told to all listeners, and its part is printed as soon as its turn has ended.
 /// Refused before the first task, with nothing changed, told or printed, where there is no plan, or records
 /// cannot be read; what goes wrong later is told as a task's failure. In a dry run no record is read, and

@@ -2,7 +2,7 @@
 //! run. Nothing is changed.
 //!
 //! There is no second definition of that: a task is told by what builds decide on, and its reasons are those
-//! of what is remembered of it against what it has now.
+//! of its record against what it has now.
 #![tactic(auto)]
 
 pub mod coming;

@@ -45,7 +45,7 @@ pub fn present(alloc: Global, task: &TaskPath, text: &str, asked: &str) -> Resul
     })
 }
 
-/// What is decided where nothing is remembered of a new task, and the first run of another.
+/// What is decided where a new task has no record, and another has that of the first run.
 fn decided(
     alloc: Global,
     first: &Record,

@@ -12,7 +12,7 @@ use gb_history::text::{read_record, record_text};
 use std::alloc::{AllocError, Global};
 use std::test::Fail;
 
-/// Remembers a task that wrote, or one that has nothing.
+/// Puts in the record of a task that wrote, or of one that has nothing.
 fn put(alloc: Global, history: &mut History, word: &str, path: &str) -> Result<(), Fail> {
     let path = TaskPath::read(alloc, path)?;
     Ok(history.put(path, record(alloc, word)?)?)

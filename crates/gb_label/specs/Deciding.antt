@@ -42,7 +42,7 @@ pub record IsPresentOf (options : Options) (task : Task) (inputs : List Prints) 
   pub stale : present.is_stale ≡ task.is_stale
 
 -- What is decided of a task from its record: what the record and the present say; or that it runs in full,
--- since nothing is remembered of it, it is to run anew, or its outputs are such as no run leaves.
+-- since it has no record, it is to run anew, or its outputs are such as no run leaves.
 pub data IsDecided (options : Options) (task : Task) (folder : Contents)
     : Option Record → Decision → Type 0 where
   by_record : {run : Record} {decision : Decision} (present : Present)

@@ -18,9 +18,9 @@ use Rattle.gb_reason.specs.Reasons.{reasons_of}
 use Rattle.gb_reason.specs.declared.reason.Reason.{Reason}
 use Rattle.gb_reason.specs.declared.reason.Reason.TheVariants as reasons
 
--- the names by which things are remembered
+-- the names by which things are recorded
 abbrev pub names : {X : Type 0} → List (List ℕ × X) → List (List ℕ)
-names entries = map (λ entry. entry.0) entries
+names rows = map (λ row. row.0) rows
 
 -- an output without its files
 abbrev pub declared : OutputRecord → List ℕ × Form × List ℕ
@@ -43,7 +43,7 @@ IsFileChange old new name change =
     (read : Tree) × (stands : Tree) × Contains old.inputs (name, read) × Contains new.inputs (name, stands)
     × IsChange read stands change
 
--- the reason is true of a run that is remembered and of what the task has now
+-- the reason is true of a record and of what the task has now
 abbrev pub IsRealFrom : Record → Present → Reason → Type 0
 IsRealFrom run present reasons.NoRecord = ⊥
 IsRealFrom run present reasons.Rerun = present.rerun ≡ true

@@ -1,4 +1,4 @@
--- Why a task runs, in their order: what is remembered of it against what it has now.
+-- Why a task runs, in their order: its record against what it has now.
 use Rattle.std.specs.Prelude.{ℕ, ◌&&◌, Bool, List, [], ◌∷◌, ◌++◌, map, if◌then◌else◌, bytes_eq}
 use Rattle.std.specs.Prelude.{Option, Some, None}
 use Rattle.std.specs.Cmp.Lexicographic.{pointwise}
@@ -38,7 +38,7 @@ of_output pair = map (reasons.Output pair.0.place) (changes_between pair.0.print
 abbrev pub of_files : Prints × Prints → List Reason
 of_files pair = map (reasons.File pair.0.0) (changes_between pair.0.1 pair.1.1)
 
--- how a run differs from another: its actions, input values, outputs and file properties, in this order
+-- how a record differs from another: its actions, input values, outputs and file properties, in this order
 abbrev pub differences : Record → Record → List Reason
 differences old new =
     (if pointwise is_action old.actions new.actions then [] else reasons.Actions ∷ [])
@@ -46,7 +46,7 @@ differences old new =
     ++ part is_output of_output reasons.OutputNames old.outputs new.outputs
     ++ part has_name of_files reasons.FileNames old.inputs new.inputs
 
--- Where a task runs whatever is remembered, that is the one reason; and else how it differs.
+-- Where a task runs whatever its record says, that is the one reason; and else how it differs.
 abbrev pub reasons_from : Record → Present → List Reason
 reasons_from run present =
     if present.rerun then reasons.Rerun ∷ []

@@ -22,7 +22,7 @@ use gb_plan::task::Action;
 use gb_tree::prints::Prints;
 use std::alloc::{AllocError, Global};
 
-/// All reasons why a task runs of which this is remembered, in their order.
+/// All reasons why a task runs that has this record, in their order.
 pub fn explain(
     alloc: Global,
     old: Option<&Record>,
@@ -72,7 +72,7 @@ fn outputs_rise(outputs: &[OutputRecord])
     }
 }
 
-/// The reasons, from a run that is remembered.
+/// The reasons, from a record.
 fn explain_from(alloc: Global, run: &Record, present: &Present) -> Result<Vec<Reason>, AllocError>
     ensures { IfOk result (λ found. found.items ≡ reasons_from run.now present.entry.now) }
 {

@@ -1,7 +1,7 @@
 //! Laws of reasons, each the contract of a function that does nothing.
 ghost use Rattle.gb_reason.specs.Real.{EachIsReal, NoneIsUpToDate};
 
-/// Each reason that is told is true of what is remembered and of what the task has now.
+/// Each reason that is told is true of the record and of what the task has now.
 pub fn each_is_real()
     ensures { EachIsReal }
 {}

@@ -1,4 +1,4 @@
-//! Why a task runs: how what is remembered of it differs from what it has now.
+//! Why a task runs: how its record differs from what it has now.
 //!
 //! There is a reason exactly where a task is not up to date, and each reason is true of the two.
 #![tactic(auto)]

@@ -10,7 +10,7 @@ use std::alloc::AllocError;
 /// Why a task is not up to date.
 #[derive(Drop)]
 pub enum Reason {
-    /// Nothing is remembered of it.
+    /// It has no record.
     NoRecord,
     /// Every task is to run.
     Rerun,
