@@ -502,11 +502,7 @@ fn task_at(alloc: Global, json: &Json) -> Result<TaskPath, RecordFault>
 }
 
 /// A task and its record.
-fn one_from(
-    alloc: Global,
-    edition: Edition,
-    json: &Json,
-) -> Result<(TaskPath, Record), RecordFault>
+fn one_from(alloc: Global, edition: Edition, json: &Json) -> Result<(TaskPath, Record), RecordFault>
     ensures read { (one : List ℕ × Recorded) → IsHeldIn edition one
         → view json.now ≡ held_json edition one
         → MatchResult result (λ got. got ≡ one) (λ e. e ≡ OutOfMemory) }

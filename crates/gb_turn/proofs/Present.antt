@@ -28,12 +28,16 @@ part_same test files (output ∷ outputs) within =
 
 pub present_is_of_contents : PresentIsOfContents
 present_is_of_contents options task files present is = record {
-  now = is.now ∙ ap with_outputs (sym (part_same (is_output_of task) files task.outputs (λ q under. under)));
+  now =
+      is.now
+      ∙ ap (λ (outputs : List OutputRecord). let run : Record = record {
+        actions = task.actions;
+        values = task.values;
+        inputs = digests_in (trees_of task files);
+        outputs = outputs;
+      } in run) (sym (part_same (is_output_of task) files task.outputs (λ q under. under)));
   in_order = is.in_order;
   incremental = is.incremental;
   rerun = is.rerun;
   stale = is.stale;
 }
-  where
-    abbrev with_outputs : List OutputRecord → Record
-    with_outputs outputs = record { actions = task.actions; values = task.values; inputs = digests_in (trees_of task files); outputs = outputs }
