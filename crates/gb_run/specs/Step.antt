@@ -29,8 +29,8 @@ pub record IsKept (held taken digests : Files) : Type 0 where
   pub prints : digests ≡ digests_of held
 
 -- An action stops, by itself or by the machine; of its files by place some first ones stand.
-abbrev pub StopsIn : List Output → Files → Files → Result (List Written) Text → Tearing → ℕ → Fault → ℕ → Files
-    → Type 0
+abbrev pub StopsIn : List Output → Files → Files → Result (List Written) Text → Tearing → ℕ → Fault → ℕ
+    → Files → Type 0
 StopsIn outputs rest held made may_leave before fault after new =
     StopsAt (λ steps. steps ≡ put (free_files outputs held made)) (step_by outputs rest held made) may_leave
     before (put_over rest held) fault after new

@@ -1,6 +1,6 @@
 -- Steps done one after another, and where that is cut short.
-use Rattle.std.specs.Prelude.{ℕ, ◌≡◌, ◌≤◌, ◌⊎◌, ◌++◌, true, false, List, [], ◌∷◌, Option, Some, None, Result, Err}
-use Rattle.std.specs.Prelude.{is_some, length, ⊤}
+use Rattle.std.specs.Prelude.{ℕ, ◌≡◌, ◌≤◌, ◌⊎◌, ◌++◌, true, false, List, [], ◌∷◌, Option, Some, None, Result}
+use Rattle.std.specs.Prelude.{Err, is_some, length, ⊤}
 use Rattle.gb_folder.specs.Files.{Bytes, Contents, Files, HasRisen, Tearing, file_at, is_blocked, with_left}
 use Rattle.gb_folder.specs.Limits.{max_file}
 use Rattle.gb_report.specs.declared.fault.Fault.{Fault}
