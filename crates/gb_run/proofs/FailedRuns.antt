@@ -22,11 +22,17 @@ use Rattle.gb_meaning.specs.Run.{Ended, ends, hindrances, or_end, step_by, unles
 use Rattle.gb_meaning.specs.Turn.{IsWritten, lines_of}
 use Rattle.gb_meaning.specs.Events.{IsTornInRun, Setting, StandsInRun}
 use Rattle.gb_meaning.proofs.Lemmas.Ending.{ended_is_made}
-use Rattle.gb_run.specs.Course.{Course, FailsByItself, FailsByMachine, Moment, files_at_hand, files_then, run_along, whole_run}
-use Rattle.gb_run.specs.Laws.{EndedRunsAreMade, FailedRunsInventNothing, FailedRunsPrintFronts, TornPlacesAreOfTheRun, course_in}
+use Rattle.gb_run.specs.Course.{Course, files_at_hand, run_along, whole_run}
+use Rattle.gb_run.specs.Failing.{FailsByItself, InFull, Moment, Way, files_then}
+use Rattle.gb_run.specs.Laws.{EndedRunsAreMade, FailedRunsInventNothingInFull, FailedRunsPrintFronts, course_in}
+use Rattle.gb_run.specs.Named.{put}
+use Rattle.gb_run.specs.Stepping.{FailsByMachine}
+use Rattle.gb_run.specs.Steps.{Step, after_steps}
+use Rattle.gb_run.proofs.AsSteps.{IsParted, after_put, parted}
 use Rattle.gb_run.proofs.AtOutputs.{BlamesNone, counts_blame_none, files_blame_none}
 use Rattle.gb_run.proofs.Endings.{behind-done, on, run}
 use Rattle.gb_run.proofs.Invented.{IsOf, found_in, in_over, in_where, none_in, of_free, of_held, of_more}
+use Rattle.gb_run.proofs.Writer.{heads}
 use Rattle.gb_tree.proofs.Holding.{all_append}
 
 pub ended_runs_are_made : EndedRunsAreMade
@@ -48,10 +54,7 @@ take_past (x ∷ xs) ys n = let e : suc (length xs) + n ≡ suc (length xs + n) 
 take_next : {X : Type 0} (x : X) (xs : List X) (n : ℕ) → take (n + 1) (x ∷ xs) ≡ x ∷ take n xs
 take_next x xs n = let e : n + 1 ≡ suc n = omega arith in ap (λ k. take k (x ∷ xs)) e
 
-module _ (course : Course) (moment : Moment course) where
-  later : List Action
-  later = (run course.kinds course.task.outputs course.task.values course.trees course.rest (run_along course moment.done).held moment.left).done
-
+module _ (course : Course) (way : Way) (moment : Moment course way) where
   ended_done : (whole_run course).done ≡ moment.done ++ (run course.kinds course.task.outputs course.task.values course.trees course.rest (run_along course moment.done).held moment.left).done
   ended_done =
       ap (λ (actions : List Action). (run_along course actions).done) moment.all
@@ -83,39 +86,63 @@ module _ (course : Course) (moment : Moment course) where
   of_right : (xs ys : List Action) (file : Place × Bytes) → Of ys file → Of (xs ++ ys) file
   of_right xs ys file h = record { action = h.action; written = h.written; among = Contains-append_right xs ys h.action h.among; makes = h.makes; put = h.put }
 
+module _ (course : Course) (moment : Moment course InFull) where
+  abbrev upto : List Action
+  upto = take (length (whole_run course).done + 1) course.task.actions
+
+  abbrev Among : List Action → Place × Bytes → Type 0
+  Among actions file = IsOf course.kinds course.task.outputs course.task.values course.trees actions file
+
   -- a file of the action at hand
-  of_hand : (file : Place × Bytes) → Contains (files_at_hand course (run_along course moment.done).held moment.left) file → Of reached file
+  of_hand : (file : Place × Bytes) → Contains (files_at_hand course (run_along course moment.done).held moment.left) file → Among upto file
   of_hand file h = go moment.left refl h
     where
-      go : (left : List Action) → moment.left ≡ left → Contains (files_at_hand course (run_along course moment.done).held left) file → Of reached file
+      go : (left : List Action) → moment.left ≡ left → Contains (files_at_hand course (run_along course moment.done).held left) file → Among upto file
       go [] is g = none_in file g
       go (action ∷ more) is g =
-          subst (λ (actions : List Action). Of actions file) (sym reached_is)
-          (of_right moment.done (take (count + 1) moment.left) file
-          (subst (λ (left : List Action). Of (take (count + 1) left) file) (sym is)
-          (subst (λ (actions : List Action). Of actions file) (sym (take_next action more count))
-          (of_more course.kinds course.task.outputs course.task.values course.trees (action ∷ []) (take count more) file
+          subst (λ (actions : List Action). Among actions file) (sym (reached_is course InFull moment))
+          (of_right course InFull moment moment.done (take (count course InFull moment + 1) moment.left) file
+          (subst (λ (left : List Action). Among (take (count course InFull moment + 1) left) file) (sym is)
+          (subst (λ (actions : List Action). Among actions file) (sym (take_next action more (count course InFull moment)))
+          (of_more course.kinds course.task.outputs course.task.values course.trees (action ∷ []) (take (count course InFull moment) more) file
           (of_free course.kinds course.task.outputs course.task.values course.trees (run_along course moment.done).held action file g)))))
 
+  -- its files, those that stand and those that are left
+  parts : IsParted (files_at_hand course (run_along course moment.done).held moment.left) moment.front moment.behind
+  parts = parted (files_at_hand course (run_along course moment.done).held moment.left) moment.front moment.behind moment.at_hand
+
+  then_is : files_then course InFull moment ≡ put_over (put_over course.rest (run_along course moment.done).held) parts.first
+  then_is = ap (after_steps (put_over course.rest (run_along course moment.done).held)) parts.front_is ∙ after_put (put_over course.rest (run_along course moment.done).held) parts.first
+
   -- each file of the folder is written by an action that the run came to, or is of the rest
-  pub stands_by : (file : Place × Bytes) → Contains (files_then course moment) file → Of reached file ⊎ Contains course.rest file
-  stands_by file h = elim (in_over (put_over course.rest (run_along course moment.done).held) moment.front file h) [
-    | inl front ↦ inl (of_hand file (subst (λ (fs : List (Place × Bytes)). Contains fs file) (sym moment.at_hand) (Contains-append_left moment.front moment.behind file front)))
+  pub stands_by : (file : Place × Bytes) → Contains (files_then course InFull moment) file → Among upto file ⊎ Contains course.rest file
+  stands_by file h = elim (in_over (put_over course.rest (run_along course moment.done).held) parts.first file (subst (λ (fs : Files). Contains fs file) then_is h)) [
+    | inl front ↦ inl (of_hand file (subst (λ (fs : List (Place × Bytes)). Contains fs file) (sym parts.all) (Contains-append_left parts.first parts.later file front)))
     | inr before ↦ elim (in_over course.rest (run_along course moment.done).held file before) [
       | inl held ↦ elim (of_held course.kinds course.task.outputs course.task.values course.trees course.rest moment.done [] moment.no_fault file held) [
-        | inl written ↦ inl (subst (λ (actions : List Action). Of actions file) (sym reached_is)
-            (of_more course.kinds course.task.outputs course.task.values course.trees moment.done (take (count + 1) moment.left) file written))
+        | inl written ↦ inl (subst (λ (actions : List Action). Among actions file) (sym (reached_is course InFull moment))
+            (of_more course.kinds course.task.outputs course.task.values course.trees moment.done (take (count course InFull moment + 1) moment.left) file written))
         | inr none ↦ none_in file none
       ]
       | inr rest ↦ inr rest
     ]
   ]
 
-  -- so is each that was to be written
-  pub was_next : (file : Place × Bytes) (more : List (Place × Bytes)) → moment.behind ≡ file ∷ more → Of reached file
-  was_next file more is =
-      of_hand file (subst (λ (fs : List (Place × Bytes)). Contains fs file) (sym moment.at_hand)
-      (Contains-append_right moment.front moment.behind file (subst (λ (fs : List (Place × Bytes)). Contains fs file) (sym is) (0, omega arith, refl))))
+  -- so is each that was to be put
+  pub was_next : (step : Step) (more : List Step) → moment.behind ≡ step ∷ more → (bytes : Bytes) × (step.1 ≡ Some bytes) × Among upto (step.0, bytes)
+  was_next step more is = by parts.later parts.all (sym is ∙ parts.behind_is)
+    where
+      by : (later : List (Place × Bytes)) → files_at_hand course (run_along course moment.done).held moment.left ≡ parts.first ++ later → step ∷ more ≡ put later
+          → (bytes : Bytes) × (step.1 ≡ Some bytes) × Among upto (step.0, bytes)
+      by [] all puts = absurd (let e = puts in (cc))
+      by (file ∷ later) all puts =
+          let same = heads step (file.0, Some file.1) more (put later) puts in (
+            file.1,
+            ap (λ (s : Step). s.1) same,
+            subst (λ (p : Place). Among upto (p, file.1)) (sym (ap (λ (s : Step). s.0) same))
+                (of_hand file (subst (λ (fs : List (Place × Bytes)). Contains fs file) (sym all)
+                (Contains-append_right parts.first (file ∷ later) file (0, omega arith, refl)))),
+          )
 
 -- ---- where the device failed
 
@@ -134,7 +161,7 @@ blocked_blame_none [] = tt
 blocked_blame_none (place ∷ places) = ((λ at e. cc), blocked_blame_none places)
 
 module _ (kinds : Kinds) (task : Task) (trees : Trees) (rest : Files) where
-  blames_none : (actions : List Action) (held : Files) (place : Place) → (ends kinds task.outputs task.values trees rest held actions).fault ≡ Some (faults.Device place) → ⊥
+  pub blames_none : (actions : List Action) (held : Files) (place : Place) → (ends kinds task.outputs task.values trees rest held actions).fault ≡ Some (faults.Device place) → ⊥
   blames_none [] held place e = cc
   blames_none (action ∷ actions) held place e = by_made (λ more h. blames_none actions more place h) (kinds.makes (kind_of action) action.args task.values trees) e
     where
@@ -160,78 +187,90 @@ module _ (kinds : Kinds) (task : Task) (trees : Trees) (rest : Files) where
           (all_append BlamesNone (flat_map (file_faults all) (put_over [] files)) _ (files_blame_none all (put_over [] files)) (counts_blame_none (full_outputs task.outputs all)))
           (blocked_blame_none (blocked_in rest (put_over [] files)))) h
 
--- ---- the laws
+-- ---- what is printed
 
 pub failed_runs_print_fronts : (setting : Setting) → FailedRunsPrintFronts setting
-failed_runs_print_fronts setting task changes old fault lines new failure =
+failed_runs_print_fronts setting way task changes old fault lines new failure =
     let moment = failure.fails.moment in (
       length moment.done,
-      failure.fails.printed ∙ ap (λ (actions : List Action). lines_of setting.kinds task (trees_of task old) changes actions) (front_of (course_in setting.kinds task changes old) moment),
+      failure.fails.printed ∙ ap (λ (actions : List Action). lines_of setting.kinds task (trees_of task old) changes actions) (front_of (course_in setting.kinds task changes old) way moment),
     )
 
-module _ (setting : Setting) (task : Task) (changes : List Changes) (old : Files) (source : has_no_source task old ≡ false) where
-  abbrev course : Course
-  course = course_in setting.kinds task changes old
+-- ---- what stands
 
-  written_by : (moment : Moment (course_in setting.kinds task changes old)) (place : Place) (bytes : Bytes) → is_output_of task place ≡ true
-      → Contains (files_then (course_in setting.kinds task changes old) moment) (place, bytes) → IsWritten setting.kinds task old place bytes
-  written_by moment place bytes output h = elim (stands_by (course_in setting.kinds task changes old) moment (place, bytes) h) [
-    | inl w ↦ (source, w.action, w.written, w.among, w.makes, w.put)
-    | inr rest ↦ absurd (false≢true (sym (not-true _ (in_where (λ q. not (is_output_of task q)) old (place, bytes) rest)) ∙ output))
-  ]
+module _ (setting : Setting) (task : Task) (changes : List Changes) (old : Files) where
+  -- where each file at the outputs stands in the run, and each that was to be put
+  pub record AreOfTheRun (way : Way) (moment : Moment (course_in setting.kinds task changes old) way) (place : Place) : Type 0 where
+    pub stood : StandsInRun setting.kinds task old place (file_at (files_then (course_in setting.kinds task changes old) way moment) place)
+    pub next : (step : Step) (later : List Step) → moment.behind ≡ step ∷ later → step.0 ≡ place → StandsInRun setting.kinds task old place step.1
 
-  invents_nothing : (moment : Moment (course_in setting.kinds task changes old)) (before after : ℕ) (fault : Fault) (new : Files)
-      → FailsByItself (course_in setting.kinds task changes old) moment fault new ⊎ FailsByMachine (course_in setting.kinds task changes old) moment setting.may_leave before fault after new
-      → (place : Place) (bytes : Bytes) → is_output_of task place ≡ true → file_at new place ≡ Some bytes → IsWritten setting.kinds task old place bytes ⊎ (fault ≡ faults.Device place)
-  invents_nothing moment before after fault new (inl itself) place bytes output e =
-      inl (written_by moment place bytes output (subst (λ (fs : Files). Contains fs (place, bytes)) itself.files (found_in new place bytes e)))
-  invents_nothing moment before after fault new (inr (inl memory)) place bytes output e =
-      inl (written_by moment place bytes output (subst (λ (fs : Files). Contains fs (place, bytes)) memory.1 (found_in new place bytes e)))
-  invents_nothing moment before after fault new (inr (inr stopped)) place bytes output e =
-      elim (bytes_eq place stopped.file.0) as (λ b. bytes_eq place stopped.file.0 ≡ b → IsWritten setting.kinds task old place bytes ⊎ (fault ≡ faults.Device place)) [
-        | true ↦ λ here. inr (stopped.device ∙ ap faults.Device (sym ((bytes_decides place stopped.file.0).0 here)))
-        | false ↦ λ other. inl (written_by moment place bytes output
-            (found_in (files_then (course_in setting.kinds task changes old) moment) place bytes
-            (sym (left_elsewhere (files_then (course_in setting.kinds task changes old) moment) stopped.file.0 stopped.left place other)
-            ∙ ap (λ (fs : Files). file_at fs place) (sym stopped.files) ∙ e)))
-      ] refl
+  module _ (way : Way) (moment : Moment (course_in setting.kinds task changes old) way) where
+    -- what stands at a place once the run has failed: what stood at the moment, but where the device failed
+    pub left_then : (before after : ℕ) (fault : Fault) (new : Files)
+        → FailsByItself (course_in setting.kinds task changes old) way moment fault new
+        ⊎ FailsByMachine setting.may_leave before (files_then (course_in setting.kinds task changes old) way moment) moment.behind fault after new
+        → (place : Place) → (file_at new place ≡ file_at (files_then (course_in setting.kinds task changes old) way moment) place) ⊎ (fault ≡ faults.Device place)
+    left_then before after fault new (inl itself) place = inl (ap (λ (fs : Files). file_at fs place) itself.files)
+    left_then before after fault new (inr (inl memory)) place = inl (ap (λ (fs : Files). file_at fs place) memory.1)
+    left_then before after fault new (inr (inr stopped)) place =
+        elim (bytes_eq place stopped.step.0) as (λ b. bytes_eq place stopped.step.0 ≡ b
+        → (file_at new place ≡ file_at (files_then (course_in setting.kinds task changes old) way moment) place) ⊎ (fault ≡ faults.Device place)) [
+          | true ↦ λ here. inr (stopped.device ∙ ap faults.Device (sym ((bytes_decides place stopped.step.0).0 here)))
+          | false ↦ λ other. inl (ap (λ (fs : Files). file_at fs place) stopped.files
+              ∙ left_elsewhere (files_then (course_in setting.kinds task changes old) way moment) stopped.step.0 stopped.left place other)
+        ] refl
 
-  stands_so : (moment : Moment (course_in setting.kinds task changes old)) (place : Place) → is_output_of task place ≡ true
-      → StandsInRun setting.kinds task old place (file_at (files_then (course_in setting.kinds task changes old) moment) place)
-  stands_so moment place output =
-      elim (file_at (files_then (course_in setting.kinds task changes old) moment) place) as (λ o.
-      file_at (files_then (course_in setting.kinds task changes old) moment) place ≡ o → StandsInRun setting.kinds task old place o) [
-        | None ↦ λ _. tt
-        | Some bytes ↦ λ is. inr (written_by moment place bytes output (found_in (files_then (course_in setting.kinds task changes old) moment) place bytes is))
-      ] refl
+    pub torn : (before after : ℕ) (place : Place) (new : Files)
+        → FailsByItself (course_in setting.kinds task changes old) way moment (faults.Device place) new
+        ⊎ FailsByMachine setting.may_leave before (files_then (course_in setting.kinds task changes old) way moment) moment.behind (faults.Device place) after new
+        → AreOfTheRun way moment place → IsTornInRun setting task old place (file_at new place)
+    torn before after place new (inl itself) are =
+        absurd (blames_none setting.kinds task (trees_of task old) (rest_of task old) task.actions [] place itself.faulty)
+    torn before after place new (inr (inl memory)) are = absurd (let e = memory.0 in (cc))
+    torn before after place new (inr (inr stopped)) are =
+        let here : stopped.step.0 ≡ place = let e = stopped.device in (cc) in
+        let then = files_then (course_in setting.kinds task changes old) way moment in (
+          file_at then place,
+          stopped.step.1,
+          are.stood,
+          are.next stopped.step stopped.later stopped.next here,
+          subst (λ (left : Option Bytes). setting.may_leave place (file_at then place) stopped.step.1 left)
+              (sym (ap (λ (fs : Files). file_at fs place) stopped.files
+              ∙ ap (λ (p : Place). file_at (with_left then p stopped.left) place) here ∙ left_here then place stopped.left))
+              (subst (λ (p : Place). setting.may_leave p (file_at then p) stopped.step.1 stopped.left) here stopped.may),
+        )
 
-  torn : (moment : Moment (course_in setting.kinds task changes old)) (before after : ℕ) (place : Place) (new : Files) → is_output_of task place ≡ true
-      → FailsByItself (course_in setting.kinds task changes old) moment (faults.Device place) new
-      ⊎ FailsByMachine (course_in setting.kinds task changes old) moment setting.may_leave before (faults.Device place) after new
-      → IsTornInRun setting task old place (file_at new place)
-  torn moment before after place new output (inl itself) =
-      absurd (blames_none setting.kinds task (trees_of task old) (rest_of task old) task.actions [] place itself.faulty)
-  torn moment before after place new output (inr (inl memory)) = absurd (let e = memory.0 in (cc))
-  torn moment before after place new output (inr (inr stopped)) =
-      let here : place ≡ stopped.file.0 = let e = stopped.device in (cc) in
-      let then = files_then (course_in setting.kinds task changes old) moment in
-      let w = was_next (course_in setting.kinds task changes old) moment stopped.file stopped.later stopped.next in (
-        file_at then place,
-        Some stopped.file.1,
-        stands_so moment place output,
-        inr (source, w.action, w.written, w.among, w.makes, ap_put w.written here w.put),
-        subst (λ (q : Place). setting.may_leave q (file_at then q) (Some stopped.file.1) (file_at new q)) (sym here)
-            (subst (λ (left : Option Bytes). setting.may_leave stopped.file.0 (file_at then stopped.file.0) (Some stopped.file.1) left)
-            (sym (ap (λ (fs : Files). file_at fs stopped.file.0) stopped.files ∙ left_here then stopped.file.0 stopped.left)) stopped.may),
-      )
-    where
-      ap_put : (written : List Written) → place ≡ stopped.file.0 → Contains (placed task.outputs written) stopped.file → Contains (placed task.outputs written) (place, stopped.file.1)
-      ap_put written here put = subst (λ (q : Place). Contains (placed task.outputs written) (q, stopped.file.1)) (sym here) put
+  -- ---- in full
 
-pub failed_runs_invent_nothing : (setting : Setting) → FailedRunsInventNothing setting
-failed_runs_invent_nothing setting task changes old fault lines new source failure place bytes output e =
-    invents_nothing setting task changes old source failure.fails.moment failure.before failure.after fault new failure.fails.why place bytes output e
+  module _ (source : has_no_source task old ≡ false) (moment : Moment (course_in setting.kinds task changes old) InFull) (place : Place) (output : is_output_of task place ≡ true) where
+    written_by : (bytes : Bytes) → Contains (files_then (course_in setting.kinds task changes old) InFull moment) (place, bytes) → IsWritten setting.kinds task old place bytes
+    written_by bytes h = elim (stands_by (course_in setting.kinds task changes old) moment (place, bytes) h) [
+      | inl w ↦ (source, w.action, w.written, w.among, w.makes, w.put)
+      | inr rest ↦ absurd (false≢true (sym (not-true _ (in_where (λ q. not (is_output_of task q)) old (place, bytes) rest)) ∙ output))
+    ]
 
-pub torn_places_are_of_the_run : (setting : Setting) → TornPlacesAreOfTheRun setting
-torn_places_are_of_the_run setting task changes old place lines new source output failure =
-    torn setting task changes old source failure.fails.moment failure.before failure.after place new output failure.fails.why
+    -- each file that stands then is written
+    pub written_then : (bytes : Bytes) → file_at (files_then (course_in setting.kinds task changes old) InFull moment) place ≡ Some bytes → IsWritten setting.kinds task old place bytes
+    written_then bytes is = written_by bytes (found_in (files_then (course_in setting.kinds task changes old) InFull moment) place bytes is)
+
+    pub are_of_the_run : AreOfTheRun InFull moment place
+    are_of_the_run = record { stood = so (file_at (files_then (course_in setting.kinds task changes old) InFull moment) place) refl; next = next_so }
+      where
+        so : (left : Option Bytes) → file_at (files_then (course_in setting.kinds task changes old) InFull moment) place ≡ left → StandsInRun setting.kinds task old place left
+        so None is = tt
+        so (Some bytes) is = inr (written_then bytes is)
+
+        next_so : (step : Step) (later : List Step) → moment.behind ≡ step ∷ later → step.0 ≡ place → StandsInRun setting.kinds task old place step.1
+        next_so step later next here =
+            let w = was_next (course_in setting.kinds task changes old) moment step later next in
+            subst (λ (left : Option Bytes). StandsInRun setting.kinds task old place left) (sym w.1)
+            (inr (subst (λ (p : Place). IsWritten setting.kinds task old p w.0) here (source, w.2.action, w.2.written, w.2.among, w.2.makes, w.2.put)))
+
+pub failed_runs_invent_nothing_in_full : (setting : Setting) → FailedRunsInventNothingInFull setting
+failed_runs_invent_nothing_in_full setting task changes old fault lines new source failure place bytes output e =
+    by (left_then setting task changes old InFull failure.fails.moment failure.before failure.after fault new failure.fails.why place)
+  where
+    by : (file_at new place ≡ file_at (files_then (course_in setting.kinds task changes old) InFull failure.fails.moment) place) ⊎ (fault ≡ faults.Device place)
+        → IsWritten setting.kinds task old place bytes ⊎ (fault ≡ faults.Device place)
+    by (inl same) = inl (written_then setting task changes old source failure.fails.moment place output bytes (sym same ∙ e))
+    by (inr device) = inr device

@@ -28,13 +28,16 @@ use Rattle.gb_meaning.proofs.Lemmas.Ending.{ended_is_made}
 use Rattle.gb_meaning.proofs.Lemmas.Files.{at-put_over, or_else, same_place, sorted-put_over}
 use Rattle.gb_meaning.proofs.Lemmas.Making.{made_of_is_right}
 use Rattle.gb_run.specs.Asking.{made_by}
-use Rattle.gb_run.specs.Course.{Course, files_at_hand, free_files, lines_by, run_along}
-use Rattle.gb_run.specs.Laws.{Failure as FullFailure, course_in}
+use Rattle.gb_run.specs.Course.{Course, files_at_hand, free_files, run_along}
+use Rattle.gb_run.specs.Laws.{FailedRunsInventNothingByChanges, FailedRunsKeepRightFiles, Failure, TornPlacesAreOfTheRun, course_in}
+use Rattle.gb_run.proofs.AsSteps.{after_put}
 use Rattle.gb_run.proofs.Endings.{with_none}
-use Rattle.gb_run.proofs.FailedRuns.{failed_runs_invent_nothing as full_runs_invent_nothing, failed_runs_print_fronts as full_runs_print_fronts, left_here, torn_places_are_of_the_run as torn_places_are_of_full_runs}
+use Rattle.gb_run.proofs.FailedRuns.{AreOfTheRun, are_of_the_run, left_then, torn}
+use Rattle.gb_run.proofs.Moments.{moment_at}
 use Rattle.gb_run.specs.AskingChanges.{IsFitting, writers}
-use Rattle.gb_run.specs.Changing.{AreAtHand, FailsByItself, FailsByMachine, Moment, ended_files, files_then}
-use Rattle.gb_run.specs.ChangeLaws.{FailedRunsInventNothing, FailedRunsKeepRightFiles, FailedRunsPrintFronts, TornPlacesAreOfTheRun}
+use Rattle.gb_run.specs.Failing.{AreAtHand, ByChanges, FailsByItself, InFull, Moment, ended_files, files_then}
+use Rattle.gb_run.specs.Named.{put}
+use Rattle.gb_run.specs.Stepping.{FailsByMachine}
 use Rattle.gb_run.specs.Steps.{LeadTo, Step, after_steps}
 use Rattle.gb_run.proofs.Looks.{at_left}
 use Rattle.gb_run.proofs.Writer.{IsOfWriter, heads, none_made, tails, writer_made, writer_of}
@@ -108,7 +111,7 @@ or_twice None b = refl
 -- ---- a moment of the run
 
 module _ (setting : Setting) (task : Task) (changes : List Changes) (old : Files) (one : IsTrue (has_one_writer setting.kinds task.actions))
-    (fitting : AllByRecursion (IsFitting setting.kinds task) task.actions) (moment : Moment (course_in setting.kinds task changes old) old) where
+    (fitting : AllByRecursion (IsFitting setting.kinds task) task.actions) (moment : Moment (course_in setting.kinds task changes old) (ByChanges old)) where
   abbrev course : Course
   course = course_in setting.kinds task changes old
 
@@ -175,10 +178,10 @@ module _ (setting : Setting) (task : Task) (changes : List Changes) (old : Files
         ∙ ap (λ (ws : List Action). writers setting.kinds moment.done ++ ws) (sym left_writers) ∙ parted found.0 found.1 in
         found.1 ∙ ap (λ (w : Action). w ∷ []) (sym (heads action found.0 (writers setting.kinds later) [] all))
 
-    ended_old : ended_files (course_in setting.kinds task changes old) old moment.done ≡ old
+    ended_old : ended_files (course_in setting.kinds task changes old) (ByChanges old) moment.done ≡ old
     ended_old = ap (λ b. if b then put_over (rest_of task old) held else old) none
 
-    at_writer : LeadTo (ended_files (course_in setting.kinds task changes old) old moment.done)
+    at_writer : LeadTo (ended_files (course_in setting.kinds task changes old) (ByChanges old) moment.done)
         (put_over (rest_of task old) (put_over held (free_files task.outputs held (made_by setting.kinds task action (trees_of task old))))) (moment.front ++ moment.behind) → IsAtWriter
     at_writer leads = record {
       action = action;
@@ -188,14 +191,14 @@ module _ (setting : Setting) (task : Task) (changes : List Changes) (old : Files
       alone = alone_then;
       leads =
           subst (λ (files : Files). LeadTo files (target_of action) (moment.front ++ moment.behind)) ended_old
-          (subst (λ (h : Files). LeadTo (ended_files (course_in setting.kinds task changes old) old moment.done)
+          (subst (λ (h : Files). LeadTo (ended_files (course_in setting.kinds task changes old) (ByChanges old) moment.done)
           (put_over (rest_of task old) (put_over h (free_files task.outputs h (made_by setting.kinds task action (trees_of task old))))) (moment.front ++ moment.behind)) (held_none none) leads);
     }
 
   hand : (moment.front ++ moment.behind ≡ []) ⊎ IsAtWriter
   hand = by moment.left refl moment.at_hand
     where
-      by : (left : List Action) → moment.left ≡ left → AreAtHand (course_in setting.kinds task changes old) old moment.done left (moment.front ++ moment.behind)
+      by : (left : List Action) → moment.left ≡ left → AreAtHand (course_in setting.kinds task changes old) (ByChanges old) moment.done left (moment.front ++ moment.behind)
           → (moment.front ++ moment.behind ≡ []) ⊎ IsAtWriter
       by [] is steps = inl steps
       by (action ∷ later) is (inl steps) = inl steps
@@ -228,7 +231,7 @@ module _ (setting : Setting) (task : Task) (changes : List Changes) (old : Files
           at-put_over (rest_of task old) held place (ap (is_sorted byte_order) (sym all_held) ∙ in_order)
           ∙ ap (λ o. or_else o (file_at (rest_of task old) place)) (ap (λ (fs : Files). file_at fs place) (sym all_held) ∙ right)
 
-    ended_right : file_at (ended_files (course_in setting.kinds task changes old) old moment.done) place ≡ Some bytes
+    ended_right : file_at (ended_files (course_in setting.kinds task changes old) (ByChanges old) moment.done) place ≡ Some bytes
     ended_right = by (any_writes setting.kinds moment.done) refl
       where
         by : (b : Bool) → any_writes setting.kinds moment.done ≡ b → file_at (if b then put_over (rest_of task old) held else old) place ≡ Some bytes
@@ -261,85 +264,31 @@ module _ (setting : Setting) (task : Task) (changes : List Changes) (old : Files
             (λ s differ is. differ (ap (file_at old) is ∙ stood ∙ sym (target_right at) ∙ ap (file_at (target_of at.action)) (sym is)))
             (moment.front ++ moment.behind) at.leads.needed
 
-    then_right : file_at (files_then (course_in setting.kinds task changes old) old moment) place ≡ Some bytes
+    then_right : file_at (files_then (course_in setting.kinds task changes old) (ByChanges old) moment) place ≡ Some bytes
     then_right =
-        untouched (ended_files (course_in setting.kinds task changes old) old moment.done) moment.front place
+        untouched (ended_files (course_in setting.kinds task changes old) (ByChanges old) moment.done) moment.front place
         (all_front (λ (s : Step). s.0 ≢ place) moment.front moment.behind others)
         ∙ ended_right
 
-    stays : (may_leave : _) (before after : ℕ) (fault : Fault) (new : Files)
-        → FailsByItself (course_in setting.kinds task changes old) old moment fault new ⊎ FailsByMachine (course_in setting.kinds task changes old) old moment may_leave before fault after new
+    stays : (before after : ℕ) (fault : Fault) (new : Files)
+        → FailsByItself (course_in setting.kinds task changes old) (ByChanges old) moment fault new
+        ⊎ FailsByMachine setting.may_leave before (files_then (course_in setting.kinds task changes old) (ByChanges old) moment) moment.behind fault after new
         → file_at new place ≡ Some bytes
-    stays may_leave before after fault new (inl itself) = ap (λ (fs : Files). file_at fs place) itself.files ∙ then_right
-    stays may_leave before after fault new (inr (inl memory)) = ap (λ (fs : Files). file_at fs place) memory.1 ∙ then_right
-    stays may_leave before after fault new (inr (inr stopped)) =
+    stays before after fault new (inl itself) = ap (λ (fs : Files). file_at fs place) itself.files ∙ then_right
+    stays before after fault new (inr (inl memory)) = ap (λ (fs : Files). file_at fs place) memory.1 ∙ then_right
+    stays before after fault new (inr (inr stopped)) =
         ap (λ (fs : Files). file_at fs place) stopped.files
-        ∙ elsewhere (files_then (course_in setting.kinds task changes old) old moment) stopped.step.0 stopped.left place apart
+        ∙ elsewhere (files_then (course_in setting.kinds task changes old) (ByChanges old) moment) stopped.step.0 stopped.left place apart
         ∙ then_right
       where
         apart : stopped.step.0 ≢ place
         apart = (subst (AllByRecursion (λ (s : Step). s.0 ≢ place)) stopped.next (all_behind (λ (s : Step). s.0 ≢ place) moment.front moment.behind others)).0
-
-  -- ---- what is printed
-
-  -- memory ran out before the next action, in full
-  full_before : (lines : List Text) → lines ≡ lines_by (course_in setting.kinds task changes old) moment.done
-      → FullFailure setting task changes old faults.OutOfMemory lines (put_over (rest_of task old) held)
-  full_before lines printed = record {
-    before = 0;
-    after = 0;
-    fails = record {
-      moment = record {
-        done = moment.done;
-        left = moment.left;
-        all = moment.all;
-        no_fault = moment.no_fault;
-        front = [];
-        behind = files_at_hand (course_in setting.kinds task changes old) held moment.left;
-        at_hand = refl;
-      };
-      printed = printed;
-      why = inr (inl (refl, refl));
-    };
-  }
-
-  -- and behind its files
-  full_behind : (at : IsAtWriter) → FullFailure setting task changes old faults.OutOfMemory (lines_by (course_in setting.kinds task changes old) moment.done)
-      (put_over (put_over (rest_of task old) held) (hand_of at.action))
-  full_behind at = record {
-    before = 0;
-    after = 0;
-    fails = record {
-      moment = record {
-        done = moment.done;
-        left = moment.left;
-        all = moment.all;
-        no_fault = moment.no_fault;
-        front = hand_of at.action;
-        behind = [];
-        at_hand = (λ i. files_at_hand (course_in setting.kinds task changes old) (held_none at.none_before i) (at.left i)) ∙ sym (with_none (hand_of at.action));
-      };
-      printed = refl;
-      why = inr (inl (refl, refl));
-    };
-  }
 
   -- ---- what stands
 
   module _ (source : has_no_source task old ≡ false) (q : Place) (output : is_output_of task q ≡ true) where
     abbrev Stands : Option Bytes → Type 0
     Stands left = StandsInRun setting.kinds task old q left
-
-    written_so : (lines : List Text) (new : Files) → FullFailure setting task changes old faults.OutOfMemory lines new → Stands (file_at new q)
-    written_so lines new failure = by (file_at new q) refl
-      where
-        by_law : (bytes : Bytes) → IsWritten setting.kinds task old q bytes ⊎ (faults.OutOfMemory ≡ faults.Device q) → Stands (Some bytes)
-        by_law bytes (inl written) = inr written
-        by_law bytes (inr device) = absurd (let d = device in (cc))
-
-        by : (left : Option Bytes) → file_at new q ≡ left → Stands left
-        by None e = tt
-        by (Some bytes) e = by_law bytes (full_runs_invent_nothing setting task changes old faults.OutOfMemory lines new source failure q bytes output e)
 
     stood_so : Stands (file_at old q)
     stood_so = by (file_at old q) refl
@@ -348,143 +297,96 @@ module _ (setting : Setting) (task : Task) (changes : List Changes) (old : Files
         by None e = tt
         by (Some bytes) e = inl e
 
-    ended_stands : Stands (file_at (ended_files (course_in setting.kinds task changes old) old moment.done) q)
+    ended_stands : Stands (file_at (ended_files (course_in setting.kinds task changes old) (ByChanges old) moment.done) q)
     ended_stands = by (any_writes setting.kinds moment.done)
       where
         by : (b : Bool) → Stands (file_at (if b then put_over (rest_of task old) held else old) q)
-        by true = written_so (lines_by (course_in setting.kinds task changes old) moment.done) (put_over (rest_of task old) held) (full_before _ refl)
+        by true = (are_of_the_run setting task changes old source (moment_at (course_in setting.kinds task changes old) InFull moment.done moment.left moment.all moment.no_fault) q output).stood
         by false = stood_so
 
     target_stands : (at : IsAtWriter) → Stands (file_at (target_of at.action) q)
-    target_stands at =
-        subst (λ (left : Option Bytes). Stands left) same
-        (written_so (lines_by (course_in setting.kinds task changes old) moment.done) (put_over (put_over (rest_of task old) held) (hand_of at.action)) (full_behind at))
+    target_stands at = subst (λ (left : Option Bytes). Stands left) same (are_of_the_run setting task changes old source full_moment q output).stood
       where
+        -- a run in full behind its files
+        full_moment : Moment (course_in setting.kinds task changes old) InFull
+        full_moment = record {
+          done = moment.done;
+          left = moment.left;
+          all = moment.all;
+          no_fault = moment.no_fault;
+          front = put (hand_of at.action);
+          behind = [];
+          at_hand = with_none (put (hand_of at.action)) ∙ sym (λ i. put (files_at_hand (course_in setting.kinds task changes old) (held_none at.none_before i) (at.left i)));
+        }
+
         sorted : is_sorted byte_order (hand_of at.action) ≡ true
         sorted = sorted_free task.outputs (made_by setting.kinds task at.action (trees_of task old))
 
-        same : file_at (put_over (put_over (rest_of task old) held) (hand_of at.action)) q ≡ file_at (target_of at.action) q
+        same : file_at (after_steps (put_over (rest_of task old) held) (put (hand_of at.action))) q ≡ file_at (target_of at.action) q
         same =
-            at-put_over (put_over (rest_of task old) held) (hand_of at.action) q sorted
+            ap (λ (fs : Files). file_at fs q) (after_put (put_over (rest_of task old) held) (hand_of at.action))
+            ∙ at-put_over (put_over (rest_of task old) held) (hand_of at.action) q sorted
             ∙ ap (λ (h : Files). or_else (file_at (hand_of at.action) q) (file_at (put_over (rest_of task old) h) q)) (held_none at.none_before)
             ∙ sym (or_twice (file_at (hand_of at.action) q) (file_at (rest_of task old) q))
             ∙ sym (at-put_over (rest_of task old) (put_over [] (hand_of at.action)) q (sorted-put_over [] (hand_of at.action) refl)
             ∙ ap (λ o. or_else o (file_at (rest_of task old) q)) (at-put_over [] (hand_of at.action) q sorted))
 
-    then_stands : Stands (file_at (files_then (course_in setting.kinds task changes old) old moment) q)
+    then_stands : Stands (file_at (files_then (course_in setting.kinds task changes old) (ByChanges old) moment) q)
     then_stands = by hand
       where
-        by : (moment.front ++ moment.behind ≡ []) ⊎ IsAtWriter → Stands (file_at (files_then (course_in setting.kinds task changes old) old moment) q)
+        by : (moment.front ++ moment.behind ≡ []) ⊎ IsAtWriter → Stands (file_at (files_then (course_in setting.kinds task changes old) (ByChanges old) moment) q)
         by (inl none) =
-            subst (λ (steps : List Step). Stands (file_at (after_steps (ended_files (course_in setting.kinds task changes old) old moment.done) steps) q)) (sym (front_none moment.front moment.behind none)) ended_stands
+            subst (λ (steps : List Step). Stands (file_at (after_steps (ended_files (course_in setting.kinds task changes old) (ByChanges old) moment.done) steps) q)) (sym (front_none moment.front moment.behind none)) ended_stands
         by (inr at) =
-            steps_stand (λ (left : Option Bytes). Stands left) (target_of at.action) (ended_files (course_in setting.kinds task changes old) old moment.done) q moment.front tt (target_stands at)
+            steps_stand (λ (left : Option Bytes). Stands left) (target_of at.action) (ended_files (course_in setting.kinds task changes old) (ByChanges old) moment.done) q moment.front tt (target_stands at)
             (all_front (λ (step : Step). (step.1 ≡ None) ⊎ (step.1 ≡ file_at (target_of at.action) step.0)) moment.front moment.behind at.leads.meant) ended_stands
 
     -- so does what was to stand next
     next_stands : (step : Step) (later : List Step) → moment.behind ≡ step ∷ later → step.0 ≡ q → Stands step.1
     next_stands step later next here = by hand
       where
-        put : (at : IsAtWriter) → (step.1 ≡ None) ⊎ (step.1 ≡ file_at (target_of at.action) step.0) → Stands step.1
-        put at (inl gone) = subst (λ (left : Option Bytes). Stands left) (sym gone) tt
-        put at (inr there) = subst (λ (left : Option Bytes). Stands left) (sym (there ∙ ap (file_at (target_of at.action)) here)) (target_stands at)
+        so : (at : IsAtWriter) → (step.1 ≡ None) ⊎ (step.1 ≡ file_at (target_of at.action) step.0) → Stands step.1
+        so at (inl gone) = subst (λ (left : Option Bytes). Stands left) (sym gone) tt
+        so at (inr there) = subst (λ (left : Option Bytes). Stands left) (sym (there ∙ ap (file_at (target_of at.action)) here)) (target_stands at)
 
         by : (moment.front ++ moment.behind ≡ []) ⊎ IsAtWriter → Stands step.1
         by (inl none) = absurd (let e : step ∷ later ≡ [] = sym next ∙ behind_none moment.front moment.behind none in (cc))
         by (inr at) =
-            put at (subst (AllByRecursion (λ (s : Step). (s.1 ≡ None) ⊎ (s.1 ≡ file_at (target_of at.action) s.0))) next
+            so at (subst (AllByRecursion (λ (s : Step). (s.1 ≡ None) ⊎ (s.1 ≡ file_at (target_of at.action) s.0))) next
             (all_behind (λ (s : Step). (s.1 ≡ None) ⊎ (s.1 ≡ file_at (target_of at.action) s.0)) moment.front moment.behind at.leads.meant)).0
+
+    pub are_of_changes : AreOfTheRun setting task changes old (ByChanges old) moment q
+    are_of_changes = record { stood = then_stands; next = next_stands }
 
 -- ---- laws
 
 pub failed_runs_keep_right_files : (setting : Setting) → FailedRunsKeepRightFiles setting
 failed_runs_keep_right_files setting task changes old fault lines new failure files makes place bytes right stood =
-    stays setting task changes old failure.one_writer failure.fitting failure.fails.moment files makes place bytes right stood setting.may_leave failure.before failure.after fault new failure.fails.why
+    stays setting task changes old failure.is_way.1 failure.is_way.2 failure.fails.moment files makes place bytes right stood failure.before failure.after fault new failure.fails.why
 
-pub failed_runs_print_fronts : (setting : Setting) → FailedRunsPrintFronts setting
-failed_runs_print_fronts setting task changes old fault lines new failure =
-    full_runs_print_fronts setting task changes old faults.OutOfMemory lines _ (full_before setting task changes old failure.one_writer failure.fitting failure.fails.moment lines failure.fails.printed)
-
-pub failed_runs_invent_nothing : (setting : Setting) → FailedRunsInventNothing setting
-failed_runs_invent_nothing setting task changes old fault lines new source failure place bytes output e =
-    by failure.fails.why
+pub failed_runs_invent_nothing_by_changes : (setting : Setting) → FailedRunsInventNothingByChanges setting
+failed_runs_invent_nothing_by_changes setting task changes old fault lines new source failure place bytes output e =
+    by (left_then setting task changes old (ByChanges old) failure.fails.moment failure.before failure.after fault new failure.fails.why place)
   where
-    Right : Type 0
-    Right = (file_at old place ≡ Some bytes) ⊎ IsWritten setting.kinds task old place bytes ⊎ (fault ≡ faults.Device place)
+    as_right : StandsInRun setting.kinds task old place (Some bytes) → (file_at old place ≡ Some bytes) ⊎ IsWritten setting.kinds task old place bytes ⊎ (fault ≡ faults.Device place)
+    as_right (inl there) = inl there
+    as_right (inr written) = inr (inl written)
 
-    stood_then : Files
-    stood_then = files_then (course_in setting.kinds task changes old) old failure.fails.moment
-
-    stands : (files : Files) → file_at files place ≡ Some bytes → StandsInRun setting.kinds task old place (file_at files place) → Right
-    stands files is at = as_right (subst (λ (left : Option Bytes). StandsInRun setting.kinds task old place left) is at)
-      where
-        as_right : StandsInRun setting.kinds task old place (Some bytes) → Right
-        as_right (inl there) = inl there
-        as_right (inr written) = inr (inl written)
-
-    then_so : new ≡ stood_then → Right
-    then_so is =
-        stands stood_then (ap (λ (fs : Files). file_at fs place) (sym is) ∙ e)
-        (then_stands setting task changes old failure.one_writer failure.fitting failure.fails.moment source place output)
-
-    by : FailsByItself (course_in setting.kinds task changes old) old failure.fails.moment fault new
-        ⊎ FailsByMachine (course_in setting.kinds task changes old) old failure.fails.moment setting.may_leave failure.before fault failure.after new → Right
-    by (inl itself) = then_so itself.files
-    by (inr (inl memory)) = then_so memory.1
-    by (inr (inr stopped)) = at (eq_by_cmp byte_order place stopped.step.0) refl
-      where
-        at : (b : Bool) → eq_by_cmp byte_order place stopped.step.0 ≡ b → Right
-        at true is = inr (inr (stopped.device ∙ ap faults.Device (sym (same_place place stopped.step.0 is))))
-        at false other =
-            stands stood_then
-            (sym (at_left stood_then stopped.step.0 stopped.left place ∙ ap (λ b. cond b stopped.left (file_at stood_then place)) other)
-            ∙ ap (λ (fs : Files). file_at fs place) (sym stopped.files) ∙ e)
-            (then_stands setting task changes old failure.one_writer failure.fitting failure.fails.moment source place output)
+    by : (file_at new place ≡ file_at (files_then (course_in setting.kinds task changes old) (ByChanges old) failure.fails.moment) place) ⊎ (fault ≡ faults.Device place)
+        → (file_at old place ≡ Some bytes) ⊎ IsWritten setting.kinds task old place bytes ⊎ (fault ≡ faults.Device place)
+    by (inl same) =
+        as_right (subst (λ (left : Option Bytes). StandsInRun setting.kinds task old place left) (sym same ∙ e)
+        (are_of_changes setting task changes old failure.is_way.1 failure.is_way.2 failure.fails.moment source place output).stood)
+    by (inr device) = inr (inr device)
 
 pub torn_places_are_of_the_run : (setting : Setting) → TornPlacesAreOfTheRun setting
-torn_places_are_of_the_run setting task changes old place lines new source output failure = by failure.fails.why
+torn_places_are_of_the_run setting InFull task changes old place lines new source output failure =
+    torn setting task changes old InFull failure.fails.moment failure.before failure.after place new failure.fails.why
+    (are_of_the_run setting task changes old source failure.fails.moment place output)
+torn_places_are_of_the_run setting (ByChanges stood) task changes old place lines new source output failure =
+    here (subst (λ (fs : Files). Failure setting (ByChanges fs) task changes old (faults.Device place) lines new) failure.is_way.0 failure)
   where
-    same_device : (p q : Place) → faults.Device p ≡ faults.Device q → p ≡ q
-    same_device p q e = cc
-
-    -- over a folder that is never torn no run blames the device by itself
-    whole : Setting
-    whole = record setting { may_leave = λ at was next left. ⊥ }
-
-    never : FailsByItself (course_in setting.kinds task changes old) old failure.fails.moment (faults.Device place) new → ⊥
-    never itself =
-        let torn = torn_places_are_of_full_runs whole task changes old place lines _ source output (record {
-          before = 0;
-          after = 0;
-          fails = record {
-            moment = record {
-              done = failure.fails.moment.done;
-              left = failure.fails.moment.left;
-              all = failure.fails.moment.all;
-              no_fault = failure.fails.moment.no_fault;
-              front = [];
-              behind = files_at_hand (course_in setting.kinds task changes old) (run_along (course_in setting.kinds task changes old) failure.fails.moment.done).held failure.fails.moment.left;
-              at_hand = refl;
-            };
-            printed = failure.fails.printed;
-            why = inl (record { faulty = itself.faulty; done = itself.done; files = refl });
-          };
-        }) in torn.4
-
-    by : FailsByItself (course_in setting.kinds task changes old) old failure.fails.moment (faults.Device place) new
-        ⊎ FailsByMachine (course_in setting.kinds task changes old) old failure.fails.moment setting.may_leave failure.before (faults.Device place) failure.after new
-        → IsTornInRun setting task old place (file_at new place)
-    by (inl itself) = absurd (never itself)
-    by (inr (inl memory)) = absurd (let d = memory.0 in (cc))
-    by (inr (inr stopped)) =
-        let here : stopped.step.0 ≡ place = same_device stopped.step.0 place (sym stopped.device) in
-        let stood = files_then (course_in setting.kinds task changes old) old failure.fails.moment in (
-          file_at stood place,
-          stopped.step.1,
-          then_stands setting task changes old failure.one_writer failure.fitting failure.fails.moment source place output,
-          next_stands setting task changes old failure.one_writer failure.fitting failure.fails.moment source place output stopped.step stopped.later stopped.next here,
-          subst (λ (left : Option Bytes). setting.may_leave place (file_at stood place) stopped.step.1 left)
-              (sym (ap (λ (fs : Files). file_at fs place) stopped.files
-              ∙ ap (λ (p : Place). file_at (with_left stood p stopped.left) place) here ∙ left_here stood place stopped.left))
-              (subst (λ (p : Place). setting.may_leave p (file_at stood p) stopped.step.1 stopped.left) here stopped.may),
-        )
+    here : Failure setting (ByChanges old) task changes old (faults.Device place) lines new → IsTornInRun setting task old place (file_at new place)
+    here so =
+        torn setting task changes old (ByChanges old) so.fails.moment so.before so.after place new so.fails.why
+        (are_of_changes setting task changes old so.is_way.1 so.is_way.2 so.fails.moment source place output)

@@ -1,7 +1,7 @@
 -- A run by changes goes further by an action, or fails at it.
 use Rattle.std.specs.Prelude.{ℕ, ◌≡◌, ◌≤◌, ◌⊎◌, ◌++◌, ◌||◌, Bool, true, false, cond, List, [], ◌∷◌, Ok, Err}
 use Rattle.std.specs.List.{AllByRecursion, list_any}
-use Rattle.std.proofs.Common.{refl, sym, ap, subst, ◌∙◌}
+use Rattle.std.proofs.Common.{refl, sym, ap, subst, ◌∙◌, arith}
 use Rattle.gb_folder.specs.Files.{Files, SameTearing, Tearing}
 use Rattle.gb_report.specs.declared.fault.Fault.{Fault}
 use Rattle.gb_report.specs.declared.fault.Fault.TheVariants as faults
@@ -17,10 +17,13 @@ use Rattle.gb_meaning.specs.Made.{rest_of}
 use Rattle.gb_run.specs.Asking.{made_by, printed_by}
 use Rattle.gb_run.specs.Course.{EndsWell, course_of}
 use Rattle.gb_run.specs.AskingChanges.{GoesOn, IsFitting, writers}
-use Rattle.gb_run.specs.Changing.{Fails}
+use Rattle.gb_run.specs.Failing.{ByChanges, Fails}
 use Rattle.gb_run.specs.Turn.{Ends, IsItsTurn, Stops}
 use Rattle.gb_run.proofs.Going.{IsGoing, begins, ends_well, fails_reading, fails_writing, reads_on, stands_old, writes_on}
 use Rattle.gb_run.proofs.Writer.{heads, writer_of}
+
+le_chain : (a b c : ℕ) → a ≤ b → b ≤ c → a ≤ c
+le_chain a b c le more = omega (arith, le, more)
 
 -- one action writes, so some action does
 pub some_writes : (kinds : Kinds) (actions : List Action) (w : Action) (ws : List Action) → writers kinds actions ≡ w ∷ ws → list_any (λ (a : Action). kinds.writes (kind_of a)) actions ≡ true
@@ -96,14 +99,14 @@ module _ (kinds : Kinds) (task : Task) (trees : Trees) (changes : List Changes) 
       pub fails_further : (first second : Tearing) (count between after : ℕ) (fault : Fault) (new : Files) (lines_now : List Text) → SameTearing first second → count ≤ between → between ≤ after
           → (kinds.writes (kind_of action) ≡ false → ((fault ≡ faults.OutOfMemory) ⊎ ((text : Text) × (fault ≡ faults.ActionFailed text) × (made_by kinds task action trees ≡ Err text))) × (new ≡ folder))
           → (IsItsTurn kinds task action trees changes seen folder → Stops kinds task action trees folder second between fault after new)
-          → lines_now ≡ lines → Fails (course_of kinds task trees changes (rest_of task old)) old first count fault lines_now after new
+          → lines_now ≡ lines → Fails (course_of kinds task trees changes (rest_of task old)) (ByChanges old) first count fault lines_now after new
       fails_further first second count between after fault new lines_now same le more unread unwritten prints = by (kinds.writes (kind_of action)) refl
         where
-          by : (b : Bool) → kinds.writes (kind_of action) ≡ b → Fails (course_of kinds task trees changes (rest_of task old)) old first count fault lines_now after new
+          by : (b : Bool) → kinds.writes (kind_of action) ≡ b → Fails (course_of kinds task trees changes (rest_of task old)) (ByChanges old) first count fault lines_now after new
           by true writes =
               fails_writing kinds task trees changes old folder lines action left going writes (is_one writes) first second count between after fault new lines_now same le more
               (subst (λ (fs : Files). Stops kinds task action trees fs second between fault after new) (stands_old kinds task trees changes old folder lines action left going writes (is_one writes)) (unwritten (turn writes))) prints
           by false quiet =
               let did = unread quiet in
-              subst (λ (fs : Files). Fails (course_of kinds task trees changes (rest_of task old)) old first count fault lines_now after fs) (sym did.1)
-              (fails_reading kinds task trees changes old folder lines action left going first count after fault lines_now did.0 prints)
+              subst (λ (fs : Files). Fails (course_of kinds task trees changes (rest_of task old)) (ByChanges old) first count fault lines_now after fs) (sym did.1)
+              (fails_reading kinds task trees changes old folder lines action left going first count after fault lines_now did.0 (le_chain count between after le more) prints)

@@ -1,10 +1,9 @@
 -- A run by changes on the way: what holds between its actions, and what its end comes to.
 use Rattle.std.specs.Prelude.{ℕ, ◌≡◌, ◌≤◌, ◌⊎◌, ◌++◌, ◌||◌, Bool, true, false, cond, if◌then◌else◌, List, [], ◌∷◌, None, Ok, Err, map}
 use Rattle.std.specs.List.{list_any}
-use Rattle.std.proofs.Common.{refl, sym, ap, subst, ◌∙◌, inl, inr, append_assoc}
+use Rattle.std.proofs.Common.{refl, sym, ap, subst, ◌∙◌, inl, inr, append_assoc, arith}
 use mathlib.Core.Bool.{true≢false}
-use Rattle.gb_folder.specs.Files.{Files, SameTearing, Tearing, file_at, with_left}
-use Rattle.gb_folder.proofs.Changes.{HasRisen-before}
+use Rattle.gb_folder.specs.Files.{Files, SameTearing, Tearing}
 use Rattle.gb_report.specs.declared.fault.Fault.{Fault}
 use Rattle.gb_report.specs.declared.fault.Fault.TheVariants as faults
 use Rattle.gb_action.specs.Changes.{Changes}
@@ -19,12 +18,14 @@ use Rattle.gb_meaning.specs.Made.{full_outputs, put_over, rest_of}
 use Rattle.gb_meaning.specs.Run.{step_by, unless_hindered}
 use Rattle.gb_run.specs.Asking.{made_by, printed_by}
 use Rattle.gb_run.specs.Course.{Course, EndsWell, course_of, files_at_hand, free_files, lines_by, run_along}
-use Rattle.gb_run.proofs.Endings.{more_fault, more_held, stops_done, stops_fault, with_none}
+use Rattle.gb_run.proofs.Endings.{more_fault, more_held, with_none}
+use Rattle.gb_run.proofs.Moments.{fails_at, fails_between}
 use Rattle.gb_run.proofs.Room.{or_none}
 use Rattle.gb_run.specs.AskingChanges.{writers}
-use Rattle.gb_run.specs.Changing.{AreAtHand, Fails, FailsByItself, FailsByMachine, IsStopped, Moment, ended_files}
+use Rattle.gb_run.specs.Failing.{AreAtHand, ByChanges, Fails, ended_files}
+use Rattle.gb_run.specs.Stepping.{FailsByMachine}
 use Rattle.gb_run.specs.Steps.{LeadTo, after_steps}
-use Rattle.gb_run.specs.Turn.{Ends, Stops}
+use Rattle.gb_run.specs.Turn.{AreOfTurn, Ends, Stops}
 
 abbrev pub course_in : Kinds → Task → Trees → List Changes → Files → Course
 course_in kinds task trees changes old = course_of kinds task trees changes (rest_of task old)
@@ -45,7 +46,7 @@ module _ (kinds : Kinds) (task : Task) (trees : Trees) (changes : List Changes) 
     pub done : List Action
     pub all : task.actions ≡ done ++ left
     pub no_fault : (run_along course done).fault ≡ None
-    pub stands : folder ≡ ended_files course old done
+    pub stands : folder ≡ ended_files course (ByChanges old) done
     pub few : full_outputs task.outputs (run_along course done).held ≡ []
     pub none_held : any_writes done ≡ false → (run_along course done).held ≡ []
     pub printed : lines ≡ lines_by course done
@@ -54,16 +55,9 @@ module _ (kinds : Kinds) (task : Task) (trees : Trees) (changes : List Changes) 
   begins = record { done = []; all = refl; no_fault = refl; stands = refl; few = none_full task.outputs; none_held = λ _. refl; printed = refl }
 
   -- memory ran out before it began
-  pub fails_early : (may_leave : Tearing) (before : ℕ) (fault : Fault) (after : ℕ) → fault ≡ faults.OutOfMemory → Fails course old may_leave before fault [] after old
-  fails_early may_leave before fault after is = record {
-    moment = record { done = []; left = task.actions; all = refl; no_fault = refl; front = []; behind = []; at_hand = nothing task.actions };
-    printed = refl;
-    why = inr (inl (is, refl));
-  }
-    where
-      nothing : (left : List Action) → AreAtHand (course_of kinds task trees changes (rest_of task old)) old [] left []
-      nothing [] = refl
-      nothing (action ∷ left) = inl refl
+  pub fails_early : (may_leave : Tearing) (before : ℕ) (fault : Fault) (after : ℕ) → fault ≡ faults.OutOfMemory → Fails course (ByChanges old) may_leave before fault [] after old
+  fails_early may_leave before fault after is =
+      fails_between (course_of kinds task trees changes (rest_of task old)) (ByChanges old) [] task.actions refl refl may_leave before after fault [] old is refl refl
 
   lines_more : (done : List Action) (action : Action) → lines_by course (done ++ action ∷ []) ≡ lines_by course done ++ printed_by kinds task action trees changes
   lines_more [] action = with_none (printed_by kinds task action trees changes)
@@ -96,12 +90,9 @@ module _ (kinds : Kinds) (task : Task) (trees : Trees) (changes : List Changes) 
         }
 
     -- memory ran out behind the last action
-    pub fails_late : IsGoing [] folder lines → (may_leave : Tearing) (before : ℕ) (fault : Fault) (after : ℕ) → fault ≡ faults.OutOfMemory → Fails course old may_leave before fault lines after folder
-    fails_late going may_leave before fault after is = record {
-      moment = record { done = going.done; left = []; all = going.all; no_fault = going.no_fault; front = []; behind = []; at_hand = refl };
-      printed = going.printed;
-      why = inr (inl (is, going.stands));
-    }
+    pub fails_late : IsGoing [] folder lines → (may_leave : Tearing) (before : ℕ) (fault : Fault) (after : ℕ) → fault ≡ faults.OutOfMemory → Fails course (ByChanges old) may_leave before fault lines after folder
+    fails_late going may_leave before fault after is =
+        fails_between (course_of kinds task trees changes (rest_of task old)) (ByChanges old) going.done [] going.all going.no_fault may_leave before after fault lines folder is going.printed going.stands
 
     module _ (action : Action) (left : List Action) (going : IsGoing (action ∷ left) folder lines) where
       all_more : task.actions ≡ (going.done ++ action ∷ []) ++ left
@@ -137,25 +128,27 @@ module _ (kinds : Kinds) (task : Task) (trees : Trees) (changes : List Changes) 
 
       -- it stops before it did anything
       pub fails_reading : (may_leave : Tearing) (before after : ℕ) (fault : Fault) (lines_now : List Text)
-          → (fault ≡ faults.OutOfMemory) ⊎ ((text : Text) × (fault ≡ faults.ActionFailed text) × (made_by kinds task action trees ≡ Err text)) → lines_now ≡ lines → Fails course old may_leave before fault lines_now after folder
-      fails_reading may_leave before after fault lines_now why prints = record { moment = here; printed = prints ∙ going.printed; why = by why }
+          → (fault ≡ faults.OutOfMemory) ⊎ ((text : Text) × (fault ≡ faults.ActionFailed text) × (made_by kinds task action trees ≡ Err text)) → before ≤ after → lines_now ≡ lines
+          → Fails course (ByChanges old) may_leave before fault lines_now after folder
+      fails_reading may_leave before after fault lines_now why le prints =
+          fails_at (course_of kinds task trees changes (rest_of task old)) (ByChanges old) going.done left action going.all going.no_fault may_leave may_leave before before after fault lines_now folder
+          same_tearing (refl_le before) le (prints ∙ going.printed) (record { front = []; behind = []; at_hand = inl refl; why = by why })
         where
-          here : Moment (course_of kinds task trees changes (rest_of task old)) old
-          here = record { done = going.done; left = action ∷ left; all = going.all; no_fault = going.no_fault; front = []; behind = []; at_hand = inl refl }
+          same_tearing : SameTearing may_leave may_leave
+          same_tearing place was next left = ((λ may. may), (λ may. may))
+
+          refl_le : (n : ℕ) → n ≤ n
+          refl_le n = omega arith
 
           by : (fault ≡ faults.OutOfMemory) ⊎ ((text : Text) × (fault ≡ faults.ActionFailed text) × (made_by kinds task action trees ≡ Err text))
-              → FailsByItself (course_of kinds task trees changes (rest_of task old)) old here fault folder ⊎ FailsByMachine (course_of kinds task trees changes (rest_of task old)) old here may_leave before fault after folder
+              → ((step_by task.outputs (rest_of task old) (run_along (course_of kinds task trees changes (rest_of task old)) going.done).held (made_by kinds task action trees) ≡ Err fault)
+              × (folder ≡ ended_files (course_of kinds task trees changes (rest_of task old)) (ByChanges old) going.done))
+              ⊎ FailsByMachine may_leave before (ended_files (course_of kinds task trees changes (rest_of task old)) (ByChanges old) going.done) [] fault after folder
           by (inl memory) = inr (inl (memory, going.stands))
-          by (inr failed) =
-              let stops : step_by task.outputs (rest_of task old) (run_along (course_of kinds task trees changes (rest_of task old)) going.done).held (made_by kinds task action trees) ≡ Err fault =
-              ap (step_by task.outputs (rest_of task old) (run_along (course_of kinds task trees changes (rest_of task old)) going.done).held) failed.2 ∙ ap Err (sym failed.1) in
-              inl (record {
-                faulty = ap (λ (actions : List Action). (run_along (course_of kinds task trees changes (rest_of task old)) actions).fault) going.all
-                    ∙ stops_fault kinds task.outputs task.values trees (rest_of task old) going.done left [] action fault going.no_fault stops;
-                done = ap (λ (actions : List Action). (run_along (course_of kinds task trees changes (rest_of task old)) actions).done) going.all
-                    ∙ stops_done kinds task.outputs task.values trees (rest_of task old) going.done left [] action fault going.no_fault stops;
-                files = going.stands;
-              })
+          by (inr failed) = inl (
+            ap (step_by task.outputs (rest_of task old) (run_along (course_of kinds task trees changes (rest_of task old)) going.done).held) failed.2 ∙ ap Err (sym failed.1),
+            going.stands,
+          )
 
       -- ---- the action is the one that writes
 
@@ -201,53 +194,30 @@ module _ (kinds : Kinds) (task : Task) (trees : Trees) (changes : List Changes) 
             now_writes = any_more ∙ ap (λ b. b || kinds.writes (kind_of action)) none_before ∙ writes
 
         pub fails_writing : (first second : Tearing) (before between after : ℕ) (fault : Fault) (new : Files) (lines_now : List Text) → SameTearing first second → before ≤ between → between ≤ after
-            → Stops kinds task action trees old second between fault after new → lines_now ≡ lines → Fails course old first before fault lines_now after new
-        fails_writing first second before between after fault new lines_now same le more stops prints = record { moment = here; printed = prints ∙ going.printed; why = by stops.why }
+            → Stops kinds task action trees old second between fault after new → lines_now ≡ lines → Fails course (ByChanges old) first before fault lines_now after new
+        fails_writing first second before between after fault new lines_now same le more stops prints =
+            fails_at (course_of kinds task trees changes (rest_of task old)) (ByChanges old) going.done left action going.all going.no_fault first second before between after fault lines_now new
+            same le more (prints ∙ going.printed) (record { front = stops.front; behind = stops.behind; at_hand = at stops.at_hand; why = by stops.why })
           where
-            ended_old : ended_files (course_of kinds task trees changes (rest_of task old)) old going.done ≡ old
+            ended_old : ended_files (course_of kinds task trees changes (rest_of task old)) (ByChanges old) going.done ≡ old
             ended_old = ap (λ b. if b then put_over (rest_of task old) (run_along (course_of kinds task trees changes (rest_of task old)) going.done).held else old) none_before
 
-            hand : AreAtHand (course_of kinds task trees changes (rest_of task old)) old going.done (action ∷ left) (stops.front ++ stops.behind)
-            hand = at stops.at_hand
-              where
-                at : (stops.front ++ stops.behind ≡ []) ⊎ LeadTo old (put_over (rest_of task old) (put_over [] (free_files task.outputs [] (made_by kinds task action trees)))) (stops.front ++ stops.behind)
-                    → AreAtHand (course_of kinds task trees changes (rest_of task old)) old going.done (action ∷ left) (stops.front ++ stops.behind)
-                at (inl none) = inl none
-                at (inr leads) = inr (
-                  writes,
-                  subst (λ (fs : Files). LeadTo fs (put_over (rest_of task old) (put_over (run_along (course_of kinds task trees changes (rest_of task old)) going.done).held
-                      (files_at_hand (course_of kinds task trees changes (rest_of task old)) (run_along (course_of kinds task trees changes (rest_of task old)) going.done).held (action ∷ left)))) (stops.front ++ stops.behind)) (sym ended_old)
-                      (subst (λ (held : Files). LeadTo old (put_over (rest_of task old) (put_over held (free_files task.outputs held (made_by kinds task action trees)))) (stops.front ++ stops.behind)) (sym held_none) leads),
-                )
-
-            here : Moment (course_of kinds task trees changes (rest_of task old)) old
-            here = record { done = going.done; left = action ∷ left; all = going.all; no_fault = going.no_fault; front = stops.front; behind = stops.behind; at_hand = hand }
-
-            old_then : after_steps old stops.front ≡ after_steps (ended_files (course_of kinds task trees changes (rest_of task old)) old going.done) stops.front
-            old_then = ap (λ (fs : Files). after_steps fs stops.front) (sym ended_old)
+            at : AreOfTurn kinds task action trees old (stops.front ++ stops.behind)
+                → AreAtHand (course_of kinds task trees changes (rest_of task old)) (ByChanges old) going.done (action ∷ left) (stops.front ++ stops.behind)
+            at (inl none) = inl none
+            at (inr leads) = inr (
+              writes,
+              subst (λ (fs : Files). LeadTo fs (put_over (rest_of task old) (put_over (run_along (course_of kinds task trees changes (rest_of task old)) going.done).held
+                  (files_at_hand (course_of kinds task trees changes (rest_of task old)) (run_along (course_of kinds task trees changes (rest_of task old)) going.done).held (action ∷ left)))) (stops.front ++ stops.behind)) (sym ended_old)
+                  (subst (λ (held : Files). LeadTo old (put_over (rest_of task old) (put_over held (free_files task.outputs held (made_by kinds task action trees)))) (stops.front ++ stops.behind)) (sym held_none) leads),
+            )
 
             by : ((step_by task.outputs (rest_of task old) [] (made_by kinds task action trees) ≡ Err fault) × (new ≡ after_steps old stops.front))
-                ⊎ ((fault ≡ faults.OutOfMemory) × (new ≡ after_steps old stops.front))
-                ⊎ IsStopped second between (after_steps old stops.front) stops.behind fault after new
-                → FailsByItself (course_of kinds task trees changes (rest_of task old)) old here fault new ⊎ FailsByMachine (course_of kinds task trees changes (rest_of task old)) old here first before fault after new
-            by (inl itself) =
-                let step : step_by task.outputs (rest_of task old) (run_along (course_of kinds task trees changes (rest_of task old)) going.done).held (made_by kinds task action trees) ≡ Err fault =
-                ap (λ (held : Files). step_by task.outputs (rest_of task old) held (made_by kinds task action trees)) held_none ∙ itself.0 in
-                inl (record {
-                  faulty = ap (λ (actions : List Action). (run_along (course_of kinds task trees changes (rest_of task old)) actions).fault) going.all
-                      ∙ stops_fault kinds task.outputs task.values trees (rest_of task old) going.done left [] action fault going.no_fault step;
-                  done = ap (λ (actions : List Action). (run_along (course_of kinds task trees changes (rest_of task old)) actions).done) going.all
-                      ∙ stops_done kinds task.outputs task.values trees (rest_of task old) going.done left [] action fault going.no_fault step;
-                  files = itself.1 ∙ old_then;
-                })
-            by (inr (inl memory)) = inr (inl (memory.0, memory.1 ∙ old_then))
-            by (inr (inr stopped)) = inr (inr (record {
-              step = stopped.step;
-              later = stopped.later;
-              next = stopped.next;
-              device = stopped.device;
-              risen = HasRisen-before before between after le more stopped.risen;
-              left = stopped.left;
-              may = (same stopped.step.0 _ _ stopped.left).0 (subst (λ (fs : Files). second stopped.step.0 (file_at fs stopped.step.0) stopped.step.1 stopped.left) old_then stopped.may);
-              files = stopped.files ∙ ap (λ (fs : Files). with_left fs stopped.step.0 stopped.left) old_then;
-            }))
+                ⊎ FailsByMachine second between (after_steps old stops.front) stops.behind fault after new
+                → ((step_by task.outputs (rest_of task old) (run_along (course_of kinds task trees changes (rest_of task old)) going.done).held (made_by kinds task action trees) ≡ Err fault)
+                × (new ≡ after_steps (ended_files (course_of kinds task trees changes (rest_of task old)) (ByChanges old) going.done) stops.front))
+                ⊎ FailsByMachine second between (after_steps (ended_files (course_of kinds task trees changes (rest_of task old)) (ByChanges old) going.done) stops.front) stops.behind fault after new
+            by why = subst (λ (fs : Files). ((step_by task.outputs (rest_of task old) (run_along (course_of kinds task trees changes (rest_of task old)) going.done).held (made_by kinds task action trees) ≡ Err fault)
+                × (new ≡ after_steps fs stops.front)) ⊎ FailsByMachine second between (after_steps fs stops.front) stops.behind fault after new) (sym ended_old)
+                (subst (λ (held : Files). ((step_by task.outputs (rest_of task old) held (made_by kinds task action trees) ≡ Err fault) × (new ≡ after_steps old stops.front))
+                ⊎ FailsByMachine second between (after_steps old stops.front) stops.behind fault after new) (sym held_none) why)

@@ -2,11 +2,12 @@ pub mod ByText
 pub mod Placed
 pub mod Beside
 pub mod Room
-pub mod Written
 pub mod Endings
 pub mod Agreed
 pub mod AtOutputs
 pub mod Stepped
+pub mod AsSteps
+pub mod Moments
 pub mod Running
 pub mod Invented
 pub mod FailedRuns

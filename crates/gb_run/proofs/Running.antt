@@ -1,10 +1,9 @@
 -- A run on the way: what holds between its actions, and what its end comes to.
-use Rattle.std.proofs.Common.{◌≡◌, ◌≤◌, ◌⊎◌, inl, inr, ℕ, true, List, [], ◌∷◌, ◌++◌, None, Result, Ok, Err, refl, sym, ap, subst, ◌∙◌, append_assoc}
+use Rattle.std.proofs.Common.{◌≡◌, ◌≤◌, ℕ, true, List, [], ◌∷◌, ◌++◌, None, Result, Ok, refl, sym, ap, subst, ◌∙◌, append_assoc}
 use Rattle.std.specs.FinMap.Entries.{is_sorted}
 use Rattle.std.specs.List.{flat_map}
 use Rattle.gb_core.specs.Lists.{byte_order}
 use Rattle.gb_folder.specs.Files.{Files, SameTearing, Tearing}
-use Rattle.gb_folder.proofs.Changes.{HasRisen-before}
 use Rattle.gb_report.specs.declared.fault.Fault.{Fault}
 use Rattle.gb_report.specs.declared.fault.Fault.TheVariants as faults
 use Rattle.gb_action.specs.declared.reply.Written.{Written}
@@ -13,9 +12,11 @@ use Rattle.gb_plan.specs.declared.task.Action.{Action}
 use Rattle.gb_meaning.specs.Kinds.{kind_of}
 use Rattle.gb_meaning.specs.Made.{put_over}
 use Rattle.gb_meaning.specs.Run.{step_by}
-use Rattle.gb_run.specs.Course.{Course, EndsWell, Fails, FailsByItself, FailsByMachine, IsStopped, Moment, files_at_hand, lines_by, run_along}
+use Rattle.gb_run.specs.Course.{Course, EndsWell, lines_by, run_along}
+use Rattle.gb_run.specs.Failing.{Fails, InFull}
 use Rattle.gb_run.specs.Step.{IsHeld, StopsIn}
-use Rattle.gb_run.proofs.Endings.{more_fault, more_held, stops_done, stops_fault, with_none}
+use Rattle.gb_run.proofs.Endings.{more_fault, more_held, with_none}
+use Rattle.gb_run.proofs.Moments.{fails_at, fails_between}
 
 -- Some first actions have ended; these are left.
 pub record IsRunning (course : Course) (left : List Action) (taken folder : Files) (lines : List Text) : Type 0 where
@@ -48,20 +49,8 @@ module _ (course : Course) where
   }
 
   -- memory ran out before it began
-  pub fails_early : (may_leave : Tearing) (before : ℕ) (fault : Fault) (after : ℕ) → fault ≡ faults.OutOfMemory → Fails course may_leave before fault [] after course.rest
-  fails_early may_leave before fault after is = record {
-    moment = record {
-      done = [];
-      left = course.task.actions;
-      all = refl;
-      no_fault = refl;
-      front = [];
-      behind = files_at_hand course [] course.task.actions;
-      at_hand = refl;
-    };
-    printed = refl;
-    why = inr (inl (is, refl));
-  }
+  pub fails_early : (may_leave : Tearing) (before : ℕ) (fault : Fault) (after : ℕ) → fault ≡ faults.OutOfMemory → Fails course InFull may_leave before fault [] after course.rest
+  fails_early may_leave before fault after is = fails_between course InFull [] course.task.actions refl refl may_leave before after fault [] course.rest is refl refl
 
   module _ (taken folder : Files) (lines : List Text) where
     pub ends_well : IsRunning course [] taken folder lines → EndsWell course lines folder
@@ -74,12 +63,9 @@ module _ (course : Course) where
         }
 
     -- memory ran out behind the last action
-    pub fails_late : IsRunning course [] taken folder lines → (may_leave : Tearing) (before : ℕ) (fault : Fault) (after : ℕ) → fault ≡ faults.OutOfMemory → Fails course may_leave before fault lines after folder
-    fails_late running may_leave before fault after is = record {
-      moment = record { done = running.done; left = []; all = running.all; no_fault = running.no_fault; front = []; behind = []; at_hand = refl };
-      printed = running.printed;
-      why = inr (inl (is, running.held.files));
-    }
+    pub fails_late : IsRunning course [] taken folder lines → (may_leave : Tearing) (before : ℕ) (fault : Fault) (after : ℕ) → fault ≡ faults.OutOfMemory → Fails course InFull may_leave before fault lines after folder
+    fails_late running may_leave before fault after is =
+        fails_between course InFull running.done [] running.all running.no_fault may_leave before after fault lines folder is running.printed running.held.files
 
     module _ (action : Action) (left : List Action) (running : IsRunning course (action ∷ left) taken folder lines) where
       -- the next action ends
@@ -102,48 +88,7 @@ module _ (course : Course) where
       -- it stops
       pub fails : (first second : Tearing) (before between after : ℕ) (fault : Fault) (new : Files) (lines_now : List Text) → SameTearing first second → before ≤ between → between ≤ after
           → ((rest held : Files) → IsHeld rest held taken folder → StopsIn course.task.outputs rest held (made_by course action) second between fault after new)
-          → lines_now ≡ lines → Fails course first before fault lines_now after new
-      fails first second before between after fault new lines_now same le more stop prints = record {
-        moment = here;
-        printed = prints ∙ running.printed;
-        why = at_stop stops.why;
-      }
-        where
-          stops : StopsIn course.task.outputs course.rest (run_along course running.done).held (made_by course action) second between fault after new
-          stops = stop course.rest (run_along course running.done).held running.held
-
-          here : Moment course
-          here = record {
-            done = running.done;
-            left = action ∷ left;
-            all = running.all;
-            no_fault = running.no_fault;
-            front = stops.front;
-            behind = stops.behind;
-            at_hand = stops.at_hand;
-          }
-
-          at_stop : ((step_by course.task.outputs course.rest (run_along course running.done).held (made_by course action) ≡ Err fault) × (new ≡ put_over (put_over course.rest (run_along course running.done).held) stops.front))
-              ⊎ ((fault ≡ faults.OutOfMemory) × (new ≡ put_over (put_over course.rest (run_along course running.done).held) stops.front))
-              ⊎ IsStopped second between (put_over (put_over course.rest (run_along course running.done).held) stops.front) stops.behind fault after new
-              → FailsByItself course here fault new ⊎ FailsByMachine course here first before fault after new
-          at_stop (inl itself) = inl (record {
-            faulty =
-                ap (λ (actions : List Action). (run_along course actions).fault) running.all
-                ∙ stops_fault course.kinds course.task.outputs course.task.values course.trees course.rest running.done left [] action fault running.no_fault itself.0;
-            done =
-                ap (λ (actions : List Action). (run_along course actions).done) running.all
-                ∙ stops_done course.kinds course.task.outputs course.task.values course.trees course.rest running.done left [] action fault running.no_fault itself.0;
-            files = itself.1;
-          })
-          at_stop (inr (inl memory)) = inr (inl memory)
-          at_stop (inr (inr stopped)) = inr (inr (record {
-            file = stopped.file;
-            later = stopped.later;
-            next = stopped.next;
-            device = stopped.device;
-            risen = HasRisen-before before between after le more stopped.risen;
-            left = stopped.left;
-            may = (same stopped.file.0 _ _ stopped.left).0 stopped.may;
-            files = stopped.files;
-          }))
+          → lines_now ≡ lines → Fails course InFull first before fault lines_now after new
+      fails first second before between after fault new lines_now same le more stop prints =
+          fails_at course InFull running.done left action running.all running.no_fault first second before between after fault lines_now new same le more (prints ∙ running.printed)
+          (stop course.rest (run_along course running.done).held running.held)

@@ -1,7 +1,7 @@
 -- One action of a run: it ends, or stops.
-use Rattle.std.proofs.Common.{◌≡◌, ◌⊎◌, inl, inr, ℕ, List, [], ◌∷◌, ◌++◌, Some, Result, Ok, Err, refl, sym, ap, subst, ◌∙◌}
+use Rattle.std.proofs.Common.{◌≡◌, ◌⊎◌, inl, inr, ℕ, true, List, [], ◌∷◌, ◌++◌, Some, Result, Ok, Err, refl, sym, ap, subst, ◌∙◌}
 use Rattle.gb_core.specs.Lists.{first_of}
-use Rattle.gb_folder.specs.Files.{Place, Bytes, Contents, Files, HasRisen, Tearing, file_at, is_blocked, with_left}
+use Rattle.gb_folder.specs.Files.{Place, Bytes, Contents, Files, HasRisen, Tearing, is_blocked}
 use Rattle.gb_report.specs.declared.fault.Fault.{Fault}
 use Rattle.gb_report.specs.declared.fault.Fault.TheVariants as faults
 use Rattle.gb_action.specs.declared.reply.Written.{Written}
@@ -11,13 +11,18 @@ use Rattle.gb_store.specs.Changes.{IsHindered}
 use Rattle.gb_meaning.specs.Made.{placed, put_over, step_faults}
 use Rattle.gb_meaning.specs.Run.{has_room, step_by}
 use Rattle.gb_meaning.proofs.Lemmas.Files.{sorted-put_over}
-use Rattle.gb_run.specs.Course.{IsStopped, free_files}
+use Rattle.gb_run.specs.Course.{free_files}
+use Rattle.gb_run.specs.Named.{put}
 use Rattle.gb_run.specs.Placing.{blank, faults_beside}
 use Rattle.gb_run.specs.Step.{IsHeld, StopsIn}
-use Rattle.gb_run.specs.Writing.{IsCutShort, IsShutOut, with_all}
+use Rattle.gb_run.specs.Stepping.{FailsByMachine, HasRoom, IsCutShort, IsShutOut}
+use Rattle.gb_run.specs.Steps.{Step, after_steps, folder_after}
+use Rattle.gb_run.proofs.AsSteps.{IsParted, after_put, parted, room_of}
 use Rattle.gb_run.proofs.Beside.{beside_held, over_rest, taken_then}
 use Rattle.gb_run.proofs.Endings.{with_none}
+use Rattle.gb_run.proofs.Moments.{by_machine}
 use Rattle.gb_run.proofs.Room.{free_is, step_blocked, step_ends, step_hindered}
+use Rattle.gb_run.proofs.Writer.{heads}
 
 module _ (outputs : List Output) (rest held taken folder : Files) (made : Result (List Written) Text) (is_held : IsHeld rest held taken folder)
     (may_leave : Tearing) (before : ℕ) (fault : Fault) (after : ℕ) where
@@ -26,11 +31,11 @@ module _ (outputs : List Output) (rest held taken folder : Files) (made : Result
 
   -- nothing was written, and the action itself stops here
   pub stops_itself : step_by outputs rest held made ≡ Err fault → Stops folder
-  stops_itself is = record { front = []; behind = free_files outputs held made; at_hand = refl; why = inl (is, is_held.files) }
+  stops_itself is = record { front = []; behind = put (free_files outputs held made); at_hand = refl; why = inl (is, is_held.files) }
 
   -- nothing was written, and memory ran out
   pub stops_for_memory : fault ≡ faults.OutOfMemory → Stops folder
-  stops_for_memory is = record { front = []; behind = free_files outputs held made; at_hand = refl; why = inr (inl (is, is_held.files)) }
+  stops_for_memory is = record { front = []; behind = put (free_files outputs held made); at_hand = refl; why = inr (inl (is, is_held.files)) }
 
   -- the action failed
   pub stops_asked : (text : Text) → fault ≡ faults.ActionFailed text → made ≡ Err text → Stops folder
@@ -56,66 +61,66 @@ module _ (outputs : List Output) (rest held taken folder : Files) (made : Result
       free_now = ap (free_files outputs held) is ∙ free_is outputs rest held written none_held
 
       -- all is written, and memory ran out
-      pub stops_printing : (new : Files) → new ≡ put_over folder (put_over [] (placed outputs written)) → fault ≡ faults.OutOfMemory → Stops new
+      pub stops_printing : (new : Files) → new ≡ after_steps folder (put (put_over [] (placed outputs written))) → fault ≡ faults.OutOfMemory → Stops new
       stops_printing new now told = record {
-        front = by_place;
+        front = put by_place;
         behind = [];
-        at_hand = free_now ∙ sym (with_none by_place);
-        why = inr (inl (told, now ∙ ap (λ (m : Files). put_over m by_place) is_held.files));
+        at_hand = with_none (put by_place) ∙ ap put (sym free_now);
+        why = inr (inl (told, now ∙ ap (λ (m : Files). after_steps m (put by_place)) is_held.files));
       }
 
       module _ (old new : Contents) (stood : old.files ≡ folder) (risen : (place : Place) → fault ≡ faults.Device place → HasRisen before after) where
-        then : (front : List (Place × Bytes)) → put_over old.files front ≡ put_over (put_over rest held) front
-        then front = ap (λ (m : Files). put_over m front) (stood ∙ is_held.files)
+        then : (front : List Step) → after_steps old.files front ≡ after_steps (put_over rest held) front
+        then front = ap (λ (m : Files). after_steps m front) (stood ∙ is_held.files)
 
         -- the writing of its files was cut short
-        pub stops_writing : (files : List (Place × Bytes)) → files ≡ put_over [] (placed outputs written) → IsCutShort may_leave files old fault new → Stops new.files
+        pub stops_writing : (files : List (Place × Bytes)) → files ≡ put_over [] (placed outputs written) → IsCutShort may_leave (put files) old fault new → Stops new.files
         stops_writing files same cut = record {
           front = cut.front;
-          behind = cut.file ∷ cut.behind;
-          at_hand = all;
+          behind = cut.step ∷ cut.behind;
+          at_hand = sym cut.all ∙ ap put (same ∙ sym free_now);
           why = at_stop cut.stopped;
         }
           where
-            all : free_files outputs held made ≡ cut.front ++ cut.file ∷ cut.behind
-            all = free_now ∙ sym same ∙ cut.all
+            parts : IsParted files cut.front (cut.step ∷ cut.behind)
+            parts = parted files cut.front (cut.step ∷ cut.behind) (sym cut.all)
 
-            at_stop : IsShutOut cut.file (with_all old cut.front) fault new ⊎ IsHindered may_leave cut.file.0 (Some cut.file.1) (with_all old cut.front) fault new
-                → ((step_by outputs rest held made ≡ Err fault) × (new.files ≡ put_over (put_over rest held) cut.front))
-                ⊎ ((fault ≡ faults.OutOfMemory) × (new.files ≡ put_over (put_over rest held) cut.front))
-                ⊎ IsStopped may_leave before (put_over (put_over rest held) cut.front) (cut.file ∷ cut.behind) fault after new.files
+            -- what was put before the one that was shut out
+            blocked : (later : List (Place × Bytes)) → cut.step ∷ cut.behind ≡ put later → files ≡ parts.first ++ later → is_blocked (after_steps old.files cut.front) cut.step.0 ≡ true
+                → step_by outputs rest held (Ok written) ≡ Err (faults.Blocked cut.step.0)
+            blocked [] is_behind all hit = absurd (let e = is_behind in (cc))
+            blocked (file ∷ later) is_behind all hit =
+                step_blocked outputs rest held written parts.first file later is_held.in_order (sym same ∙ all) none_held
+                (room_of (put_over rest held) parts.first
+                (subst (λ (ss : List Step). HasRoom (put_over rest held) ss) parts.front_is (subst (λ (m : Files). HasRoom m cut.front) (stood ∙ is_held.files) cut.room)))
+                (ap (λ (p : Place). is_blocked (put_over (put_over rest held) parts.first) p) (sym here)
+                ∙ ap (λ (m : Files). is_blocked m cut.step.0) (sym (then cut.front ∙ ap (after_steps (put_over rest held)) parts.front_is ∙ after_put (put_over rest held) parts.first)) ∙ hit)
+                ∙ ap (λ (p : Place). Err (faults.Blocked p)) (sym here)
+              where
+                here : cut.step.0 ≡ file.0
+                here = ap (λ (s : Step). s.0) (heads cut.step (file.0, Some file.1) cut.behind (put later) is_behind)
+
+            at_stop : IsShutOut cut.step (folder_after old cut.front) fault new ⊎ IsHindered may_leave cut.step.0 cut.step.1 (folder_after old cut.front) fault new
+                → ((step_by outputs rest held made ≡ Err fault) × (new.files ≡ after_steps (put_over rest held) cut.front))
+                ⊎ FailsByMachine may_leave before (after_steps (put_over rest held) cut.front) (cut.step ∷ cut.behind) fault after new.files
             at_stop (inl shut) = inl (
-              ap (step_by outputs rest held) is
-                  ∙ step_blocked outputs rest held written cut.front cut.file cut.behind is_held.in_order (sym same ∙ cut.all) none_held
-                  (subst (λ (m : Files). has_room m cut.front) (stood ∙ is_held.files) cut.room)
-                  (ap (λ (m : Files). is_blocked m cut.file.0) (sym (then cut.front)) ∙ shut.0)
-                  ∙ ap Err (sym shut.1),
-              ap (λ (c : Contents). c.files) shut.2 ∙ then cut.front,
+              ap (step_by outputs rest held) is ∙ blocked parts.later parts.behind_is parts.all shut.blocked ∙ ap Err (sym shut.told),
+              ap (λ (c : Contents). c.files) shut.same ∙ then cut.front,
             )
-            at_stop (inr (inl memory)) = inr (inl (memory.0, ap (λ (c : Contents). c.files) memory.1 ∙ then cut.front))
-            at_stop (inr (inr torn)) = inr (inr (record {
-              file = cut.file;
-              later = cut.behind;
-              next = refl;
-              device = torn.0;
-              risen = risen cut.file.0 torn.0;
-              left = torn.1.0;
-              may = subst (λ (m : Files). may_leave cut.file.0 (file_at m cut.file.0) (Some cut.file.1) torn.1.0) (then cut.front) torn.1.1;
-              files = ap (λ (c : Contents). c.files) torn.1.2 ∙ ap (λ (m : Files). with_left m cut.file.0 torn.1.0) (then cut.front);
-            }))
+            at_stop (inr hindered) = inr (by_machine may_leave before after old (after_steps (put_over rest held) cut.front) cut.front cut.step cut.behind fault new (then cut.front) risen hindered)
 
 -- an action ends
 pub goes_on : (outputs : List Output) (rest held taken folder : Files) (made : Result (List Written) Text) → IsHeld rest held taken folder
     → (written : List Written) → made ≡ Ok written → faults_beside outputs taken (put_over [] (placed outputs written)) ≡ []
-    → (files : List (Place × Bytes)) → files ≡ put_over [] (placed outputs written) → has_room folder files
-    → (taken_now new : Files) → taken_now ≡ put_over taken (blank (put_over [] (placed outputs written))) → new ≡ put_over folder files
+    → (files : List (Place × Bytes)) → files ≡ put_over [] (placed outputs written) → HasRoom folder (put files)
+    → (taken_now new : Files) → taken_now ≡ put_over taken (blank (put_over [] (placed outputs written))) → new ≡ after_steps folder (put files)
     → (more : Files) × (step_by outputs rest held made ≡ Ok more) × IsHeld rest more taken_now new
 goes_on outputs rest held taken folder made is_held written is none files same room taken_now new takes puts =
     let by_place = put_over [] (placed outputs written) in
     let no_faults : step_faults outputs held (placed outputs written) ≡ [] =
     sym (ap (λ (places : Files). faults_beside outputs places by_place) is_held.places ∙ beside_held outputs held (placed outputs written) is_held.in_order) ∙ none in
     let has : has_room (put_over rest held) by_place =
-    subst (λ (m : Files). has_room m by_place) is_held.files (subst (λ (fs : List (Place × Bytes)). has_room folder fs) same room) in (
+    subst (λ (m : Files). has_room m by_place) is_held.files (subst (λ (fs : List (Place × Bytes)). has_room folder fs) same (room_of folder files room)) in (
       put_over held (placed outputs written),
       ap (step_by outputs rest held) is ∙ step_ends outputs rest held written no_faults has,
       record {
@@ -123,7 +128,7 @@ goes_on outputs rest held taken folder made is_held written is none files same r
         in_order = sorted-put_over held (placed outputs written) is_held.in_order;
         places = takes ∙ ap (λ (places : Files). put_over places (blank by_place)) is_held.places ∙ taken_then held (placed outputs written) is_held.in_order;
         files =
-            puts ∙ ap (put_over folder) same ∙ ap (λ (m : Files). put_over m by_place) is_held.files
+            puts ∙ after_put folder files ∙ ap (put_over folder) same ∙ ap (λ (m : Files). put_over m by_place) is_held.files
             ∙ over_rest rest held (placed outputs written) is_held.rest_in_order is_held.in_order;
       },
     )

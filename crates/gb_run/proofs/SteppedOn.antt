@@ -1,11 +1,9 @@
 -- Steps in the folder, one more at a time, and where they are cut short.
-use Rattle.std.specs.Prelude.{ℕ, ◌≡◌, ◌<◌, ◌+◌, ◌++◌, ◌⊎◌, Bool, true, List, [], ◌∷◌, Option, None, take, drop, length, get_or}
+use Rattle.std.specs.Prelude.{ℕ, ◌≡◌, ◌<◌, ◌+◌, ◌++◌, ◌⊎◌, Bool, true, List, [], ◌∷◌, None, take, drop, length, get_or}
 use Rattle.std.specs.List.{AllByRecursion}
-use Rattle.std.specs.Option.{option_copied}
-use Rattle.std.specs.Borrow.{Bor}
 use Rattle.std.proofs.Common.{refl, sym, ap, subst, ◌∙◌, inl, inr}
 use Rattle.std.proofs.lemmas.List.{take-append-drop, take_more}
-use Rattle.gb_folder.specs.Files.{Place, Bytes, Contents, Files, SameTearing, Tearing, with_left}
+use Rattle.gb_folder.specs.Files.{Place, Contents, Files, SameTearing, Tearing, with_left}
 use Rattle.gb_report.specs.declared.fault.Fault.{Fault}
 use Rattle.gb_store.specs.Changes.{ChangesOnly, IsCutShort as IsRemovalCut, IsHindered, without_all}
 use Rattle.gb_store.proofs.Loops.{step_here}
@@ -13,9 +11,6 @@ use Rattle.gb_store.proofs.Machine.{changes_chain, changes_left, changes_none}
 use Rattle.gb_store.proofs.Removing.{hindered_before}
 use Rattle.gb_run.specs.Steps.{Step, after_steps, folder_after}
 use Rattle.gb_run.specs.Stepping.{HasRoom, IsCutShort, IsFree, IsShutOut}
-use Rattle.gb_run.specs.ChangeTexts.{shown_steps}
-use Rattle.gb_run.proofs.Turned.{shown-append}
-use Rattle.gb_run.proofs.Written.{all_parts}
 use Rattle.gb_run.proofs.Looks.{after_append}
 
 -- ---- one removal
@@ -45,53 +40,56 @@ pub room-append : (files : Files) (xs : List Step) (s : Step) → HasRoom files 
 room-append files [] s room free = (free, tt)
 room-append files (x ∷ xs) s room free = (room.0, room-append (with_left files x.0 x.1) xs s room.1 free)
 
-module _ (steps : List (Place × Option (Bor Bytes))) (i : ℕ) (step : Place × Option (Bor Bytes)) (within : i < length steps) (is : step ≡ get_or steps i step) where
-  abbrev here : Step
-  here = (step.0, option_copied step.1)
-
-  front_more : shown_steps (take i steps) ++ here ∷ [] ≡ shown_steps (take (i + 1) steps)
+-- a row of items, each of which shows as a step, at one of them
+module _ {X : Type 0} (row : List X → List Step) (append : (xs ys : List X) → row (xs ++ ys) ≡ row xs ++ row ys) (items : List X) (i : ℕ) (item : X) (step : Step) (one : row (item ∷ []) ≡ step ∷ [])
+    (within : i < length items) (is : item ≡ get_or items i item) where
+  front_more : row (take i items) ++ step ∷ [] ≡ row (take (i + 1) items)
   front_more =
-      sym (shown-append (take i steps) (step ∷ [])) ∙ ap (λ s. shown_steps (take i steps ++ s ∷ [])) is
-      ∙ ap shown_steps (sym (take_more steps i step within))
+      ap (λ (ss : List Step). row (take i items) ++ ss) (sym one) ∙ sym (append (take i items) (item ∷ [])) ∙ ap (λ x. row (take i items ++ x ∷ [])) is
+      ∙ ap row (sym (take_more items i item within))
 
   -- the files then
-  pub after_more : (files : Files) → after_steps (after_steps files (shown_steps (take i steps))) (here ∷ []) ≡ after_steps files (shown_steps (take (i + 1) steps))
-  after_more files = sym (after_append files (shown_steps (take i steps)) (here ∷ [])) ∙ ap (after_steps files) front_more
+  pub after_more : (files : Files) → after_steps (after_steps files (row (take i items))) (step ∷ []) ≡ after_steps files (row (take (i + 1) items))
+  after_more files = sym (after_append files (row (take i items)) (step ∷ [])) ∙ ap (after_steps files) front_more
 
   -- one step more is done
-  pub put_more : (old now new : Contents) → now ≡ folder_after old (shown_steps (take i steps)) → new ≡ folder_after now (here ∷ []) → new ≡ folder_after old (shown_steps (take (i + 1) steps))
+  pub put_more : (old now new : Contents) → now ≡ folder_after old (row (take i items)) → new ≡ folder_after now (step ∷ []) → new ≡ folder_after old (row (take (i + 1) items))
   put_more old now new before after =
-      after ∙ ap (λ folder. folder_after folder (here ∷ [])) before
-      ∙ ap (λ fs. record old { files = fs }) (sym (after_append old.files (shown_steps (take i steps)) (here ∷ [])))
-      ∙ ap (folder_after old) front_more
+      after ∙ ap (λ folder. folder_after folder (step ∷ [])) before
+      ∙ ap (λ fs. record old { files = fs }) (after_more old.files)
 
   -- and had room
-  pub room_more : (old now : Contents) → now ≡ folder_after old (shown_steps (take i steps)) → HasRoom old.files (shown_steps (take i steps)) → IsFree now.files here → HasRoom old.files (shown_steps (take (i + 1) steps))
+  pub room_more : (old now : Contents) → now ≡ folder_after old (row (take i items)) → HasRoom old.files (row (take i items)) → IsFree now.files step → HasRoom old.files (row (take (i + 1) items))
   room_more old now before room free =
       subst (λ (ss : List Step). HasRoom old.files ss) front_more
-      (room-append old.files (shown_steps (take i steps)) here room (subst (λ (folder : Contents). IsFree folder.files here) before free))
+      (room-append old.files (row (take i items)) step room (subst (λ (folder : Contents). IsFree folder.files step) before free))
 
   -- they were cut short here
-  pub cut_at : (first second : Tearing) (old now new : Contents) (fault : Fault) → SameTearing first second → now ≡ folder_after old (shown_steps (take i steps)) → HasRoom old.files (shown_steps (take i steps))
-      → IsShutOut here now fault new ⊎ IsHindered second step.0 (option_copied step.1) now fault new → IsCutShort first (shown_steps steps) old fault new
+  pub cut_at : (first second : Tearing) (old now new : Contents) (fault : Fault) → SameTearing first second → now ≡ folder_after old (row (take i items)) → HasRoom old.files (row (take i items))
+      → IsShutOut step now fault new ⊎ IsHindered second step.0 step.1 now fault new → IsCutShort first (row items) old fault new
   cut_at first second old now new fault same before room stopped =
       record {
-        front = shown_steps (take i steps);
-        step = here;
-        behind = shown_steps (drop (i + 1) steps);
-        all = ap shown_steps (sym (take-append-drop i steps)) ∙ step_here (λ rest. shown_steps (take i steps ++ rest)) steps i step within is ∙ shown-append (take i steps) (step ∷ drop (i + 1) steps);
+        front = row (take i items);
+        step = step;
+        behind = row (drop (i + 1) items);
+        all = ap row (sym (take-append-drop i items)) ∙ step_here (λ rest. row (take i items ++ rest)) items i item within is ∙ append (take i items) (item ∷ drop (i + 1) items)
+            ∙ ap (λ (ss : List Step). row (take i items) ++ ss) (append (item ∷ []) (drop (i + 1) items) ∙ ap (λ (ss : List Step). ss ++ row (drop (i + 1) items)) one);
         room = room;
         stopped = stopped_here stopped;
       }
     where
-      stopped_here : IsShutOut here now fault new ⊎ IsHindered second step.0 (option_copied step.1) now fault new
-          → IsShutOut here (folder_after old (shown_steps (take i steps))) fault new ⊎ IsHindered first step.0 (option_copied step.1) (folder_after old (shown_steps (take i steps))) fault new
-      stopped_here (inl shut) = inl (subst (λ folder. IsShutOut here folder fault new) before shut)
+      stopped_here : IsShutOut step now fault new ⊎ IsHindered second step.0 step.1 now fault new
+          → IsShutOut step (folder_after old (row (take i items))) fault new ⊎ IsHindered first step.0 step.1 (folder_after old (row (take i items))) fault new
+      stopped_here (inl shut) = inl (subst (λ folder. IsShutOut step folder fault new) before shut)
       stopped_here (inr hindered) =
-          inr (hindered_before first second step.0 (option_copied step.1) (folder_after old (shown_steps (take i steps))) new fault same
-          (subst (λ folder. IsHindered second step.0 (option_copied step.1) folder fault new) before hindered))
+          inr (hindered_before first second step.0 step.1 (folder_after old (row (take i items))) new fault same
+          (subst (λ folder. IsHindered second step.0 step.1 folder fault new) before hindered))
 
 -- ---- what changes
+
+all_parts : {X : Type 0} (P : X → Type 0) (front : List X) (x : X) (behind : List X) → AllByRecursion P (front ++ x ∷ behind) → AllByRecursion P front × P x
+all_parts P [] x behind all = (tt, all.0)
+all_parts P (y ∷ front) x behind all = let rest = all_parts P front x behind all.1 in ((all.0, rest.0), rest.1)
 
 -- only at the places of steps does the folder differ
 pub changes_after : (test : Place → Bool) (steps : List Step) (old : Contents) → AllByRecursion (λ (s : Step). test s.0 ≡ true) steps → ChangesOnly test old (folder_after old steps)

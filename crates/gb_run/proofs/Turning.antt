@@ -5,7 +5,7 @@ use Rattle.std.proofs.Common.{refl, sym, ap, subst, ◌∙◌, inl, inr}
 use mathlib.Core.Bool.{true≢false}
 use Rattle.std.specs.FinMap.Entries.{is_sorted}
 use Rattle.gb_core.specs.Lists.{byte_order, first_of}
-use Rattle.gb_folder.specs.Files.{Place, Contents, Files, HasRisen, IsFolder, Tearing, are_placed, file_at, is_blocked, with_left}
+use Rattle.gb_folder.specs.Files.{Place, Contents, Files, HasRisen, IsFolder, Tearing, are_placed, is_blocked}
 use Rattle.gb_report.specs.declared.fault.Fault.{Fault}
 use Rattle.gb_report.specs.declared.fault.Fault.TheVariants as faults
 use Rattle.gb_action.specs.Changes.{Changes}
@@ -29,15 +29,15 @@ use Rattle.gb_run.proofs.Beside.{beside_held, over_by_place}
 use Rattle.gb_run.proofs.Endings.{with_none}
 use Rattle.gb_run.proofs.Room.{free_is, step_hindered}
 use Rattle.gb_run.specs.AskingChanges.{request_of}
-use Rattle.gb_run.specs.Changing.{IsStopped}
 use Rattle.gb_run.specs.ChangeLaws.{IsReplied}
 use Rattle.gb_run.specs.Named.{held_after, named, steps_of}
-use Rattle.gb_run.specs.Stepping.{HasRoom, IsCutShort, IsShutOut}
+use Rattle.gb_run.specs.Stepping.{FailsByMachine, HasRoom, IsCutShort, IsShutOut}
 use Rattle.gb_run.specs.Steps.{LeadTo, Step, after_steps, folder_after, in_turn}
 use Rattle.gb_run.specs.Turn.{Ends, IsItsTurn, Stops}
 use Rattle.gb_run.proofs.Blocked.{step_free, step_shut_out}
 use Rattle.gb_run.proofs.Leading.{held_is_made, leads}
 use Rattle.gb_run.proofs.Looks.{sorted_steps}
+use Rattle.gb_run.proofs.Moments.{by_machine}
 use Rattle.gb_run.proofs.Placed.{none_after}
 use Rattle.gb_run.proofs.Small.{steps_at_outputs}
 
@@ -157,8 +157,7 @@ module _ (kinds : Kinds) (task : Task) (action : Action) (trees : Trees) (change
 
           at_stop : IsShutOut cut.step (folder_after old cut.front) fault new ⊎ IsHindered may_leave cut.step.0 cut.step.1 (folder_after old cut.front) fault new
               → ((step_by task.outputs (rest_of task files) [] (made_by kinds task action trees) ≡ Err fault) × (new.files ≡ after_steps files cut.front))
-              ⊎ ((fault ≡ faults.OutOfMemory) × (new.files ≡ after_steps files cut.front))
-              ⊎ IsStopped may_leave before (after_steps files cut.front) (cut.step ∷ cut.behind) fault after new.files
+              ⊎ FailsByMachine may_leave before (after_steps files cut.front) (cut.step ∷ cut.behind) fault after new.files
           at_stop (inl shut) = inl (
             ap (step_by task.outputs (rest_of task files) []) made.1
                 ∙ step_shut_out task files folder made.0 (steps_of task.outputs reply.removes reply.writes) steps_sorted (steps_at_outputs task.outputs reply.removes reply.writes) none_made lead
@@ -167,14 +166,4 @@ module _ (kinds : Kinds) (task : Task) (action : Action) (trees : Trees) (change
                 ∙ ap Err (sym shut.told),
             ap (λ (c : Contents). c.files) shut.same ∙ then,
           )
-          at_stop (inr (inl memory)) = inr (inl (memory.0, ap (λ (c : Contents). c.files) memory.1 ∙ then))
-          at_stop (inr (inr torn)) = inr (inr (record {
-            step = cut.step;
-            later = cut.behind;
-            next = refl;
-            device = torn.0;
-            risen = risen cut.step.0 torn.0;
-            left = torn.1.0;
-            may = subst (λ (fs : Files). may_leave cut.step.0 (file_at fs cut.step.0) cut.step.1 torn.1.0) then torn.1.1;
-            files = ap (λ (c : Contents). c.files) torn.1.2 ∙ ap (λ (fs : Files). with_left fs cut.step.0 torn.1.0) then;
-          }))
+          at_stop (inr hindered) = inr (by_machine may_leave before after old (after_steps files cut.front) cut.front cut.step cut.behind fault new then risen hindered)

@@ -1,5 +1,6 @@
 -- What follows for a task's turn from how the run of its actions ends.
-use Rattle.std.specs.Prelude.{ℕ, ◌≡◌, ◌⊎◌, false, true, List, Some, Ok, IsTrue, take}
+use Rattle.std.specs.Prelude.{ℕ, ◌≡◌, ◌⊎◌, false, true, List, Some, Ok, IsTrue, take, ⊤}
+use Rattle.std.specs.List.{AllByRecursion}
 use Rattle.std.specs.FinMap.Entries.{is_sorted}
 use Rattle.gb_core.specs.Lists.{byte_order}
 use Rattle.gb_folder.specs.Files.{Place, Bytes, Contents, Files, file_at}
@@ -12,12 +13,14 @@ use Rattle.gb_plan.specs.declared.task.TaskDeclaration.{TaskDeclaration as Task}
 use Rattle.gb_meaning.specs.Kinds.{Kinds}
 use Rattle.gb_meaning.specs.Tree.{has_no_source, trees_of}
 use Rattle.gb_meaning.specs.Made.{made_of, rest_of, with_outputs}
-use Rattle.gb_meaning.specs.Label.{run_of}
+use Rattle.gb_meaning.specs.Label.{has_one_writer, run_of}
 use Rattle.gb_meaning.specs.Turn.{IsWritten, lines_of}
 use Rattle.gb_meaning.specs.Events.{IsTornInRun, Setting, StandsInRun}
-use Rattle.gb_run.specs.Course.{Course, EndsWell, Fails, course_of}
+use Rattle.gb_run.specs.AskingChanges.{IsFitting}
+use Rattle.gb_run.specs.Course.{Course, EndsWell, course_of}
 use Rattle.gb_run.specs.Digests.{prints_at}
 use Rattle.gb_run.specs.Emptying.{CannotEmpty}
+use Rattle.gb_run.specs.Failing.{ByChanges, Fails, InFull, Way}
 
 -- the course of a task's run over these files, once those at its outputs are gone
 abbrev pub course_in : Kinds → Task → List Changes → Files → Course
@@ -40,38 +43,71 @@ MadeStands =
     → made_of kinds task.actions task.values trees task.outputs ≡ Ok held →
     prints_at task.outputs new ≡ prints_at task.outputs held
 
--- How a task's run fails.
-pub record Failure (setting : Setting) (task : Task) (changes : List Changes) (old : Files) (fault : Fault)
-    (lines : List Text) (new : Files) : Type 0 where
+-- ---- A run that fails
+
+-- A run of the task over these files may go this way: by changes of them if one action writes, and each keeps
+-- to its own output.
+abbrev pub IsWayOf : Kinds → Task → Files → Way → Type 0
+IsWayOf kinds task old InFull = ⊤
+IsWayOf kinds task old (ByChanges stood) =
+    (stood ≡ old) × IsTrue (has_one_writer kinds task.actions)
+    × AllByRecursion (IsFitting kinds task) task.actions
+
+-- How a task's run fails that goes this way.
+pub record Failure (setting : Setting) (way : Way) (task : Task) (changes : List Changes) (old : Files)
+    (fault : Fault) (lines : List Text) (new : Files) : Type 0 where
+  pub is_way : IsWayOf setting.kinds task old way
   pub before : ℕ
   pub after : ℕ
-  pub fails : Fails (course_in setting.kinds task changes old) setting.may_leave before fault lines after new
+  pub fails : Fails (course_in setting.kinds task changes old) way setting.may_leave before fault lines after
+      new
 
 -- It prints the lines of some first actions of those that end.
 abbrev pub FailedRunsPrintFronts : Setting → Type 0
 FailedRunsPrintFronts setting =
-    (task : Task) (changes : List Changes) (old : Files) (fault : Fault)
+    (way : Way) (task : Task) (changes : List Changes) (old : Files) (fault : Fault)
     (lines : List Text) (new : Files)
-    → Failure setting task changes old fault lines new →
+    → Failure setting way task changes old fault lines new →
     (count : ℕ) × (lines ≡ lines_of setting.kinds task (trees_of task old) changes
     (take count (run_of setting.kinds task old).done))
 
--- Each file at the outputs is one that an action writes which the run came to, but where the device failed.
-abbrev pub FailedRunsInventNothing : Setting → Type 0
-FailedRunsInventNothing setting =
+-- In full each file at the outputs is one that an action writes which the run came to, but where the device
+-- failed.
+abbrev pub FailedRunsInventNothingInFull : Setting → Type 0
+FailedRunsInventNothingInFull setting =
     (task : Task) (changes : List Changes) (old : Files) (fault : Fault)
     (lines : List Text) (new : Files)
-    → has_no_source task old ≡ false → Failure setting task changes old fault lines new →
+    → has_no_source task old ≡ false → Failure setting InFull task changes old fault lines new →
     (place : Place) (bytes : Bytes) → is_output_of task place ≡ true → file_at new place ≡ Some bytes →
     IsWritten setting.kinds task old place bytes ⊎ (fault ≡ faults.Device place)
+
+-- By changes it may also be one that stood there.
+abbrev pub FailedRunsInventNothingByChanges : Setting → Type 0
+FailedRunsInventNothingByChanges setting =
+    (task : Task) (changes : List Changes) (old : Files) (fault : Fault)
+    (lines : List Text) (new : Files)
+    → has_no_source task old ≡ false → Failure setting (ByChanges old) task changes old fault lines new →
+    (place : Place) (bytes : Bytes) → is_output_of task place ≡ true → file_at new place ≡ Some bytes →
+    (file_at old place ≡ Some bytes) ⊎ IsWritten setting.kinds task old place bytes
+    ⊎ (fault ≡ faults.Device place)
+
+-- By changes a file that stood as it is to be made stays.
+abbrev pub FailedRunsKeepRightFiles : Setting → Type 0
+FailedRunsKeepRightFiles setting =
+    (task : Task) (changes : List Changes) (old : Files) (fault : Fault)
+    (lines : List Text) (new : Files)
+    → Failure setting (ByChanges old) task changes old fault lines new → (files : Files)
+    → made_of setting.kinds task.actions task.values (trees_of task old) task.outputs ≡ Ok files →
+    (place : Place) (bytes : Bytes) → file_at files place ≡ Some bytes → file_at old place ≡ Some bytes →
+    file_at new place ≡ Some bytes
 
 -- Where the device failed there stands what it may leave of what stood in the run and what was to stand.
 abbrev pub TornPlacesAreOfTheRun : Setting → Type 0
 TornPlacesAreOfTheRun setting =
-    (task : Task) (changes : List Changes) (old : Files) (place : Place)
+    (way : Way) (task : Task) (changes : List Changes) (old : Files) (place : Place)
     (lines : List Text) (new : Files)
     → has_no_source task old ≡ false → is_output_of task place ≡ true
-    → Failure setting task changes old (faults.Device place) lines new →
+    → Failure setting way task changes old (faults.Device place) lines new →
     IsTornInRun setting task old place (file_at new place)
 
 -- ---- Emptied outputs

@@ -1,6 +1,5 @@
 pub mod Texts
 pub mod Placing
-pub mod Writing
 pub mod Asking
 pub mod Course
 pub mod Step
@@ -12,7 +11,7 @@ pub mod Named
 pub mod ChangeTexts
 pub mod Stepping
 pub mod AskingChanges
-pub mod Changing
+pub mod Failing
 pub mod ChangeLaws
 pub mod Turn
 pub mod Requests

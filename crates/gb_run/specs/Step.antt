@@ -1,18 +1,19 @@
 -- One action of a run, and how it stops.
-use Rattle.std.specs.Prelude.{ℕ, ◌≡◌, ◌⊎◌, ◌++◌, List, Result, Err, IsTrue}
+use Rattle.std.specs.Prelude.{ℕ, ◌≡◌, List, Result, IsTrue}
 use Rattle.std.specs.FinMap.Entries.{is_sorted}
 use Rattle.gb_core.specs.Lists.{byte_order}
-use Rattle.gb_folder.specs.Files.{Place, Bytes, Files, Tearing}
+use Rattle.gb_folder.specs.Files.{Files, Tearing}
 use Rattle.gb_report.specs.declared.fault.Fault.{Fault}
-use Rattle.gb_report.specs.declared.fault.Fault.TheVariants as faults
 use Rattle.gb_action.specs.declared.reply.Written.{Written}
 use Rattle.gb_tree.specs.Prints.{digests_of}
 use Rattle.gb_plan.specs.Task.{Text}
 use Rattle.gb_plan.specs.declared.task.Output.{Output}
 use Rattle.gb_meaning.specs.Made.{put_over}
 use Rattle.gb_meaning.specs.Run.{step_by}
-use Rattle.gb_run.specs.Course.{IsStopped, free_files}
+use Rattle.gb_run.specs.Course.{free_files}
+use Rattle.gb_run.specs.Named.{put}
 use Rattle.gb_run.specs.Placing.{blank}
+use Rattle.gb_run.specs.Stepping.{StopsAt}
 
 -- The folder is the rest with the task's files put over it, and the places of these are taken.
 pub record IsHeld (rest held taken folder : Files) : Type 0 where
@@ -27,12 +28,9 @@ pub record IsKept (held taken digests : Files) : Type 0 where
   pub places : taken ≡ blank held
   pub prints : digests ≡ digests_of held
 
--- An action stops, by itself or by the machine; some first ones of its files stand.
-pub record StopsIn (outputs : List Output) (rest held : Files) (made : Result (List Written) Text)
-    (may_leave : Tearing) (before : ℕ) (fault : Fault) (after : ℕ) (new : Files) : Type 0 where
-  pub front : List (Place × Bytes)
-  pub behind : List (Place × Bytes)
-  pub at_hand : free_files outputs held made ≡ front ++ behind
-  pub why : ((step_by outputs rest held made ≡ Err fault) × (new ≡ put_over (put_over rest held) front))
-      ⊎ ((fault ≡ faults.OutOfMemory) × (new ≡ put_over (put_over rest held) front))
-      ⊎ IsStopped may_leave before (put_over (put_over rest held) front) behind fault after new
+-- An action stops, by itself or by the machine; of its files by place some first ones stand.
+abbrev pub StopsIn : List Output → Files → Files → Result (List Written) Text → Tearing → ℕ → Fault → ℕ
+    → Files → Type 0
+StopsIn outputs rest held made may_leave before fault after new =
+    StopsAt (λ steps. steps ≡ put (free_files outputs held made)) (step_by outputs rest held made) may_leave
+    before (put_over rest held) fault after new

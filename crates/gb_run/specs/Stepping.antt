@@ -1,11 +1,12 @@
 -- Steps done one after another, and where that is cut short.
-use Rattle.std.specs.Prelude.{◌≡◌, ◌≤◌, ◌⊎◌, ◌++◌, true, false, List, [], ◌∷◌, Some, None, is_some, length, ⊤}
-use Rattle.gb_folder.specs.Files.{Contents, Files, Tearing, is_blocked, with_left}
+use Rattle.std.specs.Prelude.{ℕ, ◌≡◌, ◌≤◌, ◌⊎◌, ◌++◌, true, false, List, [], ◌∷◌, Option, Some, None, Result}
+use Rattle.std.specs.Prelude.{Err, is_some, length, ⊤}
+use Rattle.gb_folder.specs.Files.{Bytes, Contents, Files, HasRisen, Tearing, file_at, is_blocked, with_left}
 use Rattle.gb_folder.specs.Limits.{max_file}
 use Rattle.gb_report.specs.declared.fault.Fault.{Fault}
 use Rattle.gb_report.specs.declared.fault.Fault.TheVariants as faults
 use Rattle.gb_store.specs.Changes.{IsHindered}
-use Rattle.gb_run.specs.Steps.{Step, folder_after}
+use Rattle.gb_run.specs.Steps.{Step, after_steps, folder_after}
 
 -- a file that is put is not too large
 abbrev pub IsSmall : Step → Type 0
@@ -39,3 +40,32 @@ pub record IsCutShort (may_leave : Tearing) (steps : List Step) (old : Contents)
   pub room : HasRoom old.files front
   pub stopped : IsShutOut step (folder_after old front) fault new
       ⊎ IsHindered may_leave step.0 step.1 (folder_after old front) fault new
+
+-- ---- Where a run fails
+
+-- The device stopped the first of these steps: there stands what it may leave.
+pub record IsStopped (may_leave : Tearing) (before : ℕ) (old : Files) (behind : List Step) (fault : Fault)
+    (after : ℕ) (new : Files) : Type 0 where
+  pub step : Step
+  pub later : List Step
+  pub next : behind ≡ step ∷ later
+  pub device : fault ≡ faults.Device step.0
+  pub risen : HasRisen before after
+  pub left : Option Bytes
+  pub may : may_leave step.0 (file_at old step.0) step.1 left
+  pub files : new ≡ with_left old step.0 left
+
+-- The machine ends a run before these steps: memory ran out, or the device stopped the first of them.
+abbrev pub FailsByMachine : Tearing → ℕ → Files → List Step → Fault → ℕ → Files → Type 0
+FailsByMachine may_leave before old behind fault after new =
+    ((fault ≡ faults.OutOfMemory) × (new ≡ old)) ⊎ IsStopped may_leave before old behind fault after new
+
+-- An action stops over these files, by itself, where this is what it comes to, or by the machine: of its
+-- steps some first ones are done.
+pub record StopsAt (AreSteps : List Step → Type 0) (comes_to : Result Files Fault) (may_leave : Tearing)
+    (before : ℕ) (old : Files) (fault : Fault) (after : ℕ) (new : Files) : Type 0 where
+  pub front : List Step
+  pub behind : List Step
+  pub at_hand : AreSteps (front ++ behind)
+  pub why : ((comes_to ≡ Err fault) × (new ≡ after_steps old front))
+      ⊎ FailsByMachine may_leave before (after_steps old front) behind fault after new

@@ -1,9 +1,8 @@
 -- The turn of the action that writes, and how it ends or stops.
-use Rattle.std.specs.Prelude.{ℕ, ◌≡◌, ◌⊎◌, ◌++◌, List, [], ◌∷◌, Ok, Err}
+use Rattle.std.specs.Prelude.{ℕ, ◌≡◌, ◌⊎◌, List, [], ◌∷◌, Ok}
 use Rattle.std.specs.List.{AllByRecursion}
 use Rattle.gb_folder.specs.Files.{Files, Tearing}
 use Rattle.gb_report.specs.declared.fault.Fault.{Fault}
-use Rattle.gb_report.specs.declared.fault.Fault.TheVariants as faults
 use Rattle.gb_action.specs.Changes.{Changes}
 use Rattle.gb_action.specs.Files.{Trees}
 use Rattle.gb_action.specs.declared.output.OutputFiles.{OutputFiles}
@@ -16,8 +15,8 @@ use Rattle.gb_meaning.specs.Run.{step_by}
 use Rattle.gb_run.specs.Asking.{made_by}
 use Rattle.gb_run.specs.Course.{free_files}
 use Rattle.gb_run.specs.AskingChanges.{GoesOn, IsFitting, writers}
-use Rattle.gb_run.specs.Changing.{IsStopped}
-use Rattle.gb_run.specs.Steps.{LeadTo, Step, after_steps}
+use Rattle.gb_run.specs.Stepping.{StopsAt}
+use Rattle.gb_run.specs.Steps.{LeadTo, Step}
 
 -- The action is the one that writes, and goes on from what stands.
 pub record IsItsTurn (kinds : Kinds) (task : Task) (action : Action) (trees : Trees) (changes : List Changes)
@@ -43,15 +42,16 @@ pub record Makes (kinds : Kinds) (task : Task) (action : Action) (trees : Trees)
   pub few : full_outputs task.outputs more ≡ []
   pub prints : digests ≡ digests_of more
 
+-- Its steps: none, or those that lead to the folder with its files.
+abbrev pub AreOfTurn : Kinds → Task → Action → Trees → Files → List Step → Type 0
+AreOfTurn kinds task action trees old steps =
+    (steps ≡ [])
+    ⊎ LeadTo old (put_over (rest_of task old)
+    (put_over [] (free_files task.outputs [] (made_by kinds task action trees)))) steps
+
 -- It stops, by itself or by the machine; of its steps some first ones are done.
-pub record Stops (kinds : Kinds) (task : Task) (action : Action) (trees : Trees) (old : Files)
-    (may_leave : Tearing) (before : ℕ) (fault : Fault) (after : ℕ) (new : Files) : Type 0 where
-  pub front : List Step
-  pub behind : List Step
-  pub at_hand : (front ++ behind ≡ [])
-      ⊎ LeadTo old (put_over (rest_of task old)
-      (put_over [] (free_files task.outputs [] (made_by kinds task action trees)))) (front ++ behind)
-  pub why : ((step_by task.outputs (rest_of task old) [] (made_by kinds task action trees) ≡ Err fault)
-      × (new ≡ after_steps old front))
-      ⊎ ((fault ≡ faults.OutOfMemory) × (new ≡ after_steps old front))
-      ⊎ IsStopped may_leave before (after_steps old front) behind fault after new
+abbrev pub Stops : Kinds → Task → Action → Trees → Files → Tearing → ℕ → Fault → ℕ → Files → Type 0
+Stops kinds task action trees old may_leave before fault after new =
+    StopsAt (AreOfTurn kinds task action trees old)
+    (step_by task.outputs (rest_of task old) [] (made_by kinds task action trees)) may_leave before old fault
+    after new

@@ -21,7 +21,7 @@ ghost use Rattle.gb_run.specs.Asking.{IsFullLike, made_by, printed_by};
 ghost use Rattle.gb_run.specs.Course.{EndsWell, course_of};
 ghost use Rattle.gb_run.specs.Digests.{prints_at};
 ghost use Rattle.gb_run.specs.AskingChanges.{AnswersChanges, CanGoOn, GoesOn, IsFitting, request_of};
-ghost use Rattle.gb_run.specs.Changing.{Fails};
+ghost use Rattle.gb_run.specs.Failing.{ByChanges, Fails};
 ghost use Rattle.gb_run.specs.Turn.{Ends, IsItsTurn, Makes, Stops};
 
 use crate::asking::full_request;
@@ -300,7 +300,7 @@ pub fn run_by_changes<A: Actions, F: Folder>(
     ensures err { IsTrue F.tells → IfErr result (λ fault. (kinds : Kinds) → Agrees A.meanings table.now kinds
         → (old : Trees) → GoesOn kinds task.now old files changes outputs (F.contents folder.old).files
         → Fails (course_of kinds task.now files changes (rest_of task.now (F.contents folder.old).files))
-        (F.contents folder.old).files (F.may_leave folder.old) (F.failures folder.old) fault
+        (ByChanges (F.contents folder.old).files) (F.may_leave folder.old) (F.failures folder.old) fault
         lines.new (F.failures folder.new) (F.contents folder.new).files) }
 {
     let mut running = Running {

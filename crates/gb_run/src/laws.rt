@@ -1,7 +1,8 @@
 //! What follows for a task's turn from how the run of its actions ends.
-ghost use Rattle.gb_run.specs.Laws.{CutEmptyingsInventNothing, EndedRunsAreMade, FailedRunsInventNothing};
-ghost use Rattle.gb_run.specs.Laws.{FailedRunsPrintFronts, MadeStands, TornPlacesAreOfTheEmptying};
-ghost use Rattle.gb_run.specs.Laws.{TornPlacesAreOfTheRun};
+ghost use Rattle.gb_run.specs.Laws.{CutEmptyingsInventNothing, EndedRunsAreMade};
+ghost use Rattle.gb_run.specs.Laws.{FailedRunsInventNothingByChanges, FailedRunsInventNothingInFull};
+ghost use Rattle.gb_run.specs.Laws.{FailedRunsKeepRightFiles, FailedRunsPrintFronts, MadeStands};
+ghost use Rattle.gb_run.specs.Laws.{TornPlacesAreOfTheEmptying, TornPlacesAreOfTheRun};
 
 use gb_meaning::laws::Grounds;
 
@@ -20,9 +21,20 @@ pub fn failed_runs_print_fronts<G: Grounds>()
     ensures { FailedRunsPrintFronts G.setting }
 {}
 
-/// A run that failed leaves nothing at the outputs but what its actions write and what is torn.
-pub fn failed_runs_invent_nothing<G: Grounds>()
-    ensures { FailedRunsInventNothing G.setting }
+/// A run in full that failed leaves nothing at the outputs but what its actions write and what is torn.
+pub fn failed_runs_invent_nothing_in_full<G: Grounds>()
+    ensures { FailedRunsInventNothingInFull G.setting }
+{}
+
+/// A run by changes that failed leaves nothing at the outputs but what stood there, what its actions write
+/// and what is torn.
+pub fn failed_runs_invent_nothing_by_changes<G: Grounds>()
+    ensures { FailedRunsInventNothingByChanges G.setting }
+{}
+
+/// A run by changes that failed keeps the files that were right.
+pub fn failed_runs_keep_right_files<G: Grounds>()
+    ensures { FailedRunsKeepRightFiles G.setting }
 {}
 
 /// What stands where the device failed is torn in the run.

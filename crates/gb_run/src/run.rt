@@ -11,8 +11,9 @@ ghost use Rattle.gb_meaning.specs.Kinds.{Kinds};
 ghost use Rattle.gb_meaning.specs.Made.{made_of, put_result};
 ghost use Rattle.gb_meaning.specs.Run.{step_by};
 ghost use Rattle.gb_run.specs.Asking.{IsFullLike, made_by, printed_by};
-ghost use Rattle.gb_run.specs.Course.{EndsWell, Fails, course_of};
+ghost use Rattle.gb_run.specs.Course.{EndsWell, course_of};
 ghost use Rattle.gb_run.specs.Digests.{prints_at};
+ghost use Rattle.gb_run.specs.Failing.{Fails, InFull};
 ghost use Rattle.gb_run.specs.Step.{IsHeld, IsKept, StopsIn};
 
 use crate::asking::{ask, full_request};
@@ -70,7 +71,7 @@ pub fn run_in_full<A: Actions, F: Folder>(
         → EndsWell (course_of kinds task.now files changes (F.contents folder.old).files)
         lines.new (F.contents folder.new).files) }
     ensures err { IsTrue F.tells → IfErr result (λ fault. (kinds : Kinds) → Agrees A.meanings table.now kinds
-        → Fails (course_of kinds task.now files changes (F.contents folder.old).files)
+        → Fails (course_of kinds task.now files changes (F.contents folder.old).files) InFull
         (F.may_leave folder.old) (F.failures folder.old) fault
         lines.new (F.failures folder.new) (F.contents folder.new).files) }
 {

@@ -63,7 +63,7 @@ fn take_step<F: Folder>(folder: &mut F, place: &Place, bytes: Option<&Bytes>) ->
 
 /// Puts a file. The place is copied first, so that a failure of the device is told at it whatever memory
 /// is left.
-fn put_file<F: Folder>(folder: &mut F, place: &Place, bytes: &Bytes) -> Result<(), Fault>
+pub fn put_file<F: Folder>(folder: &mut F, place: &Place, bytes: &Bytes) -> Result<(), Fault>
     requires small { length bytes.now ≤ max_file }
     ensures asks { Asks F.failures F.may_leave F.asked (put_at place.now bytes.now) folder.old folder.new }
     ensures blame { Blames result (F.failures folder.old) (F.failures folder.new) }

@@ -34,7 +34,7 @@ use Rattle.gb_store.specs.Changes.{ChangesOnly, is_at}
 use Rattle.gb_store.specs.Faults.{IsOfMachine}
 use Rattle.gb_label.specs.Reading.{digests_in, is_input_of}
 use Rattle.gb_run.specs.AskingChanges.{GoesOn, IsFitting, seen_of}
-use Rattle.gb_run.specs.Changing.{Fails, FailsByItself, FailsByMachine}
+use Rattle.gb_run.specs.Failing.{ByChanges, Fails}
 use Rattle.gb_turn.specs.Keeping.{IsForgotten, IsRemembered, IsUnwritten, run_now}
 use Rattle.gb_turn.specs.Turned.{ComesAt, HasTurned, IsDueByChanges, Registering, is_of_turn, report_of, setting_with}
 use Rattle.gb_turn.proofs.Cleared.{records_stay}
@@ -42,27 +42,7 @@ use Rattle.gb_turn.proofs.Outside.{kept, trees_outside}
 use Rattle.gb_turn.proofs.Since.{goes_on_since}
 use Rattle.gb_turn.proofs.Steps.{entry_made_then, kept_record, on_course, run_by_changes_failed, run_ended, said_then, unread, unrecorded}
 use Rattle.gb_turn.proofs.Turning.{IsRun}
-use Rattle.gb_turn.proofs.Whole.{as_found, le_chain, refl_le}
-
--- a run that failed under one tearing failed so under the same
-fails_before : (course : Course) (old : Files) (first second : Tearing) (before after : ℕ) (fault : Fault) (lines : List Text) (new : Files) → SameTearing first second
-    → Fails course old second before fault lines after new → Fails course old first before fault lines after new
-fails_before course old first second before after fault lines new same fails = record { moment = fails.moment; printed = fails.printed; why = by fails.why }
-  where
-    by : FailsByItself course old fails.moment fault new ⊎ FailsByMachine course old fails.moment second before fault after new
-        → FailsByItself course old fails.moment fault new ⊎ FailsByMachine course old fails.moment first before fault after new
-    by (inl itself) = inl itself
-    by (inr (inl memory)) = inr (inl memory)
-    by (inr (inr stopped)) = inr (inr (record {
-      step = stopped.step;
-      later = stopped.later;
-      next = stopped.next;
-      device = stopped.device;
-      risen = stopped.risen;
-      left = stopped.left;
-      may = (same stopped.step.0 _ _ stopped.left).0 stopped.may;
-      files = stopped.files;
-    }))
+use Rattle.gb_turn.proofs.Whole.{as_found, fails_before, le_chain, refl_le}
 
 module _ (kinds : Kinds) (registry_of : Registering) (may_leave : Tearing) (options : Options) (plan : Plan) (task : Task) (was_read : Bool)
     (moment : Moment) (old : Contents) (before : ℕ) (told : List Changes)
@@ -127,13 +107,13 @@ module _ (kinds : Kinds) (registry_of : Registering) (may_leave : Tearing) (opti
 
     pub running_failed : (fault : Fault) (after : ℕ) → between ≤ after → ((place : Place) → fault ≡ faults.Device place → is_output_of task place ≡ true)
         → AllByRecursion (IsFitting kinds task) task.actions
-        → Fails (course_of kinds task trees told (rest_of task taken.files)) taken.files second between fault lines after ran.files → Turns (Err fault) lines after ran
+        → Fails (course_of kinds task trees told (rest_of task taken.files)) (ByChanges taken.files) second between fault lines after ran.files → Turns (Err fault) lines after ran
     running_failed fault after more blamed fitting fails =
         found (Err fault) lines after ran
         (run_by_changes_failed kinds registry_of may_leave options plan task was_read memory moment.outcomes before old out apart at.read at.records told due_then taken gone
         fault lines between after after ran ran le more (refl_le after) changed blamed records_then refl since_then.since.one_writer fitting
-        (fails_before _ taken.files may_leave second between after fault lines ran.files tearing
-        (subst (λ (course : Course). Fails course taken.files second between fault lines after ran.files) same_course fails)))
+        (fails_before _ (ByChanges taken.files) may_leave second between after fault lines ran.files tearing more
+        (subst (λ (course : Course). Fails course (ByChanges taken.files) second between fault lines after ran.files) same_course fails)))
 
     module _ (sorted : is_sorted byte_order taken.files ≡ true) (well : EndsWell (course_of kinds task trees told (rest_of task taken.files)) lines ran.files) where
       well_so : EndsWell (course_in kinds task told taken.files) lines ran.files

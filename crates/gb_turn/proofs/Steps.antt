@@ -37,27 +37,27 @@ use Rattle.gb_report.specs.declared.fault.Fault.{Fault}
 use Rattle.gb_report.specs.declared.fault.Fault.TheVariants as faults
 use Rattle.gb_report.specs.declared.report.Options.{Options}
 use Rattle.gb_report.specs.declared.report.Outcome.{Outcome}
-use Rattle.gb_run.specs.Course.{Course, EndsWell, Fails, FailsByItself, FailsByMachine, course_of, lines_by}
+use Rattle.gb_run.specs.Course.{Course, EndsWell, course_of, lines_by}
 use Rattle.gb_run.specs.Emptying.{CannotEmpty}
-use Rattle.gb_run.specs.Laws.{Failure, course_in}
+use Rattle.gb_run.specs.Failing.{ByChanges, Fails, FailsByItself, InFull, Way, files_then}
+use Rattle.gb_run.specs.Laws.{Failure, IsWayOf, course_in}
+use Rattle.gb_run.specs.Stepping.{FailsByMachine}
 use Rattle.gb_run.proofs.CutEmptying.{cut_emptyings_invent_nothing, torn_places_are_of_the_emptying}
 use Rattle.gb_run.proofs.Endings.{all_done}
-use Rattle.gb_run.proofs.FailedRuns.{ended_runs_are_made, failed_runs_invent_nothing, failed_runs_print_fronts, torn_places_are_of_the_run}
+use Rattle.gb_run.proofs.FailedRuns.{ended_runs_are_made, failed_runs_invent_nothing_in_full, failed_runs_print_fronts}
 use Rattle.gb_store.specs.Changes.{ChangesOnly, is_at}
 use Rattle.gb_store.specs.Faults.{IsOfMachine}
 use Rattle.gb_tree.specs.Tree.{odd_roots}
 use Rattle.gb_label.specs.Reading.{digests_in, is_input_of}
 use Rattle.gb_run.specs.AskingChanges.{IsFitting}
-use Rattle.gb_run.specs.Changing.{Fails as FailsByChanges, FailsByItself as ItselfByChanges, FailsByMachine as MachineByChanges}
-use Rattle.gb_run.specs.ChangeLaws.{Failure as FailureByChanges}
-use Rattle.gb_run.proofs.Failing.{failed_runs_invent_nothing as runs_by_changes_invent_nothing, failed_runs_keep_right_files as runs_by_changes_keep_right_files, failed_runs_print_fronts as runs_by_changes_print_fronts, torn_places_are_of_the_run as torn_places_are_of_runs_by_changes}
+use Rattle.gb_run.proofs.Failing.{failed_runs_invent_nothing_by_changes, failed_runs_keep_right_files, torn_places_are_of_the_run}
 use Rattle.gb_turn.specs.Clearing.{IsKept}
 use Rattle.gb_turn.specs.Keeping.{IsForgotten, IsRemembered, IsUnwritten, run_now}
 use Rattle.gb_turn.specs.Turned.{HasTurned, Registering, is_of_turn, report_of, setting_with}
 use Rattle.gb_turn.proofs.Beside.{run_outside, torn_outside}
 use Rattle.gb_turn.proofs.Ended.{leaves_outside, makes_outside, said_entry}
 use Rattle.gb_turn.proofs.Memories.{forget-forget, remember-forget}
-use Rattle.gb_turn.proofs.Cut.{cut_in_full}
+use Rattle.gb_turn.proofs.Cut.{cut_at_end}
 use Rattle.gb_turn.proofs.Outside.{kept, source_outside, trees_outside}
 use Rattle.gb_turn.proofs.Own.{is_kept}
 use Rattle.gb_turn.proofs.Parts.{blocked_by_own, differs_outside, in_way_before, outside_same}
@@ -291,33 +291,25 @@ module _ (kinds : Kinds) (registry_of : Registering) (may_leave : Tearing) (opti
           (are_changes i)
           (is_rest i)
 
-      module _ (fault : Fault) (lines : List Text) (between mid after : ℕ) (ran new : Contents) (early : before ≤ between) (rises : between ≤ mid) (late : mid ≤ after)
+      module _ (way : Way) (fault : Fault) (lines : List Text) (between mid after : ℕ) (ran new : Contents) (early : before ≤ between) (rises : between ≤ mid) (late : mid ≤ after)
           (changes : ChangesOnly (is_of_turn task) old new) (blamed : (place : Place) → fault ≡ faults.Device place → is_output_of task place ≡ true)
           (records : Standing new.files (forget memory task.path)) (same : kept new.files ≡ kept ran.files)
-          (fails : Fails (course_in kinds task told taken.files) may_leave between fault lines mid ran.files) where
-        failure : Failure setting task told taken.files fault lines ran.files
-        failure = record { before = between; after = mid; fails = fails }
+          (is_way : IsWayOf kinds task taken.files way) (fails : Fails (course_in kinds task told taken.files) way may_leave between fault lines mid ran.files) where
+        failure : Failure setting way task told taken.files fault lines ran.files
+        failure = record { is_way = is_way; before = between; after = mid; fails = fails }
 
         found_then : (place : Place) → is_output_of task place ≡ true → file_at (kept new.files) place ≡ file_at ran.files place
         found_then place at = ap (λ (fs : Files). file_at fs place) same ∙ found_at task out ran.files place at
 
-        invents_then : InventsNothing kinds task fault world (record { folder = outside new; memory = forget memory task.path })
-        invents_then place bytes at e =
-            by_law (failed_runs_invent_nothing setting task told taken.files fault lines ran.files source_there failure place bytes at (sym (found_then place at) ∙ e))
-          where
-            by_law : IsWritten kinds task taken.files place bytes ⊎ (fault ≡ faults.Device place)
-                → (file_at (kept old.files) place ≡ Some bytes) ⊎ IsWritten kinds task (kept old.files) place bytes ⊎ (fault ≡ faults.Device place)
-            by_law (inl written) = inr (inl (written_before place bytes written))
-            by_law (inr device) = inr (inr device)
-
         front : (count : ℕ) × (lines ≡ lines_in kinds task told (kept old.files) (take count (run_of kinds task (kept old.files)).done))
         front =
-            let printed = failed_runs_print_fronts setting task told taken.files fault lines ran.files failure in (
+            let printed = failed_runs_print_fronts setting way task told taken.files fault lines ran.files failure in (
               printed.0,
               printed.1 ∙ lines_read (take printed.0 (run_of kinds task taken.files).done) ∙ ap (λ (e : Ended). lines_in kinds task told (kept old.files) (take printed.0 e.done)) run_read,
             )
 
-        ends_then : FailsByItself course_then fails.moment fault ran.files ⊎ FailsByMachine course_then fails.moment may_leave between fault mid ran.files
+        ends_then : FailsByItself (course_in kinds task told taken.files) way fails.moment fault ran.files
+            ⊎ FailsByMachine may_leave between (files_then (course_in kinds task told taken.files) way fails.moment) fails.moment.behind fault mid ran.files
             → EndsFor setting (own_files old) options task told moment_then fault lines (standing after new (forget memory task.path))
         ends_then (inl itself) =
             by_itself (ap (λ (e : Ended). e.fault) (sym run_read) ∙ itself.faulty)
@@ -330,8 +322,8 @@ module _ (kinds : Kinds) (registry_of : Registering) (may_leave : Tearing) (opti
             by_machine (ap cause_of stopped.device)
             (subst (λ (f : Fault). may_come setting (own_files old) options task moment_then (standing after new (forget memory task.path)) f) (sym stopped.device) (
               HasRisen-after before mid after (HasRisen-before before between mid early rises stopped.risen) late,
-              touched_out stopped.file.0 (blamed stopped.file.0 stopped.device),
-              inr (torn_then stopped.file.0 stopped.device),
+              touched_out stopped.step.0 (blamed stopped.step.0 stopped.device),
+              inr (torn_then stopped.step.0 stopped.device),
             )) front.0 front.1
           where
             torn_then : (place : Place) → fault ≡ faults.Device place → IsTornInRun setting task (kept old.files) place (file_at (kept new.files) place)
@@ -339,11 +331,31 @@ module _ (kinds : Kinds) (registry_of : Registering) (may_leave : Tearing) (opti
                 subst (λ (o : Option Bytes). IsTornInRun setting task (kept old.files) place o) (sym (found_then place (blamed place device)))
                 (subst (λ (fs : Files). IsTornInRun setting task fs place (file_at ran.files place)) files_kept
                 (torn_outside setting task out taken.files place (blamed place device) (file_at ran.files place)
-                (torn_places_are_of_the_run setting task told taken.files place lines ran.files source_there (blamed place device)
-                (subst (λ (f : Fault). Failure setting task told taken.files f lines ran.files) device failure))))
+                (torn_places_are_of_the_run setting way task told taken.files place lines ran.files source_there (blamed place device)
+                (subst (λ (f : Fault). Failure setting way task told taken.files f lines ran.files) device failure))))
+
+        gives_run_up : InventsNothing kinds task fault world (record { folder = outside new; memory = forget memory task.path }) → Keeps new → Turned (Err fault) lines after new
+        gives_run_up invents keeps = gives_up fault lines after new changes invents keeps (ends_then fails.why) blamed records
+
+      -- ---- the run in full
+
+      module _ (fault : Fault) (lines : List Text) (between mid after : ℕ) (ran new : Contents) (early : before ≤ between) (rises : between ≤ mid) (late : mid ≤ after)
+          (changes : ChangesOnly (is_of_turn task) old new) (blamed : (place : Place) → fault ≡ faults.Device place → is_output_of task place ≡ true)
+          (records : Standing new.files (forget memory task.path)) (same : kept new.files ≡ kept ran.files)
+          (fails : Fails (course_in kinds task told taken.files) InFull may_leave between fault lines mid ran.files) where
+        invents_then : InventsNothing kinds task fault world (record { folder = outside new; memory = forget memory task.path })
+        invents_then place bytes at e =
+            by_law (failed_runs_invent_nothing_in_full setting task told taken.files fault lines ran.files source_there
+            (record { is_way = tt; before = between; after = mid; fails = fails }) place bytes at
+            (sym (ap (λ (fs : Files). file_at fs place) same ∙ found_at task out ran.files place at) ∙ e))
+          where
+            by_law : IsWritten kinds task taken.files place bytes ⊎ (fault ≡ faults.Device place)
+                → (file_at (kept old.files) place ≡ Some bytes) ⊎ IsWritten kinds task (kept old.files) place bytes ⊎ (fault ≡ faults.Device place)
+            by_law (inl written) = inr (inl (written_before place bytes written))
+            by_law (inr device) = inr (inr device)
 
         pub run_failed : Keeps new → Turned (Err fault) lines after new
-        run_failed keeps = gives_up fault lines after new changes invents_then keeps (ends_then fails.why) blamed records
+        run_failed keeps = gives_run_up InFull fault lines between mid after ran new early rises late changes blamed records same tt fails invents_then keeps
 
       -- ---- the run by changes
 
@@ -351,29 +363,20 @@ module _ (kinds : Kinds) (registry_of : Registering) (may_leave : Tearing) (opti
           (changes : ChangesOnly (is_of_turn task) old new) (blamed : (place : Place) → fault ≡ faults.Device place → is_output_of task place ≡ true)
           (records : Standing new.files (forget memory task.path)) (same : kept new.files ≡ kept ran.files)
           (one : IsTrue (has_one_writer kinds task.actions)) (fitting : AllByRecursion (IsFitting kinds task) task.actions)
-          (fails : FailsByChanges (course_in kinds task told taken.files) taken.files may_leave between fault lines mid ran.files) where
-        failure_so : FailureByChanges setting task told taken.files fault lines ran.files
-        failure_so = record { one_writer = one; fitting = fitting; before = between; after = mid; fails = fails }
-
-        found_so : (place : Place) → is_output_of task place ≡ true → file_at (kept new.files) place ≡ file_at ran.files place
-        found_so place at = ap (λ (fs : Files). file_at fs place) same ∙ found_at task out ran.files place at
+          (fails : Fails (course_in kinds task told taken.files) (ByChanges taken.files) may_leave between fault lines mid ran.files) where
+        failure_so : Failure setting (ByChanges taken.files) task told taken.files fault lines ran.files
+        failure_so = record { is_way = (refl, one, fitting); before = between; after = mid; fails = fails }
 
         invents_so : InventsNothing kinds task fault world (record { folder = outside new; memory = forget memory task.path })
         invents_so place bytes at e =
-            by_law (runs_by_changes_invent_nothing setting task told taken.files fault lines ran.files source_there failure_so place bytes at (sym (found_so place at) ∙ e))
+            by_law (failed_runs_invent_nothing_by_changes setting task told taken.files fault lines ran.files source_there failure_so place bytes at
+            (sym (ap (λ (fs : Files). file_at fs place) same ∙ found_at task out ran.files place at) ∙ e))
           where
             by_law : (file_at taken.files place ≡ Some bytes) ⊎ IsWritten kinds task taken.files place bytes ⊎ (fault ≡ faults.Device place)
                 → (file_at (kept old.files) place ≡ Some bytes) ⊎ IsWritten kinds task (kept old.files) place bytes ⊎ (fault ≡ faults.Device place)
             by_law (inl there) = inl (stood_before place bytes at there)
             by_law (inr (inl written)) = inr (inl (written_before place bytes written))
             by_law (inr (inr device)) = inr (inr device)
-
-        front_so : (count : ℕ) × (lines ≡ lines_in kinds task told (kept old.files) (take count (run_of kinds task (kept old.files)).done))
-        front_so =
-            let printed = runs_by_changes_print_fronts setting task told taken.files fault lines ran.files failure_so in (
-              printed.0,
-              printed.1 ∙ lines_read (take printed.0 (run_of kinds task taken.files).done) ∙ ap (λ (e : Ended). lines_in kinds task told (kept old.files) (take printed.0 e.done)) run_read,
-            )
 
         -- a file that was right is so
         keeps_so : Keeps new
@@ -382,7 +385,7 @@ module _ (kinds : Kinds) (registry_of : Registering) (may_leave : Tearing) (opti
             ap (λ (fs : Files). file_at fs place) same
             ∙ file_at-files_where ran.files is_kept place
             ∙ ap (λ b. cond b (file_at ran.files place) None) stood_there.0
-            ∙ runs_by_changes_keep_right_files setting task told taken.files fault lines ran.files failure_so files made_there place bytes right stood_there.1
+            ∙ failed_runs_keep_right_files setting task told taken.files fault lines ran.files failure_so files made_there place bytes right stood_there.1
           where
             made_there : made_of kinds task.actions task.values (trees_of task taken.files) task.outputs ≡ Ok files
             made_there =
@@ -397,42 +400,17 @@ module _ (kinds : Kinds) (registry_of : Registering) (may_leave : Tearing) (opti
                 by true passes found = (passes, found)
                 by false passes found = none_some found
 
-        ends_so : ItselfByChanges (course_in kinds task told taken.files) taken.files fails.moment fault ran.files
-            ⊎ MachineByChanges (course_in kinds task told taken.files) taken.files fails.moment may_leave between fault mid ran.files
-            → EndsFor setting (own_files old) options task told moment_then fault lines (standing after new (forget memory task.path))
-        ends_so (inl itself) =
-            by_itself (ap (λ (e : Ended). e.fault) (sym run_read) ∙ itself.faulty)
-            (fails.printed ∙ ap (lines_by course_then) (sym itself.done) ∙ lines_read (run_of kinds task taken.files).done
-            ∙ ap (λ (e : Ended). lines_in kinds task told (kept old.files) e.done) run_read)
-        ends_so (inr (inl memory_out)) =
-            by_machine (ap cause_of memory_out.0)
-            (subst (λ (f : Fault). may_come setting (own_files old) options task moment_then (standing after new (forget memory task.path)) f) (sym memory_out.0) tt) front_so.0 front_so.1
-        ends_so (inr (inr stopped)) =
-            by_machine (ap cause_of stopped.device)
-            (subst (λ (f : Fault). may_come setting (own_files old) options task moment_then (standing after new (forget memory task.path)) f) (sym stopped.device) (
-              HasRisen-after before mid after (HasRisen-before before between mid early rises stopped.risen) late,
-              touched_out stopped.step.0 (blamed stopped.step.0 stopped.device),
-              inr (torn_so stopped.step.0 stopped.device),
-            )) front_so.0 front_so.1
-          where
-            torn_so : (place : Place) → fault ≡ faults.Device place → IsTornInRun setting task (kept old.files) place (file_at (kept new.files) place)
-            torn_so place device =
-                subst (λ (o : Option Bytes). IsTornInRun setting task (kept old.files) place o) (sym (found_so place (blamed place device)))
-                (subst (λ (fs : Files). IsTornInRun setting task fs place (file_at ran.files place)) files_kept
-                (torn_outside setting task out taken.files place (blamed place device) (file_at ran.files place)
-                (torn_places_are_of_runs_by_changes setting task told taken.files place lines ran.files source_there (blamed place device)
-                (subst (λ (f : Fault). FailureByChanges setting task told taken.files f lines ran.files) device failure_so))))
-
         pub run_by_changes_failed : Turned (Err fault) lines after new
-        run_by_changes_failed = gives_up fault lines after new changes invents_so keeps_so (ends_so fails.why) blamed records
+        run_by_changes_failed =
+            gives_run_up (ByChanges taken.files) fault lines between mid after ran new early rises late changes blamed records same (refl, one, fitting) fails invents_so keeps_so
 
       -- ---- a run that ended
 
       module _ (lines : List Text) (ran : Contents) (sorted : is_sorted byte_order taken.files ≡ true)
           (well : EndsWell (course_in kinds task told taken.files) lines ran.files) where
         -- it ended as one does that memory cut short behind its last action
-        as_cut : (between mid : ℕ) → Fails (course_in kinds task told taken.files) may_leave between faults.OutOfMemory lines mid ran.files
-        as_cut between mid = cut_in_full (course_in kinds task told taken.files) may_leave between mid lines ran.files well
+        as_cut : (between mid : ℕ) → Fails (course_in kinds task told taken.files) InFull may_leave between faults.OutOfMemory lines mid ran.files
+        as_cut between mid = cut_at_end (course_in kinds task told taken.files) InFull may_leave between mid lines ran.files well refl
 
         abbrev files_made : Files
         files_made = (ended_runs_are_made kinds task told taken.files lines ran.files well).0
@@ -502,7 +480,7 @@ module _ (kinds : Kinds) (registry_of : Registering) (may_leave : Tearing) (opti
 
             front_then : (records : Standing new.files (forget memory task.path))
                 → (count : ℕ) × (lines ≡ lines_in kinds task told (kept old.files) (take count (run_of kinds task (kept old.files)).done))
-            front_then records = front faults.OutOfMemory lines between mid after ran new early rises late changes (λ p d. absurd (let z = d in (cc))) records same (as_cut between mid)
+            front_then records = front InFull faults.OutOfMemory lines between mid after ran new early rises late changes (λ p d. absurd (let z = d in (cc))) records same tt (as_cut between mid)
 
             made_then : made kinds task (kept old.files) ≡ Ok files_made
             made_then =

@@ -23,8 +23,11 @@ use Rattle.gb_records.specs.Standing.{Standing}
 use Rattle.gb_report.specs.declared.fault.Fault.{Fault}
 use Rattle.gb_report.specs.declared.fault.Fault.TheVariants as faults
 use Rattle.gb_report.specs.declared.report.Options.{Options}
-use Rattle.gb_run.specs.Course.{Course, EndsWell, Fails, FailsByItself, FailsByMachine, course_of}
+use Rattle.gb_run.specs.Course.{Course, EndsWell, course_of}
+use Rattle.gb_run.specs.Failing.{Fails, FailsByItself, InFull, Way, files_then}
 use Rattle.gb_run.specs.Laws.{course_in}
+use Rattle.gb_run.specs.Stepping.{FailsByMachine}
+use Rattle.gb_run.proofs.Moments.{machine_before}
 use Rattle.gb_store.specs.Changes.{ChangesOnly}
 use Rattle.gb_store.specs.Faults.{IsOfMachine}
 use Rattle.gb_label.specs.Reading.{digests_in, is_input_of}
@@ -49,24 +52,14 @@ as_found task was_read old before moment at = λ i.
     record { world = record { folder = sym at.folder i; memory = moment.world.memory }; outcomes = moment.outcomes; failures = sym at.failures i }
 
 -- a run that failed under one tearing failed so under the same
-fails_before : (course : Course) (first second : Tearing) (before after : ℕ) (fault : Fault) (lines : List Text) (new : Files) → SameTearing first second
-    → Fails course second before fault lines after new → Fails course first before fault lines after new
-fails_before course first second before after fault lines new same fails = record { moment = fails.moment; printed = fails.printed; why = by fails.why }
+pub fails_before : (course : Course) (way : Way) (first second : Tearing) (before after : ℕ) (fault : Fault) (lines : List Text) (new : Files) → SameTearing first second → before ≤ after
+    → Fails course way second before fault lines after new → Fails course way first before fault lines after new
+fails_before course way first second before after fault lines new same le fails = record { moment = fails.moment; printed = fails.printed; why = by fails.why }
   where
-    by : FailsByItself course fails.moment fault new ⊎ FailsByMachine course fails.moment second before fault after new
-        → FailsByItself course fails.moment fault new ⊎ FailsByMachine course fails.moment first before fault after new
+    by : FailsByItself course way fails.moment fault new ⊎ FailsByMachine second before (files_then course way fails.moment) fails.moment.behind fault after new
+        → FailsByItself course way fails.moment fault new ⊎ FailsByMachine first before (files_then course way fails.moment) fails.moment.behind fault after new
     by (inl itself) = inl itself
-    by (inr (inl memory)) = inr (inl memory)
-    by (inr (inr stopped)) = inr (inr (record {
-      file = stopped.file;
-      later = stopped.later;
-      next = stopped.next;
-      device = stopped.device;
-      risen = stopped.risen;
-      left = stopped.left;
-      may = (same stopped.file.0 _ _ stopped.left).0 stopped.may;
-      files = stopped.files;
-    }))
+    by (inr machine) = inr (machine_before first second before before after (files_then course way fails.moment) new fails.moment.behind fault same (refl_le before) le machine)
 
 module _ (kinds : Kinds) (registry_of : Registering) (may_leave : Tearing) (options : Options) (plan : Plan) (task : Task) (was_read : Bool)
     (moment : Moment) (old : Contents) (before : ℕ)
@@ -132,13 +125,13 @@ module _ (kinds : Kinds) (registry_of : Registering) (may_leave : Tearing) (opti
     records_then = records_stay task out cleared ran (forget memory task.path) ran_at is_cleared.records
 
     pub running_failed : (fault : Fault) (after : ℕ) → between ≤ after → ((place : Place) → fault ≡ faults.Device place → is_output_of task place ≡ true)
-        → Fails (course_of kinds task trees told cleared.files) second between fault lines after ran.files → Turns (Err fault) lines after ran
+        → Fails (course_of kinds task trees told cleared.files) InFull second between fault lines after ran.files → Turns (Err fault) lines after ran
     running_failed fault after more blamed fails =
         found (Err fault) lines after ran
         (run_failed kinds registry_of may_leave options plan task was_read memory moment.outcomes before old out apart at.read at.records told_then due_then is_cleared.taken is_cleared.out
         fault lines between after after ran ran le more (refl_le after) changed blamed records_then refl
-        (fails_before _ may_leave second between after fault lines ran.files tearing
-        (subst (λ (course : Course). Fails course second between fault lines after ran.files) same_course fails))
+        (fails_before _ InFull may_leave second between after fault lines ran.files tearing more
+        (subst (λ (course : Course). Fails course InFull second between fault lines after ran.files) same_course fails))
         (λ since. absurd (full_then.not_incremental since)))
 
     module _ (well : EndsWell (course_of kinds task trees told cleared.files) lines ran.files) where

@@ -15,7 +15,8 @@ ghost use Rattle.gb_plan.specs.Task.{is_output_of, seen_files};
 ghost use Rattle.gb_records.specs.Granted.{IsGranted};
 ghost use Rattle.gb_report.specs.declared.report.Options.{Options};
 ghost use Rattle.gb_report.specs.declared.report.Outcome.TheVariants.{Failed};
-ghost use Rattle.gb_run.specs.Course.{EndsWell, Fails, course_of};
+ghost use Rattle.gb_run.specs.Course.{EndsWell, course_of};
+ghost use Rattle.gb_run.specs.Failing.{Fails, InFull};
 ghost use Rattle.gb_store.specs.Changes.{ChangesOnly};
 ghost use Rattle.gb_store.specs.Faults.{Blames, BlamesOnly};
 ghost use Rattle.gb_turn.specs.Asking.{HasRead, IsInFull, IsTextIn, in_turn_with, once};
@@ -214,7 +215,7 @@ fn make_anew<A: Actions, F: Folder>(
         → EndsWell (course_of kinds task.now trees changes (F.contents folder.old).files)
         lines.new (F.contents folder.new).files) }
     ensures err { IsTrue F.tells → IfErr result (λ fault. (kinds : Kinds) → Agrees A.meanings table.now kinds
-        → Fails (course_of kinds task.now trees changes (F.contents folder.old).files)
+        → Fails (course_of kinds task.now trees changes (F.contents folder.old).files) InFull
         (F.may_leave folder.old) (F.failures folder.old) fault
         lines.new (F.failures folder.new) (F.contents folder.new).files) }
 {

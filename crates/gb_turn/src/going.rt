@@ -17,8 +17,8 @@ ghost use Rattle.gb_plan.specs.Task.{is_output_of, output_places, seen_files, se
 ghost use Rattle.gb_records.specs.Granted.{IsGranted};
 ghost use Rattle.gb_report.specs.declared.report.Options.{Options};
 ghost use Rattle.gb_run.specs.AskingChanges.{CanGoOn, GoesOn};
-ghost use Rattle.gb_run.specs.Changing.{Fails};
 ghost use Rattle.gb_run.specs.Course.{EndsWell, course_of};
+ghost use Rattle.gb_run.specs.Failing.{ByChanges, Fails};
 ghost use Rattle.gb_store.specs.Changes.{ChangesOnly};
 ghost use Rattle.gb_store.specs.Faults.{Blames, BlamesOnly};
 ghost use Rattle.gb_turn.specs.Asking.{IsTextBy, in_turn_with};
@@ -132,7 +132,7 @@ fn make_by_changes<A: Actions, F: Folder>(
         → GoesOn kinds task.now old inputs.trees changes outputs.seen (F.contents folder.old).files
         → Fails (course_of kinds task.now inputs.trees changes
         (rest_of task.now (F.contents folder.old).files))
-        (F.contents folder.old).files (F.may_leave folder.old) (F.failures folder.old) fault
+        (ByChanges (F.contents folder.old).files) (F.may_leave folder.old) (F.failures folder.old) fault
         lines.new (F.failures folder.new) (F.contents folder.new).files) }
 {
     let Inputs { trees, prints } = inputs;

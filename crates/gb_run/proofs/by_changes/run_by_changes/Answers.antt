@@ -1,4 +1,4 @@
-use Rattle.std.proofs.Common.{arith, rules, ◌≡◌, ◌⊎◌, ◌++◌, [], ◌∷◌, List, Ok, Err, IfErr, map, refl, sym, ap, subst, ◌∙◌}
+use Rattle.std.proofs.Common.{rules, ◌≡◌, ◌⊎◌, ◌++◌, [], ◌∷◌, List, Ok, Err, IfErr, map, refl, sym, ap, subst, ◌∙◌}
 use Rattle.std.proofs.lemmas.Result.{err_from_is_err_and}
 use Rattle.std.specs.List.{AllByRecursion}
 use Rattle.std.specs.VecDeque.Iter.{deque_iter_rest}
@@ -6,7 +6,6 @@ use Rattle.gb_action.specs.Changes.{Changes}
 use Rattle.gb_action.specs.Files.{Trees}
 use Rattle.gb_action.specs.declared.output.OutputFiles.{OutputFiles}
 use Rattle.gb_folder.specs.Files.{Contents}
-use Rattle.gb_folder.proofs.Changes.{SameTearing-chain}
 use Rattle.gb_plan.specs.Ready.{IsReadyAction}
 use Rattle.gb_plan.specs.Task.{Text, is_output_of}
 use Rattle.gb_plan.specs.declared.task.Action.{Action}
@@ -22,7 +21,7 @@ use Rattle.gb_run.specs.Course.{course_of}
 use Rattle.gb_run.specs.Digests.{prints_at}
 use Rattle.gb_run.proofs.Endings.{none_left}
 use Rattle.gb_run.specs.AskingChanges.{CanGoOn, GoesOn}
-use Rattle.gb_run.specs.Changing.{Fails}
+use Rattle.gb_run.specs.Failing.{ByChanges, Fails}
 use Rattle.gb_run.specs.ChangeDigests.{at_places, digests_at}
 use Rattle.gb_run.specs.Turn.{Ends, IsItsTurn, Makes, Stops}
 use Rattle.gb_run.proofs.Fitting.{all_fitting}
@@ -41,9 +40,9 @@ returns-in_err-full_request-clause-err g c = λ tells.
     let p = err_from_is_err_and c.from_residual.result c.from_residual.ensures.1 in
     let IsFault : Fault → Type 0 = λ fault. (kinds : Kinds) → Agrees g.A.Actions.meanings c.args.table.now kinds → (old : Trees)
     → GoesOn kinds task old c.args.files c.args.changes c.args.outputs (F.contents folder).files
-    → Fails (course_of kinds task c.args.files c.args.changes (rest_of task (F.contents folder).files)) (F.contents folder).files (F.may_leave folder) (F.failures folder) fault c.args.lines.now (F.failures folder) (F.contents folder).files in
+    → Fails (course_of kinds task c.args.files c.args.changes (rest_of task (F.contents folder).files)) (ByChanges (F.contents folder).files) (F.may_leave folder) (F.failures folder) fault c.args.lines.now (F.failures folder) (F.contents folder).files in
     at_err (λ r. IfErr r IsFault) c.from_residual.result p.0 faults.OutOfMemory p.1 p.2 (λ kinds agrees old goes_on.
-    subst (λ (lines : List Text). Fails (course_of kinds task c.args.files c.args.changes (rest_of task (F.contents folder).files)) (F.contents folder).files (F.may_leave folder) (F.failures folder) faults.OutOfMemory lines (F.failures folder) (F.contents folder).files)
+    subst (λ (lines : List Text). Fails (course_of kinds task c.args.files c.args.changes (rest_of task (F.contents folder).files)) (ByChanges (F.contents folder).files) (F.may_leave folder) (F.failures folder) faults.OutOfMemory lines (F.failures folder) (F.contents folder).files)
     (sym c.requires.no_lines)
     (fails_early kinds task c.args.files c.args.changes (F.contents folder).files (F.may_leave folder) (F.failures folder) faults.OutOfMemory (F.failures folder) refl))
 
@@ -55,9 +54,9 @@ returns-in_err-digests_stood-clause-err g c = λ tells.
     let p = err_from_is_err_and c.from_residual-in_err-digests_stood.result c.from_residual-in_err-digests_stood.ensures.1 in
     let IsFault : Fault → Type 0 = λ fault. (kinds : Kinds) → Agrees g.A.Actions.meanings c.args.table.now kinds → (old : Trees)
     → GoesOn kinds task old c.args.files c.args.changes c.args.outputs (F.contents folder).files
-    → Fails (course_of kinds task c.args.files c.args.changes (rest_of task (F.contents folder).files)) (F.contents folder).files (F.may_leave folder) (F.failures folder) fault c.args.lines.now (F.failures folder) (F.contents folder).files in
+    → Fails (course_of kinds task c.args.files c.args.changes (rest_of task (F.contents folder).files)) (ByChanges (F.contents folder).files) (F.may_leave folder) (F.failures folder) fault c.args.lines.now (F.failures folder) (F.contents folder).files in
     at_err (λ r. IfErr r IsFault) c.from_residual-in_err-digests_stood.result p.0 faults.OutOfMemory p.1 p.2 (λ kinds agrees old goes_on.
-    subst (λ (lines : List Text). Fails (course_of kinds task c.args.files c.args.changes (rest_of task (F.contents folder).files)) (F.contents folder).files (F.may_leave folder) (F.failures folder) faults.OutOfMemory lines (F.failures folder) (F.contents folder).files)
+    subst (λ (lines : List Text). Fails (course_of kinds task c.args.files c.args.changes (rest_of task (F.contents folder).files)) (ByChanges (F.contents folder).files) (F.may_leave folder) (F.failures folder) faults.OutOfMemory lines (F.failures folder) (F.contents folder).files)
     (sym c.requires.no_lines)
     (fails_early kinds task c.args.files c.args.changes (F.contents folder).files (F.may_leave folder) (F.failures folder) faults.OutOfMemory (F.failures folder) refl))
 
@@ -146,7 +145,7 @@ returns-in_err-run_one-clause-err g c = λ tells.
     let p = err_from_is_err_and c.from_residual-in_err-run_one.result c.from_residual-in_err-run_one.ensures.1 in
     let IsFault : Fault → Type 0 = λ fault. (kinds : Kinds) → Agrees g.A.Actions.meanings c.args.table.now kinds → (before : Trees)
     → GoesOn kinds task before c.args.files c.args.changes c.args.outputs (F.contents start).files
-    → Fails (course_of kinds task c.args.files c.args.changes (rest_of task (F.contents start).files)) (F.contents start).files (F.may_leave start) (F.failures start) fault now.lines (F.failures now.folder) (F.contents now.folder).files in
+    → Fails (course_of kinds task c.args.files c.args.changes (rest_of task (F.contents start).files)) (ByChanges (F.contents start).files) (F.may_leave start) (F.failures start) fault now.lines (F.failures now.folder) (F.contents now.folder).files in
     at_err (λ r. IfErr r IsFault) c.from_residual-in_err-run_one.result p.0 c.in_err-run_one.field-0.0 p.1 p.2 (λ kinds agrees before goes_on.
     let folder = (F.contents old.folder).files in
     let new = (F.contents now.folder).files in
@@ -178,7 +177,7 @@ returns-in_err-prints-clause-err g c = λ tells.
     let p = err_from_is_err_and c.from_residual-in_err-prints.result c.from_residual-in_err-prints.ensures.1 in
     let IsFault : Fault → Type 0 = λ fault. (kinds : Kinds) → Agrees g.A.Actions.meanings c.args.table.now kinds → (before : Trees)
     → GoesOn kinds task before c.args.files c.args.changes c.args.outputs (F.contents start).files
-    → Fails (course_of kinds task c.args.files c.args.changes (rest_of task (F.contents start).files)) (F.contents start).files (F.may_leave start) (F.failures start) fault old.lines (F.failures old.folder) (F.contents old.folder).files in
+    → Fails (course_of kinds task c.args.files c.args.changes (rest_of task (F.contents start).files)) (ByChanges (F.contents start).files) (F.may_leave start) (F.failures start) fault old.lines (F.failures old.folder) (F.contents old.folder).files in
     at_err (λ r. IfErr r IsFault) c.from_residual-in_err-prints.result p.0 faults.OutOfMemory p.1 p.2 (λ kinds agrees before goes_on.
     fails_late kinds task c.args.files c.args.changes (F.contents start).files (F.contents old.folder).files old.lines
     (subst (λ (actions : List Action). IsGoing kinds task c.args.files c.args.changes (F.contents start).files actions (F.contents old.folder).files old.lines)

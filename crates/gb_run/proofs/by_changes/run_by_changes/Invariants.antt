@@ -1,11 +1,11 @@
-use Rattle.std.proofs.Common.{◌≡◌, ◌≤◌, IsTrue}
+use Rattle.std.proofs.Common.{◌≡◌, IsTrue}
 use Rattle.std.specs.List.{AllByRecursion}
 use Rattle.std.specs.VecDeque.Iter.{deque_iter_rest}
 use Rattle.gb_folder.specs.Calls.{Asks, changes_at}
 use Rattle.gb_action.specs.Files.{Trees}
 use Rattle.std.specs.FinMap.Entries.{is_sorted}
 use Rattle.gb_core.specs.Lists.{byte_order}
-use Rattle.gb_folder.specs.Files.{Files, SameTearing, are_placed}
+use Rattle.gb_folder.specs.Files.{Files, are_placed}
 use Rattle.gb_plan.specs.Ready.{IsReadyAction}
 use Rattle.gb_plan.specs.Task.{is_output_of}
 use Rattle.gb_store.specs.Changes.{ChangesOnly}

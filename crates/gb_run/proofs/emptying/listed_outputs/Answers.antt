@@ -1,4 +1,4 @@
-use Rattle.std.proofs.Common.{arith, Bool, ◌<◌, ◌++◌, [], false, append_assoc, get_or, length, ◌≡◌, ◌⊎◌, ℕ, List, true, cond, map, IfErr, Some, refl, sym, ap, ◌∙◌, inl, inr, drop, ◌∷◌, ◌+◌}
+use Rattle.std.proofs.Common.{Bool, ◌<◌, ◌++◌, [], false, append_assoc, get_or, length, ◌≡◌, ◌⊎◌, ℕ, List, true, cond, map, IfErr, Some, refl, sym, ap, ◌∙◌, inl, inr, drop, ◌∷◌, ◌+◌}
 use Rattle.std.proofs.lemmas.Result.{err_from_is_err_and}
 use Rattle.std.proofs.lemmas.Bool.{and_from, and_parts}
 use Rattle.std.proofs.lemmas.List.Folds.{list_all-append}

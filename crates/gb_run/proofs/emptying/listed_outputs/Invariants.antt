@@ -1,4 +1,4 @@
-use Rattle.std.proofs.Common.{◌≡◌, ◌≤◌, ◌++◌, IsTrue, drop}
+use Rattle.std.proofs.Common.{◌≡◌, ◌++◌, IsTrue, drop}
 use Rattle.std.specs.List.{list_all}
 use Rattle.gb_folder.specs.Calls.{Asks, no_change}
 use Rattle.gb_run.specs.Emptying.{is_at_output, odd_faults, places_at}

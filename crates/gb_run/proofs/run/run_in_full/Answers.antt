@@ -1,11 +1,10 @@
-use Rattle.std.proofs.Common.{arith, ◌≡◌, ◌++◌, ◌∷◌, List, Ok, IfErr, map, refl, sym, ap, subst, ◌∙◌}
+use Rattle.std.proofs.Common.{◌≡◌, ◌++◌, ◌∷◌, List, Ok, IfErr, map, refl, sym, ap, subst, ◌∙◌}
 use Rattle.std.proofs.lemmas.Result.{err_from_is_err_and}
 use Rattle.std.specs.List.{AllByRecursion}
 use Rattle.std.specs.VecDeque.Iter.{deque_iter_rest}
 use Rattle.gb_action.specs.Changes.{Changes}
 use Rattle.gb_action.specs.Files.{Trees}
 use Rattle.gb_folder.specs.Files.{Files}
-use Rattle.gb_folder.proofs.Changes.{SameTearing-chain}
 use Rattle.gb_plan.specs.Ready.{IsReadyAction}
 use Rattle.gb_plan.specs.Task.{Text, is_output_of}
 use Rattle.gb_plan.specs.declared.task.Action.{Action}
@@ -18,8 +17,9 @@ use Rattle.gb_meaning.specs.Kinds.{Kinds, kind_of}
 use Rattle.gb_meaning.specs.Made.{put_result}
 use Rattle.gb_meaning.specs.Run.{step_by}
 use Rattle.gb_run.specs.Asking.{IsFullRequest}
-use Rattle.gb_run.specs.Course.{Fails, course_of}
+use Rattle.gb_run.specs.Course.{course_of}
 use Rattle.gb_run.specs.Digests.{prints_at}
+use Rattle.gb_run.specs.Failing.{Fails, InFull}
 use Rattle.gb_run.specs.Step.{IsHeld, IsKept, StopsIn}
 use Rattle.gb_run.proofs.Endings.{none_left}
 use Rattle.gb_run.proofs.Keeping.{IsMaking, makes_all, makes_more}
@@ -33,10 +33,10 @@ returns-in_err-full_request-clause-err g c = λ tells.
     let folder = c.args.folder.now in
     let p = err_from_is_err_and c.from_residual.result c.from_residual.ensures.1 in
     let IsFault : Fault → Type 0 = λ fault. (kinds : Kinds) → Agrees g.A.Actions.meanings c.args.table.now kinds
-    → Fails (course_of kinds c.args.task.now c.args.files c.args.changes (F.contents folder).files) (F.may_leave folder) (F.failures folder) fault c.args.lines.now (F.failures folder) (F.contents folder).files in
+    → Fails (course_of kinds c.args.task.now c.args.files c.args.changes (F.contents folder).files) InFull (F.may_leave folder) (F.failures folder) fault c.args.lines.now (F.failures folder) (F.contents folder).files in
     at_err (λ r. IfErr r IsFault) c.from_residual.result p.0 faults.OutOfMemory p.1 p.2 (λ kinds agrees.
     let course = course_of kinds c.args.task.now c.args.files c.args.changes (F.contents folder).files in
-    subst (λ (lines : List Text). Fails course (F.may_leave folder) (F.failures folder) faults.OutOfMemory lines (F.failures folder) (F.contents folder).files) (sym c.requires.no_lines)
+    subst (λ (lines : List Text). Fails course InFull (F.may_leave folder) (F.failures folder) faults.OutOfMemory lines (F.failures folder) (F.contents folder).files) (sym c.requires.no_lines)
     (fails_early course (F.may_leave folder) (F.failures folder) faults.OutOfMemory (F.failures folder) refl))
 
 pub loop-action-preserved : goal.loop-action-preserved
@@ -88,7 +88,7 @@ returns-in_err-run_one-clause-err g c = λ tells.
     let start = c.args.folder.now in
     let p = err_from_is_err_and c.from_residual-in_err-run_one.result c.from_residual-in_err-run_one.ensures.1 in
     let IsFault : Fault → Type 0 = λ fault. (kinds : Kinds) → Agrees g.A.Actions.meanings c.args.table.now kinds
-    → Fails (course_of kinds task c.args.files c.args.changes (F.contents start).files) (F.may_leave start) (F.failures start) fault now.lines (F.failures now.folder) (F.contents now.folder).files in
+    → Fails (course_of kinds task c.args.files c.args.changes (F.contents start).files) InFull (F.may_leave start) (F.failures start) fault now.lines (F.failures now.folder) (F.contents now.folder).files in
     at_err (λ r. IfErr r IsFault) c.from_residual-in_err-run_one.result p.0 c.in_err-run_one.field-0.0 p.1 p.2 (λ kinds agrees.
     let course = course_of kinds task c.args.files c.args.changes (F.contents start).files in
     let folder = (F.contents old.folder).files in
@@ -110,7 +110,7 @@ returns-in_err-prints-clause-err g c = λ tells.
     let folder = (F.contents old.folder).files in
     let p = err_from_is_err_and c.from_residual-in_err-prints.result c.from_residual-in_err-prints.ensures.1 in
     let IsFault : Fault → Type 0 = λ fault. (kinds : Kinds) → Agrees g.A.Actions.meanings c.args.table.now kinds
-    → Fails (course_of kinds c.args.task.now c.args.files c.args.changes (F.contents start).files) (F.may_leave start) (F.failures start) fault old.lines (F.failures old.folder) folder in
+    → Fails (course_of kinds c.args.task.now c.args.files c.args.changes (F.contents start).files) InFull (F.may_leave start) (F.failures start) fault old.lines (F.failures old.folder) folder in
     at_err (λ r. IfErr r IsFault) c.from_residual-in_err-prints.result p.0 faults.OutOfMemory p.1 p.2 (λ kinds agrees.
     let course = course_of kinds c.args.task.now c.args.files c.args.changes (F.contents start).files in
     let nothing = none_left (deque_iter_rest old.action-iterator) c.in-None.ensures.steps.0 in

@@ -1,8 +1,8 @@
-use Rattle.std.proofs.Common.{◌≤◌, IsTrue}
+use Rattle.std.proofs.Common.{IsTrue}
 use Rattle.std.specs.List.{AllByRecursion}
 use Rattle.std.specs.VecDeque.Iter.{deque_iter_rest}
 use Rattle.gb_folder.specs.Calls.{Asks, changes_at}
-use Rattle.gb_folder.specs.Files.{SameTearing, are_placed}
+use Rattle.gb_folder.specs.Files.{are_placed}
 use Rattle.gb_plan.specs.Ready.{IsReadyAction}
 use Rattle.gb_plan.specs.Task.{is_output_of}
 use Rattle.gb_store.specs.Changes.{ChangesOnly}

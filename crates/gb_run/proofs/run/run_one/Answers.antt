@@ -15,12 +15,15 @@ use Rattle.gb_meaning.specs.Headline.{Agrees}
 use Rattle.gb_meaning.specs.Kinds.{Kinds, kind_of}
 use Rattle.gb_meaning.specs.Made.{placed, put_over, put_result}
 use Rattle.gb_meaning.specs.Run.{step_by}
+use Rattle.gb_run.specs.Named.{put}
 use Rattle.gb_run.specs.Step.{IsHeld, IsKept, StopsIn}
+use Rattle.gb_run.specs.Steps.{after_steps}
+use Rattle.gb_run.proofs.AsSteps.{all_put}
 use Rattle.gb_run.proofs.AtOutputs.{is_at, placed_at_these, placing_blames_none}
 use Rattle.gb_run.proofs.Keeping.{keeps_on}
 use Rattle.gb_run.proofs.Placed.{all_shown, small_taken}
 use Rattle.gb_run.proofs.Stepped.{goes_on, stops_asked, stops_for_memory, stops_placing, stops_printing, stops_writing}
-use Rattle.gb_run.proofs.Written.{changes_cut, changes_with_all}
+use Rattle.gb_run.proofs.SteppedOn.{changes_after, changes_cut}
 use Rattle.gb_folder.proofs.Asked.{asks_where}
 use Rattle.gb_run.proofs.run.run_one.Goals as goal
 
@@ -111,9 +114,10 @@ returns-in_err-write_files-clause-blamed g c = λ place is.
 
 pub returns-in_err-write_files-clause-changes : goal.returns-in_err-write_files-clause-changes
 returns-in_err-write_files-clause-changes g c = λ tells.
-    changes_cut (is_output_of c.args.task.now) _ (shown c.as_slice-4.result.now) _ _ _
+    changes_cut (is_output_of c.args.task.now) _ (put (shown c.as_slice-4.result.now)) _ _ _
+    (all_put (λ place. is_at c.args.task.now.outputs place ≡ true) (shown c.as_slice-4.result.now)
     (subst (λ (fs : List (List ℕ × List ℕ)). AllByRecursion (λ file. is_at c.args.task.now.outputs file.0 ≡ true) fs) (sym (ap shown c.as_slice-4.ensures.value ∙ c.in_ok-files.ensures.files))
-    (placed_at_these c.as_slice.result.now c.args.task.now.outputs c.as_slice-2.result.now c.as_slice.ensures))
+    (placed_at_these c.as_slice.result.now c.args.task.now.outputs c.as_slice-2.result.now c.as_slice.ensures)))
     (c.in_err-write_files.ensures.cut tells)
 
 pub returns-in_err-write_files-clause-err : goal.returns-in_err-write_files-clause-err
@@ -140,9 +144,10 @@ pub returns-in_err-append-clause-changes : goal.returns-in_err-append-clause-cha
 returns-in_err-append-clause-changes g c = λ tells.
     let F = g.F.Folder in
     subst (λ (folder : Contents). ChangesOnly (is_output_of c.args.task.now) (F.contents c.args.folder.now) folder) (sym (c.in_ok-write_files.ensures.ok tells))
-    (changes_with_all (is_output_of c.args.task.now) (shown c.as_slice-4.result.now) (F.contents c.args.folder.now)
+    (changes_after (is_output_of c.args.task.now) (put (shown c.as_slice-4.result.now)) (F.contents c.args.folder.now)
+    (all_put (λ place. is_at c.args.task.now.outputs place ≡ true) (shown c.as_slice-4.result.now)
     (subst (λ (fs : List (List ℕ × List ℕ)). AllByRecursion (λ file. is_at c.args.task.now.outputs file.0 ≡ true) fs) (sym (ap shown c.as_slice-4.ensures.value ∙ c.in_ok-files.ensures.files))
-    (placed_at_these c.as_slice.result.now c.args.task.now.outputs c.as_slice-2.result.now c.as_slice.ensures)))
+    (placed_at_these c.as_slice.result.now c.args.task.now.outputs c.as_slice-2.result.now c.as_slice.ensures))))
 
 pub returns-in_err-append-clause-err : goal.returns-in_err-append-clause-err
 returns-in_err-append-clause-err g c = λ tells.
@@ -162,15 +167,16 @@ returns-in_err-append-clause-err g c = λ tells.
     let written : made ≡ Ok c.as_slice-2.result.now = c.in_ok-reply.ensures.written kinds agrees ∙ ap Ok (sym c.as_slice-2.ensures) in
     subst (λ (os : List Output). StopsIn os rest held made (F.may_leave c.args.folder.now) (F.failures c.args.folder.now) faults.OutOfMemory (F.failures new) (F.contents new).files) c.as_slice.ensures
     (stops_printing outputs rest held _ _ made is_held _ _ _ _ c.as_slice-2.result.now written c.in_ok-files.ensures.ok (F.contents new).files
-    (ap (λ (folder : Contents). folder.files) (c.in_ok-write_files.ensures.ok tells) ∙ ap (put_over old) (ap shown c.as_slice-4.ensures.value ∙ c.in_ok-files.ensures.files)) refl))
+    (ap (λ (folder : Contents). folder.files) (c.in_ok-write_files.ensures.ok tells) ∙ ap (λ fs. after_steps old (put fs)) (ap shown c.as_slice-4.ensures.value ∙ c.in_ok-files.ensures.files)) refl))
 
 pub returns-clause-changes : goal.returns-clause-changes
 returns-clause-changes g c = λ tells.
     let F = g.F.Folder in
     subst (λ (folder : Contents). ChangesOnly (is_output_of c.args.task.now) (F.contents c.args.folder.now) folder) (sym (c.in_ok-write_files.ensures.ok tells))
-    (changes_with_all (is_output_of c.args.task.now) (shown c.as_slice-4.result.now) (F.contents c.args.folder.now)
+    (changes_after (is_output_of c.args.task.now) (put (shown c.as_slice-4.result.now)) (F.contents c.args.folder.now)
+    (all_put (λ place. is_at c.args.task.now.outputs place ≡ true) (shown c.as_slice-4.result.now)
     (subst (λ (fs : List (List ℕ × List ℕ)). AllByRecursion (λ file. is_at c.args.task.now.outputs file.0 ≡ true) fs) (sym (ap shown c.as_slice-4.ensures.value ∙ c.in_ok-files.ensures.files))
-    (placed_at_these c.as_slice.result.now c.args.task.now.outputs c.as_slice-2.result.now c.as_slice.ensures)))
+    (placed_at_these c.as_slice.result.now c.args.task.now.outputs c.as_slice-2.result.now c.as_slice.ensures))))
 
 pub returns-clause-ok : goal.returns-clause-ok
 returns-clause-ok g c = λ tells kinds agrees rest held is_held.

@@ -4,7 +4,7 @@ use Rattle.gb_action.specs.Files.{Trees}
 use Rattle.gb_history.specs.Record.{Prints, prints_in}
 use Rattle.gb_history.specs.declared.record.OutputRecord.{OutputRecord}
 use Rattle.gb_run.specs.AskingChanges.{GoesOn}
-use Rattle.gb_run.specs.Changing.{Fails}
+use Rattle.gb_run.specs.Failing.{ByChanges, Fails}
 use Rattle.gb_label.proofs.Recorded.{names_with}
 use Rattle.gb_meaning.specs.Headline.{Agrees}
 use Rattle.gb_meaning.specs.Kinds.{Kinds}
@@ -28,7 +28,7 @@ returns-in_err-outputs-clause-err g c = λ tells.
     let p = err_from_is_err_and c.from_residual-in_err-outputs.result c.from_residual-in_err-outputs.ensures.1 in
     let IsFault : Fault → Type 0 = λ fault. (kinds : Kinds) → Agrees g.A.Actions.meanings c.args.table.now kinds → (old : Trees)
     → GoesOn kinds task old c.args.inputs.trees c.args.changes c.args.outputs.seen (F.contents start).files
-    → Fails (course_of kinds task c.args.inputs.trees c.args.changes (rest_of task (F.contents start).files)) (F.contents start).files (F.may_leave start) (F.failures start) fault c.run_by_changes.new.lines (F.failures now) (F.contents now).files in
+    → Fails (course_of kinds task c.args.inputs.trees c.args.changes (rest_of task (F.contents start).files)) (ByChanges (F.contents start).files) (F.may_leave start) (F.failures start) fault c.run_by_changes.new.lines (F.failures now) (F.contents now).files in
     at_err (λ r. IfErr r IsFault) c.from_residual-in_err-outputs.result p.0 faults.OutOfMemory p.1 p.2 (λ kinds agrees old goes.
     let writer = writer_of kinds task.actions goes.one_writer in
     cut_by_changes kinds (course_of kinds task c.args.inputs.trees c.args.changes (rest_of task (F.contents start).files)) (F.contents start).files (F.may_leave start) (F.failures start) (F.failures now)
@@ -51,7 +51,7 @@ returns-in_err-record_of-clause-err g c = λ tells.
     let p = err_from_is_err_and c.from_residual-in_err-record_of.result c.from_residual-in_err-record_of.ensures.1 in
     let IsFault : Fault → Type 0 = λ fault. (kinds : Kinds) → Agrees g.A.Actions.meanings c.args.table.now kinds → (old : Trees)
     → GoesOn kinds task old c.args.inputs.trees c.args.changes c.args.outputs.seen (F.contents start).files
-    → Fails (course_of kinds task c.args.inputs.trees c.args.changes (rest_of task (F.contents start).files)) (F.contents start).files (F.may_leave start) (F.failures start) fault c.run_by_changes.new.lines (F.failures now) (F.contents now).files in
+    → Fails (course_of kinds task c.args.inputs.trees c.args.changes (rest_of task (F.contents start).files)) (ByChanges (F.contents start).files) (F.may_leave start) (F.failures start) fault c.run_by_changes.new.lines (F.failures now) (F.contents now).files in
     at_err (λ r. IfErr r IsFault) c.from_residual-in_err-record_of.result p.0 faults.OutOfMemory p.1 p.2 (λ kinds agrees old goes.
     let writer = writer_of kinds task.actions goes.one_writer in
     cut_by_changes kinds (course_of kinds task c.args.inputs.trees c.args.changes (rest_of task (F.contents start).files)) (F.contents start).files (F.may_leave start) (F.failures start) (F.failures now)
@@ -72,5 +72,5 @@ returns-in_err-made-clause-err g c = λ tells.
     let p = err_from_is_err_and c.from_residual.result c.from_residual.ensures.1 in
     let IsFault : Fault → Type 0 = λ fault. (kinds : Kinds) → Agrees g.A.Actions.meanings c.args.table.now kinds → (old : Trees)
     → GoesOn kinds task old c.args.inputs.trees c.args.changes c.args.outputs.seen (F.contents start).files
-    → Fails (course_of kinds task c.args.inputs.trees c.args.changes (rest_of task (F.contents start).files)) (F.contents start).files (F.may_leave start) (F.failures start) fault c.run_by_changes.new.lines (F.failures now) (F.contents now).files in
+    → Fails (course_of kinds task c.args.inputs.trees c.args.changes (rest_of task (F.contents start).files)) (ByChanges (F.contents start).files) (F.may_leave start) (F.failures start) fault c.run_by_changes.new.lines (F.failures now) (F.contents now).files in
     at_err (λ r. IfErr r IsFault) c.from_residual.result p.0 c.in_err-made.field-0.0 p.1 p.2 (c.in_err-made.ensures.err tells)

@@ -2,7 +2,7 @@ use Rattle.std.proofs.Common.{ap, take, ◌∙◌}
 use Rattle.gb_store.specs.Changes.{shown}
 use Rattle.gb_tree.specs.Prints.{digests_of}
 use Rattle.gb_meaning.specs.Made.{put_over}
-use Rattle.gb_run.proofs.Written.{over_more}
+use Rattle.gb_run.proofs.AsSteps.{over_more}
 use Rattle.gb_run.proofs.digests.Digests.put_all.Goals as goal
 
 pub loop-file-preserved : goal.loop-file-preserved

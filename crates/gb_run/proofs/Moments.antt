@@ -1,0 +1,106 @@
+-- Moments of a run between two actions, and what a later failure of the machine is of an earlier call.
+use Rattle.std.specs.Prelude.{ℕ, ◌≡◌, ◌≤◌, ◌⊎◌, ◌++◌, List, [], ◌∷◌, None, Result, Err}
+use Rattle.std.proofs.Common.{refl, ap, subst, ◌∙◌, inl, inr}
+use Rattle.gb_folder.specs.Files.{Contents, Files, HasRisen, Place, SameTearing, Tearing, file_at, with_left}
+use Rattle.gb_folder.proofs.Changes.{HasRisen-before}
+use Rattle.gb_report.specs.declared.fault.Fault.{Fault}
+use Rattle.gb_report.specs.declared.fault.Fault.TheVariants as faults
+use Rattle.gb_plan.specs.Task.{Text}
+use Rattle.gb_plan.specs.declared.task.Action.{Action}
+use Rattle.gb_store.specs.Changes.{IsHindered}
+use Rattle.gb_meaning.specs.Run.{step_by}
+use Rattle.gb_run.specs.Asking.{made_by}
+use Rattle.gb_run.specs.Course.{Course, files_at_hand, lines_by, run_along}
+use Rattle.gb_run.specs.Failing.{AreAtHand, ByChanges, Fails, FailsByItself, InFull, Moment, Way, ended_files}
+use Rattle.gb_run.specs.Named.{put}
+use Rattle.gb_run.specs.Stepping.{FailsByMachine, StopsAt}
+use Rattle.gb_run.specs.Steps.{Step, after_steps, folder_after}
+use Rattle.gb_run.proofs.Endings.{stops_done, stops_fault}
+
+-- ---- calls
+
+-- what stopped a later call stopped all calls
+pub machine_before : (first second : Tearing) (before between after : ℕ) (old new : Files) (behind : List Step) (fault : Fault) → SameTearing first second → before ≤ between → between ≤ after
+    → FailsByMachine second between old behind fault after new → FailsByMachine first before old behind fault after new
+machine_before first second before between after old new behind fault same le more (inl memory) = inl memory
+machine_before first second before between after old new behind fault same le more (inr stopped) = inr (record {
+  step = stopped.step;
+  later = stopped.later;
+  next = stopped.next;
+  device = stopped.device;
+  risen = HasRisen-before before between after le more stopped.risen;
+  left = stopped.left;
+  may = (same stopped.step.0 _ stopped.step.1 stopped.left).0 stopped.may;
+  files = stopped.files;
+})
+
+-- a step was hindered where these files stood
+pub by_machine : (may_leave : Tearing) (before after : ℕ) (old : Contents) (stood : Files) (front : List Step) (step : Step) (behind : List Step) (fault : Fault) (new : Contents)
+    → after_steps old.files front ≡ stood → ((place : Place) → fault ≡ faults.Device place → HasRisen before after)
+    → IsHindered may_leave step.0 step.1 (folder_after old front) fault new → FailsByMachine may_leave before stood (step ∷ behind) fault after new.files
+by_machine may_leave before after old stood front step behind fault new is risen (inl memory) = inl (memory.0, ap (λ (c : Contents). c.files) memory.1 ∙ is)
+by_machine may_leave before after old stood front step behind fault new is risen (inr torn) = inr (record {
+  step = step;
+  later = behind;
+  next = refl;
+  device = torn.0;
+  risen = risen step.0 torn.0;
+  left = torn.1.0;
+  may = subst (λ (fs : Files). may_leave step.0 (file_at fs step.0) step.1 torn.1.0) is torn.1.1;
+  files = ap (λ (c : Contents). c.files) torn.1.2 ∙ ap (λ (fs : Files). with_left fs step.0 torn.1.0) is;
+})
+
+-- ---- between two actions
+
+module _ (course : Course) where
+  -- none of the steps at hand is done
+  pub unbegun : (way : Way) (done left : List Action) → (steps : List Step) × AreAtHand course way done left steps
+  unbegun InFull done left = (put (files_at_hand course (run_along course done).held left), refl)
+  unbegun (ByChanges old) done [] = ([], refl)
+  unbegun (ByChanges old) done (action ∷ left) = ([], inl refl)
+
+  module _ (way : Way) (done left : List Action) (all : course.task.actions ≡ done ++ left) (no_fault : (run_along course done).fault ≡ None) where
+    abbrev pub moment_at : Moment course way
+    moment_at = record {
+      done = done;
+      left = left;
+      all = all;
+      no_fault = no_fault;
+      front = [];
+      behind = (unbegun way done left).0;
+      at_hand = (unbegun way done left).1;
+    }
+
+    -- memory ran out there
+    pub fails_between : (may_leave : Tearing) (before after : ℕ) (fault : Fault) (lines : List Text) (new : Files) → fault ≡ faults.OutOfMemory → lines ≡ lines_by course done → new ≡ ended_files course way done
+        → Fails course way may_leave before fault lines after new
+    fails_between may_leave before after fault lines new told printed stands = record { moment = moment_at; printed = printed; why = inr (inl (told, stands)) }
+
+-- ---- at an action
+
+module _ (course : Course) (way : Way) (done left : List Action) (action : Action) (all : course.task.actions ≡ done ++ action ∷ left) (no_fault : (run_along course done).fault ≡ None) where
+  -- what the action comes to behind those that have ended
+  abbrev comes_to : Result Files Fault
+  comes_to = step_by course.task.outputs course.rest (run_along course done).held (made_by course.kinds course.task action course.trees)
+
+  -- it stops
+  pub fails_at : (first second : Tearing) (before between after : ℕ) (fault : Fault) (lines : List Text) (new : Files) → SameTearing first second → before ≤ between → between ≤ after → lines ≡ lines_by course done
+      → StopsAt (AreAtHand course way done (action ∷ left)) comes_to second between (ended_files course way done) fault after new → Fails course way first before fault lines after new
+  fails_at first second before between after fault lines new same le more printed stops = record { moment = here; printed = printed; why = at_stop stops.why }
+    where
+      here : Moment course way
+      here = record { done = done; left = action ∷ left; all = all; no_fault = no_fault; front = stops.front; behind = stops.behind; at_hand = stops.at_hand }
+
+      at_stop : ((comes_to ≡ Err fault) × (new ≡ after_steps (ended_files course way done) stops.front))
+          ⊎ FailsByMachine second between (after_steps (ended_files course way done) stops.front) stops.behind fault after new
+          → FailsByItself course way here fault new ⊎ FailsByMachine first before (after_steps (ended_files course way done) stops.front) stops.behind fault after new
+      at_stop (inl itself) = inl (record {
+        faulty =
+            ap (λ (actions : List Action). (run_along course actions).fault) all
+            ∙ stops_fault course.kinds course.task.outputs course.task.values course.trees course.rest done left [] action fault no_fault itself.0;
+        done =
+            ap (λ (actions : List Action). (run_along course actions).done) all
+            ∙ stops_done course.kinds course.task.outputs course.task.values course.trees course.rest done left [] action fault no_fault itself.0;
+        files = itself.1;
+      })
+      at_stop (inr machine) = inr (machine_before first second before between after (after_steps (ended_files course way done) stops.front) new stops.behind fault same le more machine)

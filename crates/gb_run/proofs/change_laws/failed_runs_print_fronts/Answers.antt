@@ -1,5 +1,0 @@
-use Rattle.gb_run.proofs.Failing.{failed_runs_print_fronts as law}
-use Rattle.gb_run.proofs.change_laws.failed_runs_print_fronts.Goals as goal
-
-pub returns : goal.returns
-returns c = λ returned. law _

@@ -1,5 +1,0 @@
-use Rattle.gb_run.proofs.Failing.{torn_places_are_of_the_run as law}
-use Rattle.gb_run.proofs.change_laws.torn_places_are_of_the_run.Goals as goal
-
-pub returns : goal.returns
-returns c = λ returned. law _
