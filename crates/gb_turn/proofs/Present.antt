@@ -1,5 +1,5 @@
 -- What is compared with a record by digests is what the task has now.
-use Rattle.std.specs.Prelude.{◌≡◌, true, List, [], ◌∷◌, map}
+use Rattle.std.specs.Prelude.{◌≡◌, Bool, true, List, [], ◌∷◌, map}
 use Rattle.std.specs.List.{list_any}
 use Rattle.std.proofs.Common.{refl, sym, ap, ap₂, ◌∙◌}
 use Rattle.gb_core.specs.Place.{is_under}
