@@ -29,9 +29,11 @@ pub fn page_actions(alloc: Global) -> Result<ActionTable<<Pages as Actions>::Sto
         ∷ (codes "index", Second (Second (Second (First 1))))
         ∷ (codes "checkPages", Second (Second (Second (Second 1)))) ∷ []) }
 {
-    let markdown = only::<ByFile<Markdown>>(alloc, "markdown", 1)?;
+    let others = at_once(alloc)?;
     let pages = only::<OfTrees<Renamed<Markdown>>>(alloc, "htmlPages", 1)?;
-    beside(alloc, markdown, beside(alloc, pages, at_once(alloc)?)?)
+    let others = beside(alloc, pages, others)?;
+    let markdown = only::<ByFile<Markdown>>(alloc, "markdown", 1)?;
+    beside(alloc, markdown, others)
 }
 
 /// The table of those that work on all pages at once.
@@ -39,8 +41,9 @@ fn at_once(alloc: Global) -> Result<ActionTable<<AtOnce as Actions>::Stored>, Ta
     ensures { IfOk result (λ table. table ≡ (codes "template", First 1)
         ∷ (codes "index", Second (First 1)) ∷ (codes "checkPages", Second (Second 1)) ∷ []) }
 {
-    let template = only::<OfTrees<Template>>(alloc, "template", 1)?;
-    let index = only::<OfTrees<Index>>(alloc, "index", 1)?;
     let check = only::<Checks<CheckPages>>(alloc, "checkPages", 1)?;
-    beside(alloc, template, beside(alloc, index, check)?)
+    let index = only::<OfTrees<Index>>(alloc, "index", 1)?;
+    let others = beside(alloc, index, check)?;
+    let template = only::<OfTrees<Template>>(alloc, "template", 1)?;
+    beside(alloc, template, others)
 }

@@ -16,9 +16,7 @@ pub fn inline(page: &mut Vec<u8>, line: &[u8]) -> Result<(), AllocError>
     let mut inside = false;
     for part in line.split_str(b"`") {
         if inside {
-            open(page, Element::Code)?;
-            text(page, part)?;
-            close(page, Element::Code)?;
+            enclosed(page, Element::Code, part)?;
         } else {
             links(page, part)?;
         }
@@ -78,13 +76,21 @@ fn words(page: &mut Vec<u8>, line: &[u8]) -> Result<(), AllocError>
     let mut inside = false;
     for part in line.split_str(b"*") {
         if inside {
-            open(page, Element::Emphasis)?;
-            text(page, part)?;
-            close(page, Element::Emphasis)?;
+            enclosed(page, Element::Emphasis, part)?;
         } else {
             text(page, part)?;
         }
         inside = !inside;
     }
     Ok(())
+}
+
+/// Writes a text in an element.
+fn enclosed(page: &mut Vec<u8>, element: Element, part: &[u8]) -> Result<(), AllocError>
+    ensures { OnOk result (page.new.items ≡ page.old.items ++ written
+        (Open element ∷ Text part.now ∷ Close element ∷ [])) }
+{
+    open(page, element)?;
+    text(page, part)?;
+    close(page, element)
 }

@@ -1,5 +1,5 @@
 //! The page that links all pages: the kind `index`.
-ghost use Rattle.std.specs.Prelude.{◌≡◌, ◌++◌, OnOk, IfOk};
+ghost use Rattle.std.specs.Prelude.{◌≡◌, ◌++◌, OnOk, IfOk, Some};
 ghost use Rattle.std.specs.Option.{option_copied};
 ghost use Rattle.gb_pages.specs.Paths.{begun, ended_list, entry, entries, index_page, page_path, stem};
 ghost use Rattle.gb_pages.specs.Pieces.{written};
@@ -102,9 +102,16 @@ fn entry(alloc: Global, page: &mut Vec<u8>, front: Option<&[u8]>) -> Result<(), 
     let (Some(front), Some(path)) = (front, page_path(alloc, front)?) else {
         return Ok(());
     };
+    linked(page, path.as_str().as_bytes(), front)
+}
+
+/// The link to a page at a path, under its name.
+fn linked(page: &mut Vec<u8>, path: &[u8], name: &[u8]) -> Result<(), AllocError>
+    ensures { OnOk result (page.new.items ≡ page.old.items ++ written (entry (Some name.now) (Some path.now))) }
+{
     open(page, Element::Item)?;
-    link(page, path.as_str().as_bytes())?;
-    text(page, front)?;
+    link(page, path)?;
+    text(page, name)?;
     close(page, Element::Anchor)?;
     close(page, Element::Item)?;
     text(page, b"\n")

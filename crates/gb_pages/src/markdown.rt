@@ -12,7 +12,7 @@ use bstr::ByteSlice;
 use std::alloc::{AllocError, Global};
 
 /// The block that is open.
-#[derive(Clone, Copy, Debug, PartialEq, Eq)]
+#[derive(Clone, Copy, PartialEq, Eq)]
 pub enum Mode {
     /// None is open: another may begin.
     Between,

@@ -5,7 +5,7 @@ ghost use Rattle.gb_pages.specs.Pieces.{name_of, escaped, escaped_byte, piece_te
 use std::alloc::AllocError;
 
 /// What has a beginning and an end.
-#[derive(Clone, Copy, Debug, PartialEq, Eq)]
+#[derive(Clone, Copy, PartialEq, Eq)]
 pub enum Element {
     /// `h1`, the heading of the page.
     HeadingOne,
