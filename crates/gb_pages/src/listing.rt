@@ -107,7 +107,8 @@ fn entry(alloc: Global, page: &mut Vec<u8>, front: Option<&[u8]>) -> Result<(), 
 
 /// The link to a page at a path, under its name.
 fn linked(page: &mut Vec<u8>, path: &[u8], name: &[u8]) -> Result<(), AllocError>
-    ensures { OnOk result (page.new.items ≡ page.old.items ++ written (entry (Some name.now) (Some path.now))) }
+    ensures { OnOk result
+        (page.new.items ≡ page.old.items ++ written (entry (Some name.now) (Some path.now))) }
 {
     open(page, Element::Item)?;
     link(page, path)?;
