@@ -48,6 +48,13 @@ def is_newer(rtlib, crate):
     return all(os.stat(file).st_mtime < built for file in texts)
 
 
+def fits(rtlib, crate, other):
+    """Whether all below the crate are the very libraries that stand below its library: statements fit no others."""
+    beneath = {it.name: it for it in (other or [])}
+    same = lambda it: rtlib.sum_of(f"{it.rlib}/format") == rtlib.sum_of(f"{beneath.get(it.name, it).rlib}/format")
+    return all(same(it) for it in crate.below())
+
+
 def link(one, other):
     try:
         os.link(one, other)
@@ -66,6 +73,8 @@ def main():
         if crate.is_program or made is None or not os.path.isfile(f"{made.rlib}/format"):
             continue
         if not is_newer(rtlib, made) or made.stamp() != crate.stamp() or crate.is_built():
+            continue
+        if not fits(rtlib, crate, other.values()):
             continue
         folder = os.path.dirname(crate.rlib)
         if other:
