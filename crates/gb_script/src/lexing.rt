@@ -16,7 +16,7 @@ use gb_core::text::Text;
 use std::alloc::{AllocError, Global};
 
 /// What stands at one place of a text.
-#[derive(Debug, Drop)]
+#[derive(Drop)]
 pub enum Part {
     /// The end of a line.
     Newline,
@@ -232,7 +232,7 @@ fn first_part(alloc: Global, text: &str) -> Result<(Part, &str), AllocError>
 }
 
 /// The tokens of a text, and the line of each.
-#[derive(Debug, Drop)]
+#[derive(Drop)]
 pub struct Lexed {
     /// The tokens in their order; behind one that no script has, nothing is taken.
     pub tokens: Vec<Token>,

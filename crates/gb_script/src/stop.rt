@@ -2,7 +2,7 @@
 use std::alloc::{AllocError, AllocFailed};
 
 /// What is wrong with a row of tokens, and how many are left from there on.
-#[derive(Clone, Copy, Debug, PartialEq, Eq)]
+#[derive(Clone, Copy)]
 pub enum Fault {
     /// A token that no script has there.
     Stray(usize),
@@ -11,7 +11,7 @@ pub enum Fault {
 }
 
 /// Why reading tokens stopped.
-#[derive(Debug, Drop)]
+#[derive(Drop)]
 pub enum Stop {
     /// No memory for what was read.
     Memory,

@@ -3,7 +3,7 @@ use gb_core::name::Name;
 use gb_core::text::Text;
 
 /// A mark that stands for itself.
-#[derive(Clone, Copy, Debug, PartialEq, Eq)]
+#[derive(Clone, Copy, PartialEq, Eq)]
 pub enum Sign {
     /// `{`, before clauses.
     OpenBrace,
@@ -28,7 +28,7 @@ pub enum Sign {
 }
 
 /// A token of a script.
-#[derive(Debug, Drop)]
+#[derive(Drop)]
 pub enum Token {
     /// A name, be it reserved or not.
     Word(Name),

@@ -3,7 +3,7 @@ ghost use Rattle.std.specs.Prelude.{◌≡◌};
 ghost use Rattle.gb_script.specs.Words.{meaning_in, source_words, step_words, clause_words, statement_words};
 
 /// A word that is a source of its own or begins one. No property is named so.
-#[derive(Clone, Copy, Debug)]
+#[derive(Clone, Copy)]
 pub enum SourceWord {
     /// `true`, the flag.
     True,
@@ -38,7 +38,7 @@ pub fn source_word(word: &str) -> Option<SourceWord>
 }
 
 /// A word that begins a step.
-#[derive(Clone, Copy, Debug)]
+#[derive(Clone, Copy)]
 pub enum StepWord {
     /// `map`, what a function makes of a value.
     Map,
@@ -64,7 +64,7 @@ pub fn step_word(word: &str) -> Option<StepWord>
 }
 
 /// A word that sets a task before or after others.
-#[derive(Clone, Copy, Debug)]
+#[derive(Clone, Copy)]
 pub enum OrderWord {
     /// `dependsOn`, before this task and always with it.
     DependsOn,
@@ -75,7 +75,7 @@ pub enum OrderWord {
 }
 
 /// A word that says what a task does, or when it does it.
-#[derive(Clone, Copy, Debug)]
+#[derive(Clone, Copy)]
 pub enum RunWord {
     /// `doFirst`, an action before all others.
     DoFirst,
@@ -90,7 +90,7 @@ pub enum RunWord {
 }
 
 /// A word that begins a clause.
-#[derive(Clone, Copy, Debug)]
+#[derive(Clone, Copy)]
 pub enum ClauseWord {
     /// `input`, a value that actions see.
     Input,
@@ -128,7 +128,7 @@ pub fn clause_word(word: &str) -> Option<ClauseWord>
 }
 
 /// A word that says something of a property.
-#[derive(Clone, Copy, Debug)]
+#[derive(Clone, Copy)]
 pub enum PropertyWord {
     /// `property`, a new one.
     Declare,
@@ -143,7 +143,7 @@ pub enum PropertyWord {
 }
 
 /// A word that begins a statement.
-#[derive(Clone, Copy, Debug)]
+#[derive(Clone, Copy)]
 pub enum StatementWord {
     /// `defaultTasks`, what runs where an invocation names no task.
     DefaultTasks,
