@@ -1,5 +1,5 @@
 //! Builds over what stands in the way of records, over a damaged one, and of more than an output may hold.
-use crate::building::{Step, bytes_at, go_on, held, is_told, is_told_of};
+use crate::building::{Step, are_held, bytes_at, go_on, is_told_of};
 use crate::offering::{offered, offered_joining};
 use gb_action::actions::Actions;
 use gb_core::place::Place;
@@ -33,29 +33,39 @@ const TOO_LARGE: &str = "> Task :c FAILED\nFAILED :c: 13 too large build/c\nBUIL
 1 actionable task: 1 executed\n";
 
 /// Puts bytes at a place, also at one that is the tool's own.
-fn put(folder: &mut MemoryFolder, place: &Place, bytes: &[u8]) -> Result<(), Fail> {
-    match folder.write(place, bytes, 8_388_608) {
-        Ok(()) => Ok(()),
-        Err(_) => Err(Fail::new("a file cannot be put")),
-    }
+fn put(alloc: Global, folder: &mut MemoryFolder, place: &str, bytes: &[u8]) -> Result<(), Fail> {
+    Ok(folder.write(&Place::read(alloc, place)?, bytes, 8_388_608)?)
+}
+
+/// Fails where something else is told of a build whose record cannot be written.
+fn is_unwritten<A: Actions, T: Transforms>(
+    alloc: Global,
+    tables: &Tables<A, T>,
+) -> Result<(), Fail> {
+    let mut folder = MemoryFolder::new(alloc);
+    put(alloc, &mut folder, ".gb", b"in the way")?;
+    put(alloc, &mut folder, "build.gb", ONE.as_bytes())?;
+    is_told_of(alloc, &mut folder, tables, "run gen", UNWRITTEN)
 }
 
 #[test]
 fn a_record_that_cannot_stand_is_told(rt: HostRuntime) -> Result<(), Fail> {
-    let alloc = rt.alloc();
-    let (actions, transforms) = offered(alloc)?;
+    let (actions, transforms) = offered(rt.alloc())?;
     let tables = Tables::<Builtin, Builtin> {
         actions,
         transforms,
     };
-    let mut folder = MemoryFolder::new(alloc);
-    put(&mut folder, &Place::read(alloc, ".gb")?, b"in the way")?;
-    put(
-        &mut folder,
-        &Place::read(alloc, "build.gb")?,
-        ONE.as_bytes(),
-    )?;
-    is_told_of::<Builtin, Builtin, MemoryFolder>(alloc, &mut folder, &tables, "run gen", UNWRITTEN)
+    is_unwritten::<Builtin, Builtin>(rt.alloc(), &tables)
+}
+
+/// Changes the byte here of a file.
+fn damage(alloc: Global, folder: &mut MemoryFolder, place: &str, at: usize) -> Result<(), Fail> {
+    let mut text = bytes_at(alloc, folder, place)?;
+    match text.get_mut(at) {
+        Some(byte) => *byte = byte.wrapping_add(1),
+        None => return Err(Fail::new("the file is shorter")),
+    }
+    put(alloc, folder, place, text.as_slice())
 }
 
 /// Fails where a build after the first task's record was damaged at a byte runs anything else than that task.
@@ -66,50 +76,55 @@ fn is_damaged<A: Actions, T: Transforms>(
 ) -> Result<(), Fail> {
     let mut folder = MemoryFolder::new(alloc);
     go_on(alloc, &mut folder, tables, &OF_TWO)?;
-    let mut text = bytes_at(alloc, &mut folder, ".gb/tasks/a.record")?;
-    match text.get_mut(at) {
-        Some(byte) => *byte = byte.wrapping_add(1),
-        None => return Err(Fail::new("the record is shorter")),
-    }
-    put(
-        &mut folder,
-        &Place::read(alloc, ".gb/tasks/a.record")?,
-        text.as_slice(),
-    )?;
+    damage(alloc, &mut folder, ".gb/tasks/a.record", at)?;
     is_told_of(alloc, &mut folder, tables, "run a b", FIRST_ALONE)
 }
 
-#[test]
-fn a_damaged_record_concerns_its_task_alone(rt: HostRuntime) -> Result<(), Fail> {
-    let alloc = rt.alloc();
-    let (actions, transforms) = offered(alloc)?;
-    let tables = Tables::<Builtin, Builtin> {
-        actions,
-        transforms,
-    };
+fn are_damaged<A: Actions, T: Transforms>(
+    alloc: Global,
+    tables: &Tables<A, T>,
+) -> Result<(), Fail> {
     for at in [0usize, 10, 100, 200] {
-        is_damaged::<Builtin, Builtin>(alloc, &tables, at)?;
+        is_damaged(alloc, tables, at)?;
     }
     Ok(())
 }
 
 #[test]
-fn what_is_made_too_large_is_told(rt: HostRuntime) -> Result<(), Fail> {
-    let alloc = rt.alloc();
-    let (actions, transforms) = offered_joining(alloc)?;
+fn a_damaged_record_concerns_its_task_alone(rt: HostRuntime) -> Result<(), Fail> {
+    let (actions, transforms) = offered(rt.alloc())?;
     let tables = Tables::<Builtin, Builtin> {
         actions,
         transforms,
     };
-    let mut folder = MemoryFolder::new(alloc);
+    are_damaged::<Builtin, Builtin>(rt.alloc(), &tables)
+}
+
+/// Puts two files that are joined into one of more bytes than an output may have.
+fn put_halves(alloc: Global, folder: &mut MemoryFolder) -> Result<(), Fail> {
     let half = vec![in alloc; b'x'; 5_242_880]?;
-    put(&mut folder, &Place::read(alloc, "m/a")?, half.as_slice())?;
-    put(&mut folder, &Place::read(alloc, "m/b")?, half.as_slice())?;
-    put(
-        &mut folder,
-        &Place::read(alloc, "build.gb")?,
-        JOIN.as_bytes(),
-    )?;
-    is_told_of::<Builtin, Builtin, MemoryFolder>(alloc, &mut folder, &tables, "run c", TOO_LARGE)?;
-    is_told("", held(alloc, &mut folder, "build")?.as_str())
+    put(alloc, folder, "m/a", half.as_slice())?;
+    put(alloc, folder, "m/b", half.as_slice())
+}
+
+/// Fails where something else is told of them, or some of it stands.
+fn is_too_large<A: Actions, T: Transforms>(
+    alloc: Global,
+    tables: &Tables<A, T>,
+) -> Result<(), Fail> {
+    let mut folder = MemoryFolder::new(alloc);
+    put_halves(alloc, &mut folder)?;
+    put(alloc, &mut folder, "build.gb", JOIN.as_bytes())?;
+    is_told_of(alloc, &mut folder, tables, "run c", TOO_LARGE)?;
+    are_held(alloc, &mut folder, "build", "")
+}
+
+#[test]
+fn what_is_made_too_large_is_told(rt: HostRuntime) -> Result<(), Fail> {
+    let (actions, transforms) = offered_joining(rt.alloc())?;
+    let tables = Tables::<Builtin, Builtin> {
+        actions,
+        transforms,
+    };
+    is_too_large::<Builtin, Builtin>(rt.alloc(), &tables)
 }

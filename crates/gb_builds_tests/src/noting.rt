@@ -43,8 +43,8 @@ fn stepped<A: Actions, T: Transforms>(
     Ok(folder)
 }
 
-/// How many changes the words ask for. Fails where one is asked for elsewhere than at the output or the
-/// record.
+/// How many changes the words ask for in a folder. Fails where one is asked for elsewhere than at the output or
+/// the record.
 fn changes<A: Actions, T: Transforms, F: Folder + Drop>(
     alloc: Global,
     folder: F,
@@ -67,9 +67,14 @@ fn are_of_task(notes: &[Note]) -> Result<(), Fail> {
     Ok(())
 }
 
-/// Fails where another count of changes is asked for.
-fn are_changes(found: usize, wanted: usize) -> Result<(), Fail> {
-    if found == wanted {
+/// Fails where the words ask for another count of changes behind the steps.
+fn are_changes<A: Actions, T: Transforms>(
+    alloc: Global,
+    tables: &Tables<A, T>,
+    words: &str,
+    wanted: usize,
+) -> Result<(), Fail> {
+    if changes(alloc, stepped(alloc, tables)?, tables, words)? == wanted {
         Ok(())
     } else {
         Err(Fail::new("another count of changes"))
@@ -88,52 +93,32 @@ fn all_stopped<A: Actions, T: Transforms>(
     Ok(())
 }
 
-/// The record is taken out, a file is taken away, one is put, and the record is put in.
+/// Builds in a folder in which somebody else writes before each call.
+fn disturbed<A: Actions, T: Transforms>(alloc: Global, tables: &Tables<A, T>) -> Result<(), Fail> {
+    let disturbed = Disturbed::new(alloc, stepped(alloc, tables)?, "src/a")?;
+    changes(alloc, disturbed, tables, "run cp")?;
+    Ok(())
+}
+
+/// Of a whole build the record is taken out, a file is taken away, one is put, and the record is put in. A dry
+/// and a refused one ask for nothing.
+fn ask_for_their_own<A: Actions, T: Transforms>(
+    alloc: Global,
+    tables: &Tables<A, T>,
+) -> Result<(), Fail> {
+    are_changes(alloc, tables, "run cp", 4)?;
+    are_changes(alloc, tables, "run cp --dry-run", 0)?;
+    are_changes(alloc, tables, "run other", 0)?;
+    all_stopped(alloc, tables)?;
+    disturbed(alloc, tables)
+}
+
 #[test]
 fn builds_ask_for_their_own_alone(rt: HostRuntime) -> Result<(), Fail> {
-    let alloc = rt.alloc();
-    let (actions, transforms) = offered(alloc)?;
+    let (actions, transforms) = offered(rt.alloc())?;
     let tables = Tables::<Builtin, Builtin> {
         actions,
         transforms,
     };
-    let folder = stepped::<Builtin, Builtin>(alloc, &tables)?;
-    let found = changes::<Builtin, Builtin, MemoryFolder>(alloc, folder, &tables, "run cp")?;
-    are_changes(found, 4)?;
-    all_stopped::<Builtin, Builtin>(alloc, &tables)
-}
-
-#[test]
-fn dry_and_refused_builds_ask_for_no_change(rt: HostRuntime) -> Result<(), Fail> {
-    let alloc = rt.alloc();
-    let (actions, transforms) = offered(alloc)?;
-    let tables = Tables::<Builtin, Builtin> {
-        actions,
-        transforms,
-    };
-    let folder = stepped::<Builtin, Builtin>(alloc, &tables)?;
-    let dry = changes::<Builtin, Builtin, MemoryFolder>(
-        alloc,
-        folder,
-        &tables,
-        "run cp --dry-run",
-    )?;
-    are_changes(dry, 0)?;
-    let folder = stepped::<Builtin, Builtin>(alloc, &tables)?;
-    let refused = changes::<Builtin, Builtin, MemoryFolder>(alloc, folder, &tables, "run other")?;
-    are_changes(refused, 0)
-}
-
-#[test]
-fn a_disturbed_build_asks_for_its_own_alone(rt: HostRuntime) -> Result<(), Fail> {
-    let alloc = rt.alloc();
-    let (actions, transforms) = offered(alloc)?;
-    let tables = Tables::<Builtin, Builtin> {
-        actions,
-        transforms,
-    };
-    let folder = stepped::<Builtin, Builtin>(alloc, &tables)?;
-    let disturbed = Disturbed::new(alloc, folder, "src/a")?;
-    changes::<Builtin, Builtin, Disturbed>(alloc, disturbed, &tables, "run cp")?;
-    Ok(())
+    ask_for_their_own::<Builtin, Builtin>(rt.alloc(), &tables)
 }

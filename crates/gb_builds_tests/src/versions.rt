@@ -1,5 +1,5 @@
 //! Builds from records of other programs: of an older version of a kind, and in the older form.
-use crate::building::{Step, bytes_at, go_on};
+use crate::building::{Step, bytes_at, go_on, is_told};
 use crate::offering::{offered, offered_anew};
 use gb_action::actions::Actions;
 use gb_core::place::Place;
@@ -41,41 +41,43 @@ fn first<A: Actions, T: Transforms>(
     Ok(folder)
 }
 
-#[test]
-fn a_newer_version_of_a_kind_runs_once_more(rt: HostRuntime) -> Result<(), Fail> {
-    let alloc = rt.alloc();
+/// The folder after the first build, by a program with the older version.
+fn built_before(alloc: Global) -> Result<MemoryFolder, Fail> {
     let (actions, transforms) = offered(alloc)?;
     let tables = Tables::<Builtin, Builtin> {
         actions,
         transforms,
     };
-    let mut folder = first::<Builtin, Builtin>(alloc, &tables)?;
-    let (actions, transforms) = offered_anew(alloc)?;
-    let newer = Tables::<Builtin, Builtin> {
+    first::<Builtin, Builtin>(alloc, &tables)
+}
+
+#[test]
+fn a_newer_version_of_a_kind_runs_once_more(rt: HostRuntime) -> Result<(), Fail> {
+    let mut folder = built_before(rt.alloc())?;
+    let (actions, transforms) = offered_anew(rt.alloc())?;
+    let tables = Tables::<Builtin, Builtin> {
         actions,
         transforms,
     };
-    go_on::<Builtin, Builtin, MemoryFolder>(alloc, &mut folder, &newer, &NEXT)
+    go_on::<Builtin, Builtin, MemoryFolder>(rt.alloc(), &mut folder, &tables, &NEXT)
+}
+
+/// Fails where a build behind a record in the older form runs, or writes it anew.
+fn counts<A: Actions, T: Transforms>(alloc: Global, tables: &Tables<A, T>) -> Result<(), Fail> {
+    let mut folder = first(alloc, tables)?;
+    let place = Place::read(alloc, ".gb/tasks/gen.record")?;
+    folder.write(&place, OLDER.as_bytes(), 1000)?;
+    go_on(alloc, &mut folder, tables, &STILL)?;
+    let kept = bytes_at(alloc, &mut folder, ".gb/tasks/gen.record")?;
+    is_told(OLDER, std::str::from_utf8(kept.as_slice())?)
 }
 
 #[test]
 fn a_record_in_the_older_form_counts(rt: HostRuntime) -> Result<(), Fail> {
-    let alloc = rt.alloc();
-    let (actions, transforms) = offered(alloc)?;
+    let (actions, transforms) = offered(rt.alloc())?;
     let tables = Tables::<Builtin, Builtin> {
         actions,
         transforms,
     };
-    let mut folder = first::<Builtin, Builtin>(alloc, &tables)?;
-    let place = Place::read(alloc, ".gb/tasks/gen.record")?;
-    if folder.write(&place, OLDER.as_bytes(), 1000).is_err() {
-        return Err(Fail::new("the record cannot be put"));
-    }
-    go_on::<Builtin, Builtin, MemoryFolder>(alloc, &mut folder, &tables, &STILL)?;
-    let kept = bytes_at(alloc, &mut folder, ".gb/tasks/gen.record")?;
-    if kept.as_slice() == OLDER.as_bytes() {
-        Ok(())
-    } else {
-        Err(Fail::new("the record was written anew"))
-    }
+    counts::<Builtin, Builtin>(rt.alloc(), &tables)
 }

@@ -48,14 +48,13 @@ fn is_why<A: Actions, T: Transforms>(
     is_told(expected, text.as_str())
 }
 
-/// The folder after these events.
-fn folder_after<A: Actions, T: Transforms>(
+/// The folder after a build.
+fn built<A: Actions, T: Transforms>(
     alloc: Global,
     tables: &Tables<A, T>,
-    steps: &[Step<'_>],
 ) -> Result<MemoryFolder, Fail> {
     let mut folder = MemoryFolder::new(alloc);
-    go_on(alloc, &mut folder, tables, steps)?;
+    go_on(alloc, &mut folder, tables, &BUILT)?;
     Ok(folder)
 }
 
@@ -91,19 +90,22 @@ fn holds<A: Actions, T: Transforms>(
     }
 }
 
+fn all_hold<A: Actions, T: Transforms>(alloc: Global, tables: &Tables<A, T>) -> Result<(), Fail> {
+    let mut folder = built(alloc, tables)?;
+    for row in &WORDS {
+        holds(alloc, &mut folder, tables, row)?;
+    }
+    Ok(())
+}
+
 #[test]
 fn words_are_answered_with_a_status(rt: HostRuntime) -> Result<(), Fail> {
-    let alloc = rt.alloc();
-    let (actions, transforms) = offered(alloc)?;
+    let (actions, transforms) = offered(rt.alloc())?;
     let tables = Tables::<Builtin, Builtin> {
         actions,
         transforms,
     };
-    let mut folder = folder_after::<Builtin, Builtin>(alloc, &tables, &BUILT)?;
-    for row in &WORDS {
-        holds::<Builtin, Builtin>(alloc, &mut folder, &tables, row)?;
-    }
-    Ok(())
+    all_hold::<Builtin, Builtin>(rt.alloc(), &tables)
 }
 
 /// The form and the task of a record, its seal, and what is told of the task at whose place it stands.
@@ -174,39 +176,48 @@ fn counts<A: Actions, T: Transforms>(
     is_why(alloc, folder, tables, "gen", row.3)
 }
 
-#[test]
-fn records_count_as_for_builds(rt: HostRuntime) -> Result<(), Fail> {
-    let alloc = rt.alloc();
-    let (actions, transforms) = offered(alloc)?;
-    let tables = Tables::<Builtin, Builtin> {
-        actions,
-        transforms,
-    };
-    let mut folder = folder_after::<Builtin, Builtin>(alloc, &tables, &BUILT)?;
+fn all_count<A: Actions, T: Transforms>(alloc: Global, tables: &Tables<A, T>) -> Result<(), Fail> {
+    let mut folder = built(alloc, tables)?;
     for row in &RECORDS {
-        counts::<Builtin, Builtin>(alloc, &mut folder, &tables, row)?;
+        counts(alloc, &mut folder, tables, row)?;
     }
     Ok(())
 }
 
 #[test]
-fn an_output_that_is_too_large_is_told(rt: HostRuntime) -> Result<(), Fail> {
-    let alloc = rt.alloc();
-    let (actions, transforms) = offered(alloc)?;
+fn records_count_as_for_builds(rt: HostRuntime) -> Result<(), Fail> {
+    let (actions, transforms) = offered(rt.alloc())?;
     let tables = Tables::<Builtin, Builtin> {
         actions,
         transforms,
     };
-    let mut folder = folder_after::<Builtin, Builtin>(alloc, &tables, &BUILT)?;
+    all_count::<Builtin, Builtin>(rt.alloc(), &tables)
+}
+
+/// Fails where something else is told of an output of more bytes than are read.
+fn is_too_large<A: Actions, T: Transforms>(
+    alloc: Global,
+    tables: &Tables<A, T>,
+) -> Result<(), Fail> {
+    let mut folder = built(alloc, tables)?;
+    put_large(alloc, &mut folder, "build/a.txt")?;
+    let told = ":gen runs: outputs are too large or too many\n";
+    is_why(alloc, &mut folder, tables, "gen", told)
+}
+
+fn put_large(alloc: Global, folder: &mut MemoryFolder, place: &str) -> Result<(), Fail> {
     let large = vec![in alloc; b'x'; 8_388_609]?;
-    put(alloc, &mut folder, "build/a.txt", large.as_slice())?;
-    is_why::<Builtin, Builtin>(
-        alloc,
-        &mut folder,
-        &tables,
-        "gen",
-        ":gen runs: outputs are too large or too many\n",
-    )
+    put(alloc, folder, place, large.as_slice())
+}
+
+#[test]
+fn an_output_that_is_too_large_is_told(rt: HostRuntime) -> Result<(), Fail> {
+    let (actions, transforms) = offered(rt.alloc())?;
+    let tables = Tables::<Builtin, Builtin> {
+        actions,
+        transforms,
+    };
+    is_too_large::<Builtin, Builtin>(rt.alloc(), &tables)
 }
 
 /// Fails where what cannot be printed has a status.

@@ -1,4 +1,5 @@
 //! The same calls of folders on a disk, in memory and of those that fail.
+use crate::steps::{cut, is_answered};
 use gb_core::place::Place;
 use gb_disk::disk::DiskFolder;
 use gb_disk::names::places_in;
@@ -13,11 +14,6 @@ use std::{fs, io};
 /// Steps, with a `;` between them, and what is answered. A step is a call, by a word of [`answer`] and a
 /// place, or a change of a folder on a disk from outside, by a word of [`change`], a place and a text.
 type Row<'a> = (&'a str, &'a str);
-
-/// A word, and what stands behind it.
-fn cut(text: &str) -> (&str, &str) {
-    text.split_once(' ').unwrap_or((text, ""))
-}
 
 /// The places, with a space behind each.
 fn told(alloc: Global, places: &[Place]) -> Result<Vec<u8>, FolderFault> {
@@ -73,7 +69,7 @@ fn shown(alloc: Global, outcome: Result<Vec<u8>, FolderFault>) -> Result<Vec<u8>
 
 /// What is shown of the answer to a call.
 fn answered<F: Folder>(alloc: Global, folder: &mut F, step: &str) -> Result<Vec<u8>, Fail> {
-    let (word, place) = cut(step);
+    let (word, place) = cut(step, ' ');
     let place = Place::read(alloc, place)?;
     Ok(shown(alloc, answer(alloc, folder, word, &place))?)
 }
@@ -103,16 +99,6 @@ fn call_all<F: Folder>(
     Ok(())
 }
 
-/// Fails where something else was answered than is wanted.
-fn is_answered(wanted: &str, all: Vec<u8>) -> Result<(), Fail> {
-    let all = String::from_utf8(all)?;
-    if all.as_str() == wanted {
-        Ok(())
-    } else {
-        Err(Fail::new(all.as_str()))
-    }
-}
-
 /// What an empty folder in memory answers.
 fn in_memory(alloc: Global, steps: &str) -> Result<Vec<u8>, Fail> {
     let mut all = Vec::new(alloc);
@@ -123,7 +109,7 @@ fn in_memory(alloc: Global, steps: &str) -> Result<Vec<u8>, Fail> {
 /// Fails at the first row that an empty folder in memory answers otherwise.
 fn hold_in_memory(alloc: Global, rows: &[Row<'_>]) -> Result<(), Fail> {
     for (steps, wanted) in rows {
-        is_answered(wanted, in_memory(alloc, steps)?)?;
+        is_answered(wanted, in_memory(alloc, steps)?.as_slice())?;
     }
     Ok(())
 }
@@ -142,8 +128,8 @@ fn change(rt: &HostRuntime, word: &str, path: &str, text: &str) -> io::Result<()
 
 /// Changes the folder at a path by a step.
 fn change_in(rt: &HostRuntime, folder: &str, step: &str) -> Result<(), Fail> {
-    let (word, rest) = cut(step);
-    let (place, text) = cut(rest);
+    let (word, rest) = cut(step, ' ');
+    let (place, text) = cut(rest, ' ');
     let path = format!(in rt.alloc(); "{folder}/{place}")?;
     Ok(change(rt, word, path.as_str(), text)?)
 }
@@ -206,7 +192,7 @@ fn hold_on_disk(
 ) -> Result<(), Fail> {
     for (steps, wanted) in rows {
         renew(rt, name, changes)?;
-        is_answered(wanted, on_disk(rt, name, steps)?)?;
+        is_answered(wanted, on_disk(rt, name, steps)?.as_slice())?;
     }
     Ok(fs::remove_dir_all(rt, name)?)
 }
@@ -447,7 +433,7 @@ const PATHS: [(&str, &str, &str); 3] = [
 #[test]
 fn folders_that_are_not_made_are_answered(rt: HostRuntime) -> Result<(), Fail> {
     for (path, steps, wanted) in &PATHS {
-        is_answered(wanted, on_disk(&rt, path, steps)?)?;
+        is_answered(wanted, on_disk(&rt, path, steps)?.as_slice())?;
     }
     Ok(())
 }
@@ -467,7 +453,7 @@ fn names_told(alloc: Global, names: &[u8]) -> Result<Vec<u8>, Fail> {
 #[test]
 fn names_tell_places(rt: HostRuntime) -> Result<(), Fail> {
     for (names, wanted) in &NAMES {
-        is_answered(wanted, names_told(rt.alloc(), names)?)?;
+        is_answered(wanted, names_told(rt.alloc(), names)?.as_slice())?;
     }
     Ok(())
 }
@@ -538,7 +524,7 @@ fn on_failing(alloc: Global, row: &FailingRow) -> Result<Vec<u8>, Fail> {
 #[test]
 fn devices_that_fail_are_told(rt: HostRuntime) -> Result<(), Fail> {
     for row in &FAILING {
-        is_answered(row.4, on_failing(rt.alloc(), row)?)?;
+        is_answered(row.4, on_failing(rt.alloc(), row)?.as_slice())?;
     }
     Ok(())
 }

@@ -1,6 +1,6 @@
 //! Kinds of two tables under one name.
-use crate::offering::builtin;
-use crate::steps::is_told;
+use crate::building::is_told;
+use crate::site::offering::builtin;
 use gb_action::table::TableFault;
 use gb_here::refused::print_refused;
 use gb_pages::kinds::Markdown;

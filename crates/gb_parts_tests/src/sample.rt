@@ -1,4 +1,4 @@
-//! Records that are made, and what is wanted of answers.
+//! Records that are made.
 use gb_action::output::Form;
 use gb_action::values::{Arguments, NamedValues};
 use gb_core::name::Name;
@@ -11,15 +11,6 @@ use gb_tree::prints::Prints;
 use sha2::{Digest, Sha256};
 use std::alloc::{AllocError, Global};
 use std::test::Fail;
-
-/// Fails where something else was answered than is wanted.
-pub fn is_answered(wanted: &str, answer: &[u8]) -> Result<(), Fail> {
-    if answer == wanted.as_bytes() {
-        Ok(())
-    } else {
-        Err(Fail::new(std::str::from_utf8(answer)?))
-    }
-}
 
 fn arguments(alloc: Global) -> Result<Arguments, AllocError> {
     let mut arguments = Arguments::new(alloc);

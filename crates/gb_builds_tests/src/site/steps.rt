@@ -1,5 +1,6 @@
 //! Edits of a site in memory and builds of it, and what becomes of them.
-use crate::counting::Counting;
+use crate::building::{is_told, words_of};
+use crate::site::counting::Counting;
 use gb_action::actions::Actions;
 use gb_answer::answer::answer_text;
 use gb_build::invoking::invoke;
@@ -91,29 +92,11 @@ fn told(alloc: Global, answer: Result<Report, Fault>) -> Result<String, Fail> {
     Ok(String::from_utf8(text?)?)
 }
 
-/// The words of a line.
-fn words_of(alloc: Global, line: &str) -> Result<Vec<String>, Fail> {
-    let mut words = Vec::new(alloc);
-    for word in line.split_whitespace() {
-        words.push(String::from_str(alloc, word)?)?;
-    }
-    Ok(words)
-}
-
 /// Fails where another count was counted.
 fn have_counted(executed: u64, listeners: &[Counting]) -> Result<(), Fail> {
     match listeners {
         [listener] if listener.executed == executed => Ok(()),
         _ => Err(Fail::new("another count of executed tasks")),
-    }
-}
-
-/// Fails where something else is told.
-pub fn is_told(expected: &str, told: &str) -> Result<(), Fail> {
-    if told == expected {
-        Ok(())
-    } else {
-        Err(Fail::new(told))
     }
 }
 

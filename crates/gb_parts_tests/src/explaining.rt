@@ -1,6 +1,6 @@
 //! Why a task runs, by its record.
 use crate::deciding::present;
-use crate::sample::is_answered;
+use crate::steps::is_answered;
 use crate::texts::{ARGUMENT, FILE, FIRST, OUTPUT, VALUE, VERSION};
 use gb_core::path::TaskPath;
 use gb_history::record::Record;

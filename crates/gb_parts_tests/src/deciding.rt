@@ -1,5 +1,5 @@
 //! What is decided of a task by its record.
-use crate::sample::is_answered;
+use crate::steps::is_answered;
 use crate::texts::{ARGUMENT, FILE, FIRST, OUTPUT, VALUE, VERSION};
 use gb_core::name::Name;
 use gb_core::path::TaskPath;

@@ -1,4 +1,5 @@
 //! What is told of patterns, and of the files, the digests and the changes of a folder.
+use crate::steps::cut;
 use gb_action::change::Change;
 use gb_action::files::Files;
 use gb_action::snapshot::Snapshot;
@@ -21,11 +22,6 @@ use std::test::Fail;
 /// [`tell_files`], and what it is about: a path and a text or a number, a pattern and a place, or places
 /// of a folder with patterns.
 type Row = (&'static str, &'static str);
-
-/// A word, and what stands behind it.
-fn cut(text: &str) -> (&str, &str) {
-    text.split_once(' ').unwrap_or((text, ""))
-}
 
 /// So many bytes, which tell where they stand.
 fn bytes_of(alloc: Global, count: usize) -> Result<Vec<u8>, AllocError> {
@@ -294,8 +290,8 @@ fn take_step<F: Folder>(
     step: &str,
     all: &mut String,
 ) -> Result<(), Fail> {
-    let (word, rest) = cut(step);
-    let (first, second) = cut(rest);
+    let (word, rest) = cut(step, ' ');
+    let (first, second) = cut(rest, ' ');
     let count = second.parse().unwrap_or(0);
     match word {
         "put" => write(alloc, folder, first, second.as_bytes()),

@@ -1,7 +1,7 @@
 //! Sites that cannot be built: each is told by its number, and nothing that is half written counts as right.
-use crate::offering::{Kinds, offered};
-use crate::sites::{FIRST, IDLE, written};
-use crate::steps::{Step, go_on};
+use crate::site::offering::{Kinds, offered};
+use crate::site::sites::{FIRST, IDLE, written};
+use crate::site::steps::{Step, go_on};
 use gb_action::actions::Actions;
 use gb_folder::memory::MemoryFolder;
 use gb_kinds::builtin::Builtin;
@@ -87,6 +87,16 @@ fn are_told<A: Actions, T: Transforms>(
     go_on(alloc, &mut folder, tables, steps)
 }
 
+fn both_are_told<A: Actions, T: Transforms>(
+    alloc: Global,
+    tables: &Tables<A, T>,
+    first: &[Step<'_>],
+    second: &[Step<'_>],
+) -> Result<(), Fail> {
+    are_told(alloc, tables, first)?;
+    are_told(alloc, tables, second)
+}
+
 #[test]
 fn a_bad_page_is_told_with_its_line(rt: HostRuntime) -> Result<(), Fail> {
     let (actions, transforms) = offered(rt.alloc())?;
@@ -94,8 +104,7 @@ fn a_bad_page_is_told_with_its_line(rt: HostRuntime) -> Result<(), Fail> {
         actions,
         transforms,
     };
-    are_told::<Kinds, Builtin>(rt.alloc(), &tables, &BAD_PAGES)?;
-    are_told::<Kinds, Builtin>(rt.alloc(), &tables, &GONE_BAD)
+    both_are_told::<Kinds, Builtin>(rt.alloc(), &tables, &BAD_PAGES, &GONE_BAD)
 }
 
 #[test]
@@ -105,6 +114,5 @@ fn a_bad_layout_and_a_name_that_is_taken_are_told(rt: HostRuntime) -> Result<(),
         actions,
         transforms,
     };
-    are_told::<Kinds, Builtin>(rt.alloc(), &tables, &LAYOUTS)?;
-    are_told::<Kinds, Builtin>(rt.alloc(), &tables, &TWO_OF_ONE_NAME)
+    both_are_told::<Kinds, Builtin>(rt.alloc(), &tables, &LAYOUTS, &TWO_OF_ONE_NAME)
 }

@@ -7,6 +7,7 @@ ghost use Rattle.gb_action.specs.Shapes.{source, target};
 ghost use Rattle.gb_action.specs.declared.output.Form.{Form};
 ghost use Rattle.gb_kinds.specs.Builtin.{builtin_shape, StandsFor};
 
+use crate::steps::cut;
 use gb_action::change::{Change, ChangeList, ChangeLists, InputChanges};
 use gb_action::files::Files;
 use gb_action::output::{Form, OutputFiles, OutputSnapshots};
@@ -44,11 +45,6 @@ struct Asked {
     files: Files,
     stood: Files,
     changes: ChangeList,
-}
-
-/// What stands before a sign, and what stands behind it.
-fn cut(text: &str, sign: char) -> (&str, &str) {
-    text.split_once(sign).unwrap_or((text, ""))
 }
 
 /// Puts a file, as `path=text`, among the files.

@@ -1,7 +1,8 @@
 //! What histories answer, and what is read from texts.
 ghost use Rattle.std.specs.Prelude.{◌<◌, length};
 
-use crate::sample::{is_answered, record};
+use crate::sample::record;
+use crate::steps::is_answered;
 use crate::texts::{
     BOTH, BOTH_FIRST, NO_HISTORIES, NO_RECORDS, NONE, NONE_FIRST, STORED, STORED_FIRST, THREE,
 };

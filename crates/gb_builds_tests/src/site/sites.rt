@@ -1,6 +1,6 @@
 //! A site is built, edited and built again.
-use crate::offering::{Kinds, offered};
-use crate::steps::{Step, go_on, stand, stands};
+use crate::site::offering::{Kinds, offered};
+use crate::site::steps::{Step, go_on, stand, stands};
 use gb_action::actions::Actions;
 use gb_folder::memory::MemoryFolder;
 use gb_kinds::builtin::Builtin;
@@ -130,15 +130,22 @@ fn follows<A: Actions, T: Transforms>(
     )
 }
 
+/// Fails where a site does not follow its pages.
+fn is_followed<A: Actions, T: Transforms>(
+    alloc: Global,
+    tables: &Tables<A, T>,
+) -> Result<(), Fail> {
+    let mut folder = written(alloc, tables)?;
+    is_first(alloc, &mut folder, tables)?;
+    follows(alloc, &mut folder, tables)
+}
+
 #[test]
 fn a_site_follows_its_pages(rt: HostRuntime) -> Result<(), Fail> {
-    let alloc = rt.alloc();
-    let (actions, transforms) = offered(alloc)?;
+    let (actions, transforms) = offered(rt.alloc())?;
     let tables = Tables::<Kinds, Builtin> {
         actions,
         transforms,
     };
-    let mut folder = written::<Kinds, Builtin>(alloc, &tables)?;
-    is_first::<Kinds, Builtin>(alloc, &mut folder, &tables)?;
-    follows::<Kinds, Builtin>(alloc, &mut folder, &tables)
+    is_followed::<Kinds, Builtin>(rt.alloc(), &tables)
 }

@@ -1,7 +1,7 @@
 //! A kind of one's own in its next version, in a table without built-in kinds.
 ghost use Rattle.std.specs.Prelude.{◌≤◌};
 
-use crate::steps::{Step, go_on};
+use crate::site::steps::{Step, go_on};
 use gb_action::actions::Actions;
 use gb_action::table::ActionTable;
 use gb_folder::memory::MemoryFolder;
@@ -51,22 +51,28 @@ const ONCE: [Step<'static>; 2] = [
     ),
 ];
 
+/// Takes these steps with the kind in this version.
+fn go_on_with(
+    alloc: Global,
+    folder: &mut MemoryFolder,
+    version: u32,
+    steps: &[Step<'_>],
+) -> Result<(), Fail>
+    requires { 1 ≤ version }
+{
+    let (actions, transforms) = offered(alloc, version)?;
+    let tables = Tables::<Kind, Builtin> {
+        actions,
+        transforms,
+    };
+    go_on::<Kind, Builtin, MemoryFolder>(alloc, folder, &tables, steps)
+}
+
 #[test]
 fn each_other_version_runs_once_more(rt: HostRuntime) -> Result<(), Fail> {
-    let alloc = rt.alloc();
-    let mut folder = MemoryFolder::new(alloc);
-    let (actions, transforms) = offered(alloc, 1)?;
-    let first = Tables::<Kind, Builtin> {
-        actions,
-        transforms,
-    };
-    let (actions, transforms) = offered(alloc, 2)?;
-    let next = Tables::<Kind, Builtin> {
-        actions,
-        transforms,
-    };
-    go_on::<Kind, Builtin, MemoryFolder>(alloc, &mut folder, &first, &SITE)?;
-    go_on::<Kind, Builtin, MemoryFolder>(alloc, &mut folder, &first, &ONCE)?;
-    go_on::<Kind, Builtin, MemoryFolder>(alloc, &mut folder, &next, &ONCE)?;
-    go_on::<Kind, Builtin, MemoryFolder>(alloc, &mut folder, &first, &ONCE)
+    let mut folder = MemoryFolder::new(rt.alloc());
+    go_on_with(rt.alloc(), &mut folder, 1, &SITE)?;
+    go_on_with(rt.alloc(), &mut folder, 1, &ONCE)?;
+    go_on_with(rt.alloc(), &mut folder, 2, &ONCE)?;
+    go_on_with(rt.alloc(), &mut folder, 1, &ONCE)
 }

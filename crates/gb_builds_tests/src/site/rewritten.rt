@@ -1,7 +1,8 @@
 //! What builds of an edited site write, read off a folder that notes it.
-use crate::offering::{Kinds, offered};
-use crate::sites::written;
-use crate::steps::{Step, go_on, is_told};
+use crate::building::is_told;
+use crate::site::offering::{Kinds, offered};
+use crate::site::sites::written;
+use crate::site::steps::{Step, go_on};
 use gb_action::actions::Actions;
 use gb_folder::memory::MemoryFolder;
 use gb_folder::noted::{Note, NotedFolder};
@@ -98,27 +99,21 @@ fn built<A: Actions, T: Transforms>(
     Ok(folder)
 }
 
-#[test]
-fn an_edit_writes_its_page_alone(rt: HostRuntime) -> Result<(), Fail> {
-    let alloc = rt.alloc();
-    let (actions, transforms) = offered(alloc)?;
-    let tables = Tables::<Kinds, Builtin> {
-        actions,
-        transforms,
-    };
-    let folder = built::<Kinds, Builtin>(alloc, &tables)?;
-    let folder = changes::<Kinds, Builtin>(
+/// Fails where an edit of a page writes more than that page, or its removal something else.
+fn page_alone<A: Actions, T: Transforms>(alloc: Global, tables: &Tables<A, T>) -> Result<(), Fail> {
+    let folder = built(alloc, tables)?;
+    let folder = changes(
         alloc,
         folder,
-        &tables,
+        tables,
         &EDITED,
         &AFTER_EDIT,
         "put build/html/b.md\nput build/laid-out/b.html\nput build/site/b.html\n",
     )?;
-    changes::<Kinds, Builtin>(
+    changes(
         alloc,
         folder,
-        &tables,
+        tables,
         &REMOVED,
         &AFTER_REMOVAL,
         "put build/all/index.html\ndel build/html/a.md\ndel build/laid-out/a.html\n\
@@ -128,22 +123,36 @@ del build/site/a.html\nput build/site/index.html\n",
 }
 
 #[test]
-fn a_layout_is_laid_out_in_full(rt: HostRuntime) -> Result<(), Fail> {
-    let alloc = rt.alloc();
-    let (actions, transforms) = offered(alloc)?;
+fn an_edit_writes_its_page_alone(rt: HostRuntime) -> Result<(), Fail> {
+    let (actions, transforms) = offered(rt.alloc())?;
     let tables = Tables::<Kinds, Builtin> {
         actions,
         transforms,
     };
-    let folder = built::<Kinds, Builtin>(alloc, &tables)?;
-    changes::<Kinds, Builtin>(
+    page_alone::<Kinds, Builtin>(rt.alloc(), &tables)
+}
+
+/// Fails where another layout leaves a page as it was.
+fn in_full<A: Actions, T: Transforms>(alloc: Global, tables: &Tables<A, T>) -> Result<(), Fail> {
+    let folder = built(alloc, tables)?;
+    changes(
         alloc,
         folder,
-        &tables,
+        tables,
         &LAID_OUT,
         &AFTER_LAYOUT,
         "del build/laid-out/a.html\ndel build/laid-out/b.html\ndel build/laid-out/c.html\n\
 put build/laid-out/a.html\nput build/laid-out/b.html\nput build/laid-out/c.html\n",
     )?;
     Ok(())
+}
+
+#[test]
+fn a_layout_is_laid_out_in_full(rt: HostRuntime) -> Result<(), Fail> {
+    let (actions, transforms) = offered(rt.alloc())?;
+    let tables = Tables::<Kinds, Builtin> {
+        actions,
+        transforms,
+    };
+    in_full::<Kinds, Builtin>(rt.alloc(), &tables)
 }

@@ -1,5 +1,0 @@
-//! Tests of `gb_tree`, apart from it, so that its proofs are not paid for once more with them.
-#![tactic(auto)]
-
-#[cfg(test)]
-mod tests;
