@@ -79,7 +79,10 @@ fn check_not_of_machine(fault: Fault) -> Result<(), Fault>
 {
     match fault {
         Fault::OutOfMemory | Fault::Device(_) => Err(fault),
-        _ => Ok(()),
+        _ => {
+            drop(fault);
+            Ok(())
+        }
     }
 }
 

@@ -99,6 +99,9 @@ fn foretold<A: Actions, F: Folder>(
             coming,
             after,
         }),
-        Err(fault) => Err(fault),
+        Err(fault) => {
+            drop(coming);
+            Err(fault)
+        }
     }
 }

@@ -76,6 +76,11 @@ fn anew<F: Folder>(
     ensures err { IsTrue F.tells → IfErr result (CannotRead (F.failures folder.old) (F.failures folder.new)
         (listing_faults task.now (F.contents folder.old))) }
 {
-    check_outputs(alloc, folder, task)?;
-    Ok(Coming::Runs(false, vec![in alloc; reason]?))
+    match check_outputs(alloc, folder, task) {
+        Ok(()) => Ok(Coming::Runs(false, vec![in alloc; reason]?)),
+        Err(fault) => {
+            drop(reason);
+            Err(fault)
+        }
+    }
 }

@@ -30,7 +30,11 @@ pub fn lock_for<R: Files<File = File> + Env + AllocGlobal>(
 fn wants_lock(asked: Result<bool, Fault>) -> Result<bool, AllocError> {
     match asked {
         Ok(is_build) => Ok(is_build),
-        Err(fault) => refused(&fault),
+        Err(fault) => {
+            let wanted = refused(&fault);
+            drop(fault);
+            wanted
+        }
     }
 }
 
