@@ -43,8 +43,8 @@ fn stepped<A: Actions, T: Transforms>(
     Ok(folder)
 }
 
-/// How many changes the words ask for in a folder. Fails where one is asked for elsewhere than at the output or
-/// the record.
+/// How many changes the words ask for in a folder. Fails where one is asked for elsewhere than at the output
+/// or the record.
 fn changes<A: Actions, T: Transforms, F: Folder + Drop>(
     alloc: Global,
     folder: F,
@@ -100,8 +100,8 @@ fn disturbed<A: Actions, T: Transforms>(alloc: Global, tables: &Tables<A, T>) ->
     Ok(())
 }
 
-/// Of a whole build the record is taken out, a file is taken away, one is put, and the record is put in. A dry
-/// and a refused one ask for nothing.
+/// Of a whole build the record is taken out, a file is taken away, one is put, and the record is put in. A
+/// dry and a refused one ask for nothing.
 fn ask_for_their_own<A: Actions, T: Transforms>(
     alloc: Global,
     tables: &Tables<A, T>,

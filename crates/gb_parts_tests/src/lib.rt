@@ -1,7 +1,7 @@
-//! Tests of the parts that a build is made of: values, folders, disks, scripts, actions and the built-in kinds,
-//! files and their digests, records, and reports. They stand apart from the crates that they test, so that
-//! the proofs of these are not paid for once more, and in one crate, as each costs the gate what reading it
-//! does.
+//! Tests of the parts that a build is made of: values, folders, disks, scripts, actions and the built-in
+//! kinds, files and their digests, records, and reports. They stand apart from the crates that they test, so
+//! that the proofs of these are not paid for once more, and in one crate, as each costs the gate what reading
+//! it does.
 #![tactic(auto)]
 
 #[cfg(test)]
