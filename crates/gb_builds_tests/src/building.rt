@@ -140,6 +140,17 @@ pub fn is_told_of<A: Actions, T: Transforms, F: Folder>(
     is_told(expected, text.as_str())
 }
 
+/// Puts bytes at a place, also at one that is the tool's own.
+pub fn put_bytes<F: Folder>(
+    alloc: Global,
+    folder: &mut F,
+    place: &str,
+    bytes: &[u8],
+) -> Result<(), Fail> {
+    let place = Place::read(alloc, place)?;
+    Ok(folder.write(&place, bytes, 10_000_000)?)
+}
+
 /// The bytes of a file.
 pub fn bytes_at(alloc: Global, folder: &mut MemoryFolder, place: &str) -> Result<Vec<u8>, Fail> {
     Ok(folder.read(alloc, &Place::read(alloc, place)?, 1_048_576)?)

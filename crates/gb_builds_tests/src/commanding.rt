@@ -1,5 +1,5 @@
 //! What the words of a command come to in a folder on a disk.
-use crate::building::words_of;
+use crate::building::{put_bytes, words_of};
 use crate::ending::FailingWriter;
 use crate::offering::offered;
 use gb_action::actions::Actions;
@@ -72,8 +72,7 @@ fn take<A: Actions, T: Transforms, F: Folder>(
 
 fn put<F: Folder>(alloc: Global, folder: &mut F, rest: &str) -> Result<(), Fail> {
     let (place, bytes) = rest.split_once(' ').unwrap_or((rest, ""));
-    let place = Place::read(alloc, place)?;
-    Ok(folder.write(&place, bytes.as_bytes(), 10_000)?)
+    put_bytes(alloc, folder, place, bytes.as_bytes())
 }
 
 fn read<F: Folder>(
@@ -128,8 +127,17 @@ fn on_disk<A: Actions, T: Transforms>(
     lines: &str,
 ) -> Result<String, Fail> {
     let mut folder = DiskFolder::new(rt, String::from_str(rt.alloc(), name)?);
-    put(rt.alloc(), &mut folder, GEN)?;
-    answers(rt.alloc(), &mut folder, tables, lines)
+    answers_with_task(rt.alloc(), &mut folder, tables, lines)
+}
+
+fn answers_with_task<A: Actions, T: Transforms, F: Folder>(
+    alloc: Global,
+    folder: &mut F,
+    tables: &Tables<A, T>,
+    lines: &str,
+) -> Result<String, Fail> {
+    put(alloc, folder, GEN)?;
+    answers(alloc, folder, tables, lines)
 }
 
 /// Fails where something else was answered than a row has.

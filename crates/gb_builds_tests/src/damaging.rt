@@ -1,9 +1,7 @@
 //! Builds over what stands in the way of records, over a damaged one, and of more than an output may hold.
-use crate::building::{Step, are_held, bytes_at, go_on, is_told_of};
+use crate::building::{Step, are_held, bytes_at, go_on, is_told_of, put_bytes};
 use crate::offering::{offered, offered_joining};
 use gb_action::actions::Actions;
-use gb_core::place::Place;
-use gb_folder::folder::Folder;
 use gb_folder::memory::MemoryFolder;
 use gb_kinds::builtin::Builtin;
 use gb_provider::transforms::Transforms;
@@ -32,20 +30,23 @@ const JOIN: &str =
 const TOO_LARGE: &str = "> Task :c FAILED\nFAILED :c: 13 too large build/c\nBUILD FAILED\n\
 1 actionable task: 1 executed\n";
 
-/// Puts bytes at a place, also at one that is the tool's own.
-fn put(alloc: Global, folder: &mut MemoryFolder, place: &str, bytes: &[u8]) -> Result<(), Fail> {
-    Ok(folder.write(&Place::read(alloc, place)?, bytes, 8_388_608)?)
-}
-
 /// Fails where something else is told of a build whose record cannot be written.
 fn is_unwritten<A: Actions, T: Transforms>(
     alloc: Global,
     tables: &Tables<A, T>,
 ) -> Result<(), Fail> {
     let mut folder = MemoryFolder::new(alloc);
-    put(alloc, &mut folder, ".gb", b"in the way")?;
-    put(alloc, &mut folder, "build.gb", ONE.as_bytes())?;
-    is_told_of(alloc, &mut folder, tables, "run gen", UNWRITTEN)
+    is_unwritten_in(alloc, &mut folder, tables)
+}
+
+fn is_unwritten_in<A: Actions, T: Transforms>(
+    alloc: Global,
+    folder: &mut MemoryFolder,
+    tables: &Tables<A, T>,
+) -> Result<(), Fail> {
+    put_bytes(alloc, folder, ".gb", b"in the way")?;
+    put_bytes(alloc, folder, "build.gb", ONE.as_bytes())?;
+    is_told_of(alloc, folder, tables, "run gen", UNWRITTEN)
 }
 
 #[test]
@@ -65,7 +66,7 @@ fn damage(alloc: Global, folder: &mut MemoryFolder, place: &str, at: usize) -> R
         Some(byte) => *byte = byte.wrapping_add(1),
         None => return Err(Fail::new("the file is shorter")),
     }
-    put(alloc, folder, place, text.as_slice())
+    put_bytes(alloc, folder, place, text.as_slice())
 }
 
 /// Fails where a build after the first task's record was damaged at a byte runs anything else than that task.
@@ -75,9 +76,18 @@ fn is_damaged<A: Actions, T: Transforms>(
     at: usize,
 ) -> Result<(), Fail> {
     let mut folder = MemoryFolder::new(alloc);
-    go_on(alloc, &mut folder, tables, &OF_TWO)?;
-    damage(alloc, &mut folder, ".gb/tasks/a.record", at)?;
-    is_told_of(alloc, &mut folder, tables, "run a b", FIRST_ALONE)
+    is_damaged_in(alloc, &mut folder, tables, at)
+}
+
+fn is_damaged_in<A: Actions, T: Transforms>(
+    alloc: Global,
+    folder: &mut MemoryFolder,
+    tables: &Tables<A, T>,
+    at: usize,
+) -> Result<(), Fail> {
+    go_on(alloc, folder, tables, &OF_TWO)?;
+    damage(alloc, folder, ".gb/tasks/a.record", at)?;
+    is_told_of(alloc, folder, tables, "run a b", FIRST_ALONE)
 }
 
 fn are_damaged<A: Actions, T: Transforms>(
@@ -103,8 +113,8 @@ fn a_damaged_record_concerns_its_task_alone(rt: HostRuntime) -> Result<(), Fail>
 /// Puts two files that are joined into one of more bytes than an output may have.
 fn put_halves(alloc: Global, folder: &mut MemoryFolder) -> Result<(), Fail> {
     let half = vec![in alloc; b'x'; 5_242_880]?;
-    put(alloc, folder, "m/a", half.as_slice())?;
-    put(alloc, folder, "m/b", half.as_slice())
+    put_bytes(alloc, folder, "m/a", half.as_slice())?;
+    put_bytes(alloc, folder, "m/b", half.as_slice())
 }
 
 /// Fails where something else is told of them, or some of it stands.
@@ -113,10 +123,18 @@ fn is_too_large<A: Actions, T: Transforms>(
     tables: &Tables<A, T>,
 ) -> Result<(), Fail> {
     let mut folder = MemoryFolder::new(alloc);
-    put_halves(alloc, &mut folder)?;
-    put(alloc, &mut folder, "build.gb", JOIN.as_bytes())?;
-    is_told_of(alloc, &mut folder, tables, "run c", TOO_LARGE)?;
-    are_held(alloc, &mut folder, "build", "")
+    is_too_large_in(alloc, &mut folder, tables)
+}
+
+fn is_too_large_in<A: Actions, T: Transforms>(
+    alloc: Global,
+    folder: &mut MemoryFolder,
+    tables: &Tables<A, T>,
+) -> Result<(), Fail> {
+    put_halves(alloc, folder)?;
+    put_bytes(alloc, folder, "build.gb", JOIN.as_bytes())?;
+    is_told_of(alloc, folder, tables, "run c", TOO_LARGE)?;
+    are_held(alloc, folder, "build", "")
 }
 
 #[test]

@@ -4,7 +4,9 @@ use crate::offering::offered;
 use gb_action::actions::Actions;
 use gb_build::nothing::run_from_nothing;
 use gb_exec::listener::Recorder;
+use gb_folder::memory::MemoryFolder;
 use gb_kinds::builtin::Builtin;
+use gb_meaning::events::Answer;
 use gb_provider::transforms::Transforms;
 use gb_registry::tables::Tables;
 use std::alloc::Global;
@@ -37,8 +39,12 @@ fn runs_from_nothing<A: Actions, T: Transforms>(
     let events = events(alloc, &STEPS)?;
     let mut listeners: Vec<Recorder> = Vec::new(alloc);
     let (mut folder, answers) = run_from_nothing(alloc, tables, events.as_slice(), &mut listeners)?;
-    are_told(alloc, &STEPS, answers.as_slice())?;
-    are_held(alloc, &mut folder, "build", "build/x=A")
+    is_run(alloc, &mut folder, answers.as_slice())
+}
+
+fn is_run(alloc: Global, folder: &mut MemoryFolder, answers: &[Answer]) -> Result<(), Fail> {
+    are_told(alloc, &STEPS, answers)?;
+    are_held(alloc, folder, "build", "build/x=A")
 }
 
 #[test]

@@ -101,6 +101,18 @@ fn all_stops<A: Actions, T: Transforms>(alloc: Global, tables: &Tables<A, T>) ->
     Err(Fail::new("the build does not end"))
 }
 
+/// Fails where no stop comes behind the end of the first task.
+fn has_stops_behind<A: Actions, T: Transforms>(
+    alloc: Global,
+    tables: &Tables<A, T>,
+) -> Result<(), Fail> {
+    if all_stops(alloc, tables)? > 0 {
+        Ok(())
+    } else {
+        Err(Fail::new("no stop behind the end of a task"))
+    }
+}
+
 #[test]
 fn what_was_heard_is_so_after_a_stop(rt: HostRuntime) -> Result<(), Fail> {
     let alloc = rt.alloc();
@@ -109,11 +121,7 @@ fn what_was_heard_is_so_after_a_stop(rt: HostRuntime) -> Result<(), Fail> {
         actions,
         transforms,
     };
-    if all_stops::<Builtin, Builtin>(alloc, &tables)? > 0 {
-        Ok(())
-    } else {
-        Err(Fail::new("no stop behind the end of a task"))
-    }
+    has_stops_behind::<Builtin, Builtin>(alloc, &tables)
 }
 
 /// Fails where a listener that refuses a call changes more of a build than its success.
@@ -232,11 +240,27 @@ fn one_is_missed<A: Actions, T: Transforms>(
 ) -> Result<(), Fail> {
     let mut folder = MemoryFolder::new(alloc);
     go_on(alloc, &mut folder, tables, &FINALIZED)?;
+    let mut listeners = between(alloc, at)?;
+    is_missed(alloc, &mut folder, tables, at, &mut listeners)
+}
+
+/// One that refuses this call, between two that refuse none.
+fn between(alloc: Global, at: u64) -> Result<Vec<Box<dyn TaskListener>>, Fail> {
     let mut listeners = Vec::<Box<dyn TaskListener>>::new(alloc);
     listeners.push(Box::new(alloc, Recorder::new(alloc))?)?;
     listeners.push(Box::new(alloc, Refusing::new(alloc, at))?)?;
     listeners.push(Box::new(alloc, Recorder::new(alloc))?)?;
-    let text = told_beside(alloc, &mut folder, tables, "run bad", &mut listeners)?;
+    Ok(listeners)
+}
+
+fn is_missed<A: Actions, T: Transforms, L: TaskListener>(
+    alloc: Global,
+    folder: &mut MemoryFolder,
+    tables: &Tables<A, T>,
+    at: u64,
+    listeners: &mut Vec<L>,
+) -> Result<(), Fail> {
+    let text = told_beside(alloc, folder, tables, "run bad", listeners)?;
     is_told(FAILED_AND_REFUSED, text.as_str())?;
     is_told(
         heard_between(alloc, at as usize)?.as_str(),

@@ -110,6 +110,19 @@ fn is_end(end: &End, status: Option<u8>, printed: &[u8]) -> Result<(), Fail> {
     }
 }
 
+/// Fails where something else is printed of a build where so many bytes can be, or the status is another.
+fn ends<A: Actions, T: Transforms>(
+    alloc: Global,
+    folder: &mut MemoryFolder,
+    tables: &Tables<A, T>,
+    room: usize,
+    status: Option<u8>,
+    printed: &[u8],
+) -> Result<(), Fail> {
+    let end = built_in(alloc, folder, tables, room)?;
+    is_end(&end, status, printed)
+}
+
 /// Fails where a build of which so many bytes can be printed prints other ones, has a status, or leaves less
 /// than a whole build.
 fn stops_nothing<A: Actions, T: Transforms>(
@@ -120,10 +133,9 @@ fn stops_nothing<A: Actions, T: Transforms>(
     let mut folder = laid_out(alloc)?;
     let whole = MADE.as_bytes();
     let status = if room < whole.len() { None } else { Some(0) };
-    let end = built_in(alloc, &mut folder, tables, room)?;
-    is_end(&end, status, &whole[..room.min(whole.len())])?;
-    let next = built_in(alloc, &mut folder, tables, 10_000)?;
-    is_end(&next, Some(0), KEPT.as_bytes())
+    let printed = &whole[..room.min(whole.len())];
+    ends(alloc, &mut folder, tables, room, status, printed)?;
+    ends(alloc, &mut folder, tables, 10_000, Some(0), KEPT.as_bytes())
 }
 
 fn stop_nothing<A: Actions, T: Transforms>(
@@ -165,18 +177,25 @@ fn seen_at_flushes<A: Actions, T: Transforms>(
     }
 }
 
-/// Fails where a first build is not seen part by part, or a later one not at once.
-fn are_seen<A: Actions, T: Transforms>(alloc: Global, tables: &Tables<A, T>) -> Result<(), Fail> {
-    let mut folder = laid_out(alloc)?;
-    let made = seen_at_flushes(alloc, &mut folder, tables)?;
-    let kept = seen_at_flushes(alloc, &mut folder, tables)?;
-    if made.as_slice() == [10, 20, MADE.len()].as_slice()
-        && kept.as_slice() == [KEPT.len()].as_slice()
-    {
+/// Fails where a build of all is seen at other moments, by how much had been written.
+fn is_seen<A: Actions, T: Transforms>(
+    alloc: Global,
+    folder: &mut MemoryFolder,
+    tables: &Tables<A, T>,
+    expected: &[usize],
+) -> Result<(), Fail> {
+    if seen_at_flushes(alloc, folder, tables)?.as_slice() == expected {
         Ok(())
     } else {
         Err(Fail::new("seen at other moments"))
     }
+}
+
+/// Fails where a first build is not seen part by part, or a later one not at once.
+fn are_seen<A: Actions, T: Transforms>(alloc: Global, tables: &Tables<A, T>) -> Result<(), Fail> {
+    let mut folder = laid_out(alloc)?;
+    is_seen(alloc, &mut folder, tables, &[10, 20, MADE.len()])?;
+    is_seen(alloc, &mut folder, tables, &[KEPT.len()])
 }
 
 #[test]

@@ -1,9 +1,7 @@
 //! Builds from records of other programs: of an older version of a kind, and in the older form.
-use crate::building::{Step, bytes_at, go_on, is_told};
+use crate::building::{Step, bytes_at, go_on, is_told, put_bytes};
 use crate::offering::{offered, offered_anew};
 use gb_action::actions::Actions;
-use gb_core::place::Place;
-use gb_folder::folder::Folder;
 use gb_folder::memory::MemoryFolder;
 use gb_kinds::builtin::Builtin;
 use gb_provider::transforms::Transforms;
@@ -65,10 +63,17 @@ fn a_newer_version_of_a_kind_runs_once_more(rt: HostRuntime) -> Result<(), Fail>
 /// Fails where a build behind a record in the older form runs, or writes it anew.
 fn counts<A: Actions, T: Transforms>(alloc: Global, tables: &Tables<A, T>) -> Result<(), Fail> {
     let mut folder = first(alloc, tables)?;
-    let place = Place::read(alloc, ".gb/tasks/gen.record")?;
-    folder.write(&place, OLDER.as_bytes(), 1000)?;
-    go_on(alloc, &mut folder, tables, &STILL)?;
-    let kept = bytes_at(alloc, &mut folder, ".gb/tasks/gen.record")?;
+    counts_in(alloc, &mut folder, tables)
+}
+
+fn counts_in<A: Actions, T: Transforms>(
+    alloc: Global,
+    folder: &mut MemoryFolder,
+    tables: &Tables<A, T>,
+) -> Result<(), Fail> {
+    put_bytes(alloc, folder, ".gb/tasks/gen.record", OLDER.as_bytes())?;
+    go_on(alloc, folder, tables, &STILL)?;
+    let kept = bytes_at(alloc, folder, ".gb/tasks/gen.record")?;
     is_told(OLDER, std::str::from_utf8(kept.as_slice())?)
 }
 

@@ -1,10 +1,8 @@
 //! What `gb_why` tells of tasks; that of a whole folder on a disk is told by the run of its own crate.
-use crate::building::{Step, go_on, is_told, words_of};
+use crate::building::{Step, go_on, is_told, put_bytes, words_of};
 use crate::ending::FailingWriter;
 use crate::offering::offered;
 use gb_action::actions::Actions;
-use gb_core::place::Place;
-use gb_folder::folder::Folder;
 use gb_folder::memory::MemoryFolder;
 use gb_kinds::builtin::Builtin;
 use gb_printer::page::Page;
@@ -159,11 +157,6 @@ fn record(alloc: Global, form: &str, task: &str, seal: &str) -> Result<String, F
     Ok(text)
 }
 
-/// Puts bytes at a place, also at one that is the tool's own.
-fn put(alloc: Global, folder: &mut MemoryFolder, place: &str, bytes: &[u8]) -> Result<(), Fail> {
-    Ok(folder.write(&Place::read(alloc, place)?, bytes, 10_000_000)?)
-}
-
 /// Fails where something else is told with this record.
 fn counts<A: Actions, T: Transforms>(
     alloc: Global,
@@ -172,7 +165,7 @@ fn counts<A: Actions, T: Transforms>(
     row: &Recorded<'_>,
 ) -> Result<(), Fail> {
     let text = record(alloc, row.0, row.1, row.2)?;
-    put(alloc, folder, ".gb/tasks/gen.record", text.as_bytes())?;
+    put_bytes(alloc, folder, ".gb/tasks/gen.record", text.as_bytes())?;
     is_why(alloc, folder, tables, "gen", row.3)
 }
 
@@ -207,7 +200,7 @@ fn is_too_large<A: Actions, T: Transforms>(
 
 fn put_large(alloc: Global, folder: &mut MemoryFolder, place: &str) -> Result<(), Fail> {
     let large = vec![in alloc; b'x'; 8_388_609]?;
-    put(alloc, folder, place, large.as_slice())
+    put_bytes(alloc, folder, place, large.as_slice())
 }
 
 #[test]

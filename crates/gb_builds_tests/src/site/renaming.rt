@@ -61,17 +61,25 @@ fn are_renamed<A: Actions, T: Transforms>(
     tables: &Tables<A, T>,
 ) -> Result<(), Fail> {
     let mut folder = MemoryFolder::new(alloc);
-    go_on(alloc, &mut folder, tables, &PAGES)?;
+    are_renamed_in(alloc, &mut folder, tables)
+}
+
+fn are_renamed_in<A: Actions, T: Transforms>(
+    alloc: Global,
+    folder: &mut MemoryFolder,
+    tables: &Tables<A, T>,
+) -> Result<(), Fail> {
+    go_on(alloc, folder, tables, &PAGES)?;
     stand(
         alloc,
-        &mut folder,
+        folder,
         "build/p",
         "build/p/a.html\nbuild/p/d/b.html\n",
     )?;
-    stands(alloc, &mut folder, "build/p/a.html", "<h1>A</h1>\n")?;
-    go_on(alloc, &mut folder, tables, &MET)?;
-    go_on(alloc, &mut folder, tables, &OTHERS)?;
-    stand(alloc, &mut folder, "build/p", "build/p/d/b.html\n")
+    stands(alloc, folder, "build/p/a.html", "<h1>A</h1>\n")?;
+    go_on(alloc, folder, tables, &MET)?;
+    go_on(alloc, folder, tables, &OTHERS)?;
+    stand(alloc, folder, "build/p", "build/p/d/b.html\n")
 }
 
 #[test]

@@ -83,10 +83,20 @@ fn changes<A: Actions, T: Transforms>(
 ) -> Result<MemoryFolder, Fail> {
     go_on(alloc, &mut folder, tables, edit)?;
     let mut noted = NotedFolder::new(alloc, folder);
-    go_on(alloc, &mut noted, tables, build)?;
-    let text = shown(alloc, noted.notes())?;
-    is_told(expected, text.as_str())?;
+    are_noted(alloc, &mut noted, tables, build, expected)?;
     Ok(noted.into_inner())
+}
+
+fn are_noted<A: Actions, T: Transforms>(
+    alloc: Global,
+    noted: &mut NotedFolder<MemoryFolder>,
+    tables: &Tables<A, T>,
+    build: &[Step<'_>],
+    expected: &str,
+) -> Result<(), Fail> {
+    go_on(alloc, noted, tables, build)?;
+    let text = shown(alloc, noted.notes())?;
+    is_told(expected, text.as_str())
 }
 
 /// A site with three pages.

@@ -1,5 +1,5 @@
 //! Edits of a site in memory and builds of it, and what becomes of them.
-use crate::building::{is_told, words_of};
+use crate::building::{is_told, put_bytes, words_of};
 use crate::site::counting::Counting;
 use gb_action::actions::Actions;
 use gb_answer::answer::answer_text;
@@ -44,16 +44,15 @@ fn take<A: Actions, T: Transforms, F: Folder>(
     step: &Step<'_>,
 ) -> Result<(), Fail> {
     match step {
-        Step::Put(place, bytes) => {
-            let place = Place::read(alloc, place)?;
-            Ok(folder.write(&place, bytes, 10_000)?)
-        }
-        Step::Delete(place) => {
-            let place = Place::read(alloc, place)?;
-            Ok(folder.remove(&place)?)
-        }
+        Step::Put(place, bytes) => put_bytes(alloc, folder, place, bytes),
+        Step::Delete(place) => delete(alloc, folder, place),
         Step::Run(words, executed, text) => { build(alloc, folder, tables, words, *executed, text) }
     }
+}
+
+fn delete<F: Folder>(alloc: Global, folder: &mut F, place: &str) -> Result<(), Fail> {
+    let place = Place::read(alloc, place)?;
+    Ok(folder.remove(&place)?)
 }
 
 /// Builds what the words ask for, beside one listener, and fails where something else is told.
