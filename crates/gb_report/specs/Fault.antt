@@ -1,8 +1,10 @@
 -- The number and the text of each fault.
-use Rattle.std.specs.Prelude.{ℕ, not, ◌||◌, ◌==◌, List, [], ◌∷◌, ◌++◌, map, take, if◌then◌else◌, codes}
+use Rattle.std.specs.Prelude.{ℕ, ◌||◌, ◌==◌, List, [], ◌∷◌, ◌++◌, map, take, if◌then◌else◌, codes}
 use Rattle.std.specs.Prelude.{decimal, nat_lt, encode_utf8_all}
 use Rattle.std.specs.List.{flat_map}
 use Rattle.std.specs.Str.{chars}
+use Rattle.gb_report.specs.declared.fault.About.{About}
+use Rattle.gb_report.specs.declared.fault.About.TheVariants as abouts
 use Rattle.gb_report.specs.declared.fault.Fault.{Fault}
 use Rattle.gb_report.specs.declared.fault.Fault.TheVariants as faults
 use Rattle.gb_report.specs.declared.fault.Limited.{Limited}
@@ -124,8 +126,23 @@ fault_text (faults.OwnState place) = codes "94 own state " ++ place
 fault_text (faults.BadLine line) = codes "95 bad line " ++ decimal line
 fault_text faults.Usage = codes "96 usage"
 
--- the text of a fault with a number from one on and below another, and nothing of any other
-abbrev pub text_within : ℕ → ℕ → Fault → List ℕ
-text_within from below fault =
-    if nat_lt (fault_number fault) from || not (nat_lt (fault_number fault) below) then []
-    else fault_text fault
+-- what a fault is about, as it is told behind its words
+abbrev pub about_text : About → List ℕ
+about_text abouts.Nothing = []
+about_text (abouts.Place place) = place.now
+about_text (abouts.Name name) = name.now
+about_text (abouts.Text text) = text.now
+about_text (abouts.Task task) = task.now
+about_text (abouts.Project project) = project.now
+about_text (abouts.Number number) = decimal number
+about_text (abouts.Limited what) = limited_text what
+about_text (abouts.Shown text) = shown text.now
+about_text (abouts.Names names) = row_text names.now
+about_text (abouts.Tasks tasks) = row_text tasks.now
+about_text (abouts.Line script line) = script.now ++ codes ":" ++ decimal line
+about_text (abouts.TaskName task name) = task.now ++ codes " " ++ name.now
+about_text (abouts.TaskPlace task place) = task.now ++ codes " " ++ place.now
+about_text (abouts.TaskShown task text) = task.now ++ codes " " ++ shown text.now
+about_text (abouts.NamePath name path) = name.now ++ codes " " ++ path.now
+about_text (abouts.TasksPlace task other place) =
+    task.now ++ codes " " ++ other.now ++ codes " " ++ place.now

@@ -1,6 +1,6 @@
 //! Why something is refused, or a task failed.
-ghost use Rattle.std.specs.Prelude.{◌≡◌, ◌<◌, ◌≤◌, IfOk};
-ghost use Rattle.gb_report.specs.Fault.{fault_number, shown_character};
+ghost use Rattle.std.specs.Prelude.{◌≡◌, ◌<◌, ◌≤◌, ◌++◌, IfOk};
+ghost use Rattle.gb_report.specs.Fault.{about_text, fault_number, fault_text, shown_character};
 
 use gb_core::name::Name;
 use gb_core::path::{ProjectPath, TaskPath};
@@ -209,21 +209,21 @@ impl Fault {
 fn copy_below_30(fault: &Fault) -> Result<Fault, AllocError>
     ensures { IfOk result (λ copied. fault_number fault.now < 30 → copied ≡ fault.now) }
 {
-    Ok(match fault {
-        Fault::BadName(text) => Fault::BadName(text.copy()?),
-        Fault::BadPlace(text) => Fault::BadPlace(text.copy()?),
-        Fault::OutOfMemory => Fault::OutOfMemory,
-        Fault::Device(place) => Fault::Device(place.copy()?),
-        Fault::Missing(place) => Fault::Missing(place.copy()?),
-        Fault::Blocked(place) => Fault::Blocked(place.copy()?),
-        Fault::TooLarge(place) => Fault::TooLarge(place.copy()?),
-        Fault::BadFileName(place) => Fault::BadFileName(place.copy()?),
-        Fault::Syntax(place, line) => Fault::Syntax(place.copy()?, *line),
-        Fault::TooLong(place) => Fault::TooLong(place.copy()?),
-        Fault::TooDeep(place, line) => Fault::TooDeep(place.copy()?, *line),
-        Fault::NotUtf8(place) => Fault::NotUtf8(place.copy()?),
-        _ => Fault::OutOfMemory,
-    })
+    match fault {
+        Fault::BadName(text) => text.copy().map(Fault::BadName),
+        Fault::BadPlace(text) => text.copy().map(Fault::BadPlace),
+        Fault::OutOfMemory => Ok(Fault::OutOfMemory),
+        Fault::Device(place) => place.copy().map(Fault::Device),
+        Fault::Missing(place) => place.copy().map(Fault::Missing),
+        Fault::Blocked(place) => place.copy().map(Fault::Blocked),
+        Fault::TooLarge(place) => place.copy().map(Fault::TooLarge),
+        Fault::BadFileName(place) => place.copy().map(Fault::BadFileName),
+        Fault::Syntax(place, line) => Ok(Fault::Syntax(place.copy()?, *line)),
+        Fault::TooLong(place) => place.copy().map(Fault::TooLong),
+        Fault::TooDeep(place, line) => Ok(Fault::TooDeep(place.copy()?, *line)),
+        Fault::NotUtf8(place) => place.copy().map(Fault::NotUtf8),
+        _ => Ok(Fault::OutOfMemory),
+    }
 }
 
 /// An equal fault, of those with a number from 30 to 42.
@@ -231,17 +231,17 @@ fn copy_below_43(alloc: Global, fault: &Fault) -> Result<Fault, AllocError>
     ensures { IfOk result (λ copied.
         30 ≤ fault_number fault.now → fault_number fault.now < 43 → copied ≡ fault.now) }
 {
-    Ok(match fault {
-        Fault::Circular(names) => Fault::Circular(names.copy(alloc)?),
-        Fault::UnknownTransform(name) => Fault::UnknownTransform(name.copy()?),
-        Fault::BadArguments(text) => Fault::BadArguments(text.copy()?),
-        Fault::NoValue(task, name) => Fault::NoValue(task.copy()?, name.copy()?),
-        Fault::WrongValue(text) => Fault::WrongValue(text.copy()?),
-        Fault::Final(name) => Fault::Final(name.copy()?),
-        Fault::UnknownAction(name) => Fault::UnknownAction(name.copy()?),
-        Fault::ActionFailed(text) => Fault::ActionFailed(text.copy()?),
-        _ => Fault::OutOfMemory,
-    })
+    match fault {
+        Fault::Circular(names) => names.copy(alloc).map(Fault::Circular),
+        Fault::UnknownTransform(name) => name.copy().map(Fault::UnknownTransform),
+        Fault::BadArguments(text) => text.copy().map(Fault::BadArguments),
+        Fault::NoValue(task, name) => Ok(Fault::NoValue(task.copy()?, name.copy()?)),
+        Fault::WrongValue(text) => text.copy().map(Fault::WrongValue),
+        Fault::Final(name) => name.copy().map(Fault::Final),
+        Fault::UnknownAction(name) => name.copy().map(Fault::UnknownAction),
+        Fault::ActionFailed(text) => text.copy().map(Fault::ActionFailed),
+        _ => Ok(Fault::OutOfMemory),
+    }
 }
 
 /// An equal fault, of those with a number from 43 to 53.
@@ -249,14 +249,14 @@ fn copy_below_54(fault: &Fault) -> Result<Fault, AllocError>
     ensures { IfOk result (λ copied.
         43 ≤ fault_number fault.now → fault_number fault.now < 54 → copied ≡ fault.now) }
 {
-    Ok(match fault {
-        Fault::BadArgument(task, name) => Fault::BadArgument(task.copy()?, name.copy()?),
-        Fault::UnknownProject(text) => Fault::UnknownProject(text.copy()?),
-        Fault::DuplicateTask(task) => Fault::DuplicateTask(task.copy()?),
-        Fault::TaskNotFound(text) => Fault::TaskNotFound(text.copy()?),
-        Fault::DuplicateProperty(name) => Fault::DuplicateProperty(name.copy()?),
-        _ => Fault::OutOfMemory,
-    })
+    match fault {
+        Fault::BadArgument(task, name) => Ok(Fault::BadArgument(task.copy()?, name.copy()?)),
+        Fault::UnknownProject(text) => text.copy().map(Fault::UnknownProject),
+        Fault::DuplicateTask(task) => task.copy().map(Fault::DuplicateTask),
+        Fault::TaskNotFound(text) => text.copy().map(Fault::TaskNotFound),
+        Fault::DuplicateProperty(name) => name.copy().map(Fault::DuplicateProperty),
+        _ => Ok(Fault::OutOfMemory),
+    }
 }
 
 /// An equal fault, of those with a number from 54 to 60.
@@ -264,19 +264,18 @@ fn copy_below_61(alloc: Global, fault: &Fault) -> Result<Fault, AllocError>
     ensures { IfOk result (λ copied.
         54 ≤ fault_number fault.now → fault_number fault.now < 61 → copied ≡ fault.now) }
 {
-    Ok(match fault {
-        Fault::UnknownProperty(name) => Fault::UnknownProperty(name.copy()?),
-        Fault::BadShape(task) => Fault::BadShape(task.copy()?),
-        Fault::OutputOutsideBuild(task, place) => Fault::OutputOutsideBuild(
-            task.copy()?,
-            place.copy()?,
-        ),
-        Fault::BadProjectPlace(project) => Fault::BadProjectPlace(project.copy()?),
-        Fault::TooMany(what) => Fault::TooMany(*what),
-        Fault::UnknownOutput(task, text) => Fault::UnknownOutput(task.copy()?, text.copy()?),
-        Fault::Cycle(tasks) => Fault::Cycle(tasks.copy(alloc)?),
-        _ => Fault::OutOfMemory,
-    })
+    match fault {
+        Fault::UnknownProperty(name) => name.copy().map(Fault::UnknownProperty),
+        Fault::BadShape(task) => task.copy().map(Fault::BadShape),
+        Fault::OutputOutsideBuild(task, place) => {
+            Ok(Fault::OutputOutsideBuild(task.copy()?, place.copy()?))
+        }
+        Fault::BadProjectPlace(project) => project.copy().map(Fault::BadProjectPlace),
+        Fault::TooMany(what) => Ok(Fault::TooMany(*what)),
+        Fault::UnknownOutput(task, text) => Ok(Fault::UnknownOutput(task.copy()?, text.copy()?)),
+        Fault::Cycle(tasks) => tasks.copy(alloc).map(Fault::Cycle),
+        _ => Ok(Fault::OutOfMemory),
+    }
 }
 
 fn copy_both(task: &TaskPath, other: &TaskPath) -> Result<(TaskPath, TaskPath), AllocError>
@@ -290,38 +289,37 @@ fn copy_below_64(fault: &Fault) -> Result<Fault, AllocError>
     ensures { IfOk result (λ copied.
         61 ≤ fault_number fault.now → fault_number fault.now < 64 → copied ≡ fault.now) }
 {
-    Ok(match fault {
+    match fault {
         Fault::OverlappingOutputs(task, other, place) => {
             let tasks = copy_both(task, other)?;
-            Fault::OverlappingOutputs(tasks.0, tasks.1, place.copy()?)
+            Ok(Fault::OverlappingOutputs(tasks.0, tasks.1, place.copy()?))
         }
         Fault::UndeclaredDependency(task, other, place) => {
             let tasks = copy_both(task, other)?;
-            Fault::UndeclaredDependency(tasks.0, tasks.1, place.copy()?)
+            Ok(Fault::UndeclaredDependency(tasks.0, tasks.1, place.copy()?))
         }
-        Fault::OwnOutputAsInput(task, place) => Fault::OwnOutputAsInput(
-            task.copy()?,
-            place.copy()?,
-        ),
-        _ => Fault::OutOfMemory,
-    })
+        Fault::OwnOutputAsInput(task, place) => {
+            Ok(Fault::OwnOutputAsInput(task.copy()?, place.copy()?))
+        }
+        _ => Ok(Fault::OutOfMemory),
+    }
 }
 
 /// An equal fault, of those with a number above 63.
 fn copy_others(fault: &Fault) -> Result<Fault, AllocError>
     ensures { IfOk result (λ copied. 64 ≤ fault_number fault.now → copied ≡ fault.now) }
 {
-    Ok(match fault {
-        Fault::NoTasks => Fault::NoTasks,
-        Fault::BadPattern(text) => Fault::BadPattern(text.copy()?),
-        Fault::DuplicateInput(name, path) => Fault::DuplicateInput(name.copy()?, path.copy()?),
-        Fault::TooManyFiles(name) => Fault::TooManyFiles(name.copy()?),
-        Fault::HistoryNotWritten => Fault::HistoryNotWritten,
-        Fault::OwnState(place) => Fault::OwnState(place.copy()?),
-        Fault::BadLine(line) => Fault::BadLine(*line),
-        Fault::Usage => Fault::Usage,
-        _ => Fault::OutOfMemory,
-    })
+    match fault {
+        Fault::NoTasks => Ok(Fault::NoTasks),
+        Fault::BadPattern(text) => text.copy().map(Fault::BadPattern),
+        Fault::DuplicateInput(name, path) => Ok(Fault::DuplicateInput(name.copy()?, path.copy()?)),
+        Fault::TooManyFiles(name) => name.copy().map(Fault::TooManyFiles),
+        Fault::HistoryNotWritten => Ok(Fault::HistoryNotWritten),
+        Fault::OwnState(place) => place.copy().map(Fault::OwnState),
+        Fault::BadLine(line) => Ok(Fault::BadLine(*line)),
+        Fault::Usage => Ok(Fault::Usage),
+        _ => Ok(Fault::OutOfMemory),
+    }
 }
 
 impl fmt::Display for Fault {
@@ -331,16 +329,8 @@ impl fmt::Display for Fault {
     ghost output = { λ f. Some (fault_text f) };
 
     fn fmt<W: fmt::Write>(&self, f: &mut fmt::Formatter<W>) -> fmt::Result {
-        let number = self.number();
-        if number < 30 {
-            fmt::Display::fmt(&Below30 { fault: self }, f)
-        } else if number < 54 {
-            fmt::Display::fmt(&Below54 { fault: self }, f)
-        } else if number < 61 {
-            fmt::Display::fmt(&Below61 { fault: self }, f)
-        } else {
-            fmt::Display::fmt(&Others { fault: self }, f)
-        }
+        let (words, about) = told(self);
+        write!(f, "{words}{about}")
     }
 }
 
@@ -351,132 +341,145 @@ impl fmt::Debug for Fault {
     }
 }
 
-/// A fault with a number below 30. Of any other it tells nothing.
+/// What a fault is about, as it is told behind its words.
 #[derive(Clone, Copy)]
-struct Below30<'a> {
-    fault: &'a Fault,
+enum About<'a> {
+    Nothing,
+    Place(&'a Place),
+    Name(&'a Name),
+    Text(&'a Text),
+    Task(&'a TaskPath),
+    Project(&'a ProjectPath),
+    Number(u64),
+    Limited(Limited),
+    /// A text from outside.
+    Shown(&'a Text),
+    Names(&'a Texts),
+    Tasks(&'a TaskList),
+    /// A script and a line of it.
+    Line(&'a Place, u64),
+    TaskName(&'a TaskPath, &'a Name),
+    TaskPlace(&'a TaskPath, &'a Place),
+    /// A task and a text from outside.
+    TaskShown(&'a TaskPath, &'a Text),
+    NamePath(&'a Name, &'a RelPath),
+    TasksPlace(&'a TaskPath, &'a TaskPath, &'a Place),
 }
 
-impl<'a> fmt::Display for Below30<'a> {
+impl<'a> fmt::Display for About<'a> {
     ghost use Rattle.std.specs.Prelude.{Some};
-    ghost use Rattle.gb_report.specs.Fault.{text_within};
+    ghost use Rattle.gb_report.specs.Fault.{about_text};
 
-    ghost output = { λ b. Some (text_within 0 30 b.fault.now) };
+    ghost output = { λ a. Some (about_text a) };
 
     fn fmt<W: fmt::Write>(&self, f: &mut fmt::Formatter<W>) -> fmt::Result {
-        match self.fault {
-            Fault::BadName(text) => write!(f, "1 bad name {}", Shown { text }),
-            Fault::BadPlace(text) => write!(f, "2 bad place {}", Shown { text }),
-            Fault::OutOfMemory => write!(f, "3 out of memory"),
-            Fault::Device(place) => write!(f, "10 device {place}"),
-            Fault::Missing(place) => write!(f, "11 missing {place}"),
-            Fault::Blocked(place) => write!(f, "12 blocked {place}"),
-            Fault::TooLarge(place) => write!(f, "13 too large {place}"),
-            Fault::BadFileName(place) => write!(f, "14 bad file name {place}"),
-            Fault::Syntax(script, line) => write!(f, "20 syntax {script}:{line}"),
-            Fault::TooLong(script) => write!(f, "21 too long {script}"),
-            Fault::TooDeep(script, line) => write!(f, "22 too deep {script}:{line}"),
-            Fault::NotUtf8(script) => write!(f, "23 not UTF-8 {script}"),
-            _ => Ok(()),
+        match *self {
+            About::Nothing => Ok(()),
+            About::Place(place) => fmt::Display::fmt(place, f),
+            About::Name(name) => fmt::Display::fmt(name, f),
+            About::Text(text) => fmt::Display::fmt(text, f),
+            About::Task(task) => fmt::Display::fmt(task, f),
+            About::Project(project) => fmt::Display::fmt(project, f),
+            About::Number(number) => fmt::Display::fmt(&number, f),
+            About::Limited(what) => fmt::Display::fmt(&what, f),
+            About::Shown(text) => fmt::Display::fmt(&Shown { text }, f),
+            About::Names(names) => fmt::Display::fmt(&Names { names }, f),
+            About::Tasks(tasks) => fmt::Display::fmt(&Tasks { tasks }, f),
+            About::Line(script, line) => write!(f, "{script}:{line}"),
+            About::TaskName(task, name) => write!(f, "{task} {name}"),
+            About::TaskPlace(task, place) => write!(f, "{task} {place}"),
+            About::TaskShown(task, text) => write!(f, "{task} {}", Shown { text }),
+            About::NamePath(name, path) => write!(f, "{name} {path}"),
+            About::TasksPlace(task, other, place) => write!(f, "{task} {other} {place}"),
         }
     }
 }
 
-/// A fault with a number from 30 to 53. Of any other it tells nothing.
-#[derive(Clone, Copy)]
-struct Below54<'a> {
-    fault: &'a Fault,
-}
-
-impl<'a> fmt::Display for Below54<'a> {
-    ghost use Rattle.std.specs.Prelude.{Some};
-    ghost use Rattle.gb_report.specs.Fault.{text_within};
-
-    ghost output = { λ b. Some (text_within 30 54 b.fault.now) };
-
-    fn fmt<W: fmt::Write>(&self, f: &mut fmt::Formatter<W>) -> fmt::Result {
-        match self.fault {
-            Fault::Circular(names) => write!(f, "30 circular {}", Names { names }),
-            Fault::UnknownTransform(name) => write!(f, "31 unknown transform {name}"),
-            Fault::BadArguments(name) => write!(f, "32 bad arguments {name}"),
-            Fault::NoValue(task, name) => write!(f, "33 no value {task} {name}"),
-            Fault::WrongValue(name) => write!(f, "34 wrong value {name}"),
-            Fault::Final(name) => write!(f, "35 final {name}"),
-            Fault::UnknownAction(name) => write!(f, "40 unknown action {name}"),
-            Fault::ActionFailed(text) => write!(f, "42 {text}"),
-            Fault::BadArgument(task, name) => write!(f, "43 bad argument {task} {name}"),
-            Fault::UnknownProject(text) => write!(f, "50 unknown project {}", Shown { text }),
-            Fault::DuplicateTask(task) => write!(f, "51 duplicate task {task}"),
-            Fault::TaskNotFound(text) => write!(f, "52 task not found {}", Shown { text }),
-            Fault::DuplicateProperty(name) => write!(f, "53 duplicate property {name}"),
-            _ => Ok(()),
-        }
+/// The number and the words of a fault, and what it is about.
+fn told(fault: &Fault) -> (&'static str, About<'_>)
+    ensures { fault_text fault.now ≡ result.0.now ++ about_text result.1 }
+{
+    match fault {
+        Fault::BadName(text) => ("1 bad name ", About::Shown(text)),
+        Fault::BadPlace(text) => ("2 bad place ", About::Shown(text)),
+        Fault::OutOfMemory => ("3 out of memory", About::Nothing),
+        Fault::Device(place) => ("10 device ", About::Place(place)),
+        Fault::Missing(place) => ("11 missing ", About::Place(place)),
+        Fault::Blocked(place) => ("12 blocked ", About::Place(place)),
+        Fault::TooLarge(place) => ("13 too large ", About::Place(place)),
+        Fault::BadFileName(place) => ("14 bad file name ", About::Place(place)),
+        Fault::Syntax(script, line) => ("20 syntax ", About::Line(script, *line)),
+        Fault::TooLong(script) => ("21 too long ", About::Place(script)),
+        Fault::TooDeep(script, line) => ("22 too deep ", About::Line(script, *line)),
+        Fault::NotUtf8(script) => ("23 not UTF-8 ", About::Place(script)),
+        Fault::Circular(names) => ("30 circular ", About::Names(names)),
+        Fault::UnknownTransform(name) => ("31 unknown transform ", About::Name(name)),
+        Fault::BadArguments(name) => ("32 bad arguments ", About::Text(name)),
+        Fault::NoValue(task, name) => ("33 no value ", About::TaskName(task, name)),
+        Fault::WrongValue(name) => ("34 wrong value ", About::Text(name)),
+        Fault::Final(name) => ("35 final ", About::Name(name)),
+        Fault::UnknownAction(name) => ("40 unknown action ", About::Name(name)),
+        Fault::ActionFailed(text) => ("42 ", About::Text(text)),
+        _ => told_from_43(fault),
     }
 }
 
-/// A fault with a number from 54 to 60. Of any other it tells nothing.
-#[derive(Clone, Copy)]
-struct Below61<'a> {
-    fault: &'a Fault,
-}
-
-impl<'a> fmt::Display for Below61<'a> {
-    ghost use Rattle.std.specs.Prelude.{Some};
-    ghost use Rattle.gb_report.specs.Fault.{text_within};
-
-    ghost output = { λ b. Some (text_within 54 61 b.fault.now) };
-
-    fn fmt<W: fmt::Write>(&self, f: &mut fmt::Formatter<W>) -> fmt::Result {
-        match self.fault {
-            Fault::UnknownProperty(name) => write!(f, "54 unknown property {name}"),
-            Fault::BadShape(task) => write!(f, "55 bad shape {task}"),
-            Fault::OutputOutsideBuild(task, place) => {
-                write!(f, "56 output outside build {task} {place}")
-            }
-            Fault::BadProjectPlace(project) => write!(f, "57 bad project place {project}"),
-            Fault::TooMany(what) => write!(f, "58 too many {what}"),
-            Fault::UnknownOutput(task, text) => {
-                write!(f, "59 unknown output {task} {}", Shown { text })
-            }
-            Fault::Cycle(tasks) => write!(f, "60 cycle {}", Tasks { tasks }),
-            _ => Ok(()),
-        }
+/// The number and the words of a fault with a number above 42, and what it is about.
+fn told_from_43(fault: &Fault) -> (&'static str, About<'_>)
+    ensures { 42 < fault_number fault.now → fault_text fault.now ≡ result.0.now ++ about_text result.1 }
+{
+    match fault {
+        Fault::BadArgument(task, name) => (
+            "43 bad argument ",
+            About::TaskName(task, name),
+        ),
+        Fault::UnknownProject(text) => ("50 unknown project ", About::Shown(text)),
+        Fault::DuplicateTask(task) => ("51 duplicate task ", About::Task(task)),
+        Fault::TaskNotFound(text) => ("52 task not found ", About::Shown(text)),
+        Fault::DuplicateProperty(name) => ("53 duplicate property ", About::Name(name)),
+        Fault::UnknownProperty(name) => ("54 unknown property ", About::Name(name)),
+        Fault::BadShape(task) => ("55 bad shape ", About::Task(task)),
+        Fault::OutputOutsideBuild(task, place) => (
+            "56 output outside build ",
+            About::TaskPlace(task, place),
+        ),
+        Fault::BadProjectPlace(project) => ("57 bad project place ", About::Project(project)),
+        Fault::TooMany(what) => ("58 too many ", About::Limited(*what)),
+        Fault::UnknownOutput(task, text) => ("59 unknown output ", About::TaskShown(task, text)),
+        Fault::Cycle(tasks) => ("60 cycle ", About::Tasks(tasks)),
+        _ => told_from_61(fault),
     }
 }
 
-/// A fault with a number above 60. Of any other it tells nothing.
-#[derive(Clone, Copy)]
-struct Others<'a> {
-    fault: &'a Fault,
-}
-
-impl<'a> fmt::Display for Others<'a> {
-    ghost use Rattle.std.specs.Prelude.{Some};
-    ghost use Rattle.gb_report.specs.Fault.{text_within};
-
-    ghost output = { λ b. Some (text_within 61 97 b.fault.now) };
-
-    fn fmt<W: fmt::Write>(&self, f: &mut fmt::Formatter<W>) -> fmt::Result {
-        match self.fault {
-            Fault::OverlappingOutputs(task, other, place) => {
-                write!(f, "61 overlapping outputs {task} {other} {place}")
-            }
-            Fault::UndeclaredDependency(task, producer, place) => {
-                write!(f, "62 undeclared dependency {task} {producer} {place}")
-            }
-            Fault::OwnOutputAsInput(task, place) => {
-                write!(f, "63 own output as input {task} {place}")
-            }
-            Fault::NoTasks => write!(f, "64 no tasks"),
-            Fault::BadPattern(text) => write!(f, "70 bad pattern {}", Shown { text }),
-            Fault::DuplicateInput(name, path) => write!(f, "71 duplicate input {name} {path}"),
-            Fault::TooManyFiles(name) => write!(f, "72 too many files {name}"),
-            Fault::HistoryNotWritten => write!(f, "90 history not written"),
-            Fault::OwnState(place) => write!(f, "94 own state {place}"),
-            Fault::BadLine(line) => write!(f, "95 bad line {line}"),
-            Fault::Usage => write!(f, "96 usage"),
-            _ => Ok(()),
-        }
+/// The number and the words of a fault with a number above 60, and what it is about.
+fn told_from_61(fault: &Fault) -> (&'static str, About<'_>)
+    ensures { 60 < fault_number fault.now → fault_text fault.now ≡ result.0.now ++ about_text result.1 }
+{
+    match fault {
+        Fault::OverlappingOutputs(task, other, place) => (
+            "61 overlapping outputs ",
+            About::TasksPlace(task, other, place),
+        ),
+        Fault::UndeclaredDependency(task, producer, place) => (
+            "62 undeclared dependency ",
+            About::TasksPlace(task, producer, place),
+        ),
+        Fault::OwnOutputAsInput(task, place) => (
+            "63 own output as input ",
+            About::TaskPlace(task, place),
+        ),
+        Fault::NoTasks => ("64 no tasks", About::Nothing),
+        Fault::BadPattern(text) => ("70 bad pattern ", About::Shown(text)),
+        Fault::DuplicateInput(name, path) => (
+            "71 duplicate input ",
+            About::NamePath(name, path),
+        ),
+        Fault::TooManyFiles(name) => ("72 too many files ", About::Name(name)),
+        Fault::HistoryNotWritten => ("90 history not written", About::Nothing),
+        Fault::OwnState(place) => ("94 own state ", About::Place(place)),
+        Fault::BadLine(line) => ("95 bad line ", About::Number(*line)),
+        Fault::Usage => ("96 usage", About::Nothing),
+        _ => ("", About::Nothing),
     }
 }
 
