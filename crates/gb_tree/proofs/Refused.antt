@@ -1,17 +1,11 @@
 -- Why a file that stands is not read.
-use Rattle.std.proofs.Common.{◌≡◌, ◌⊎◌, ◌<◌, ◌≤◌, ◌++◌, Result, Err, arith, inl, inr, ℕ, Bool, true, false, cond, not, List, [], ◌∷◌, length, Option, Some, None, refl, sym, ◌∙◌, ap, subst}
+use Rattle.std.proofs.Common.{◌≡◌, ◌⊎◌, ◌<◌, ◌≤◌, ◌++◌, Result, Err, arith, inl, inr, ℕ, Bool, true, List, [], ◌∷◌, length, Option, Some, None, refl, sym, ◌∙◌, ap, subst}
 use Rattle.std.proofs.lemmas.Bool.Decides.{nat_tests}
-use Rattle.std.proofs.lemmas.Bool.{and_parts, not-true, false≢true}
-use Rattle.std.proofs.lemmas.Option.{none-some}
-use Rattle.std.specs.Cmp.Lexicographic.{slice_cmp}
-use Rattle.std.specs.List.{list_all}
-use Rattle.std.specs.Ordering.{nat_cmp, is_eq}
+use Rattle.std.proofs.lemmas.Bool.{false≢true}
 use Rattle.std.specs.Prelude.{IsSome, IsSomeAnd, nat_lt, unwrap_or}
 use Rattle.gb_core.specs.Lists.{first_of}
 use Rattle.gb_folder.specs.Files.{Place, Files, IsFolder, HasRisen, file_at, is_blocked}
 use Rattle.gb_folder.proofs.Changes.{HasRisen-before}
-use Rattle.gb_folder.proofs.Held.{equal_from}
-use Rattle.gb_folder.proofs.Sound.{same_from}
 use Rattle.gb_folder.specs.declared.folder.FolderFault.{FolderFault}
 use Rattle.gb_folder.specs.declared.folder.FolderFault.TheVariants as folders
 use Rattle.gb_tree.specs.declared.fault.TreeFault.{TreeFault}

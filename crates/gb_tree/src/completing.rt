@@ -1,7 +1,7 @@
 //! What was read is completed: of the files whose bytes were not kept, the bytes are read and digested anew.
-ghost use Rattle.std.specs.Prelude.{◌≡◌, map, IsTrue, IfOk, IfErr};
+ghost use Rattle.std.specs.Prelude.{◌≡◌, ◌++◌, ◌∷◌, [], map, IsTrue, IfOk, IfErr, OnOk};
 ghost use Rattle.std.specs.List.{AllByRecursion};
-ghost use Rattle.std.specs.FinMap.Entries.{is_sorted};
+ghost use Rattle.std.specs.FinMap.Entries.{is_sorted, put};
 ghost use Rattle.gb_core.specs.Lists.{byte_order};
 ghost use Rattle.gb_folder.specs.Answers.{WereRead};
 ghost use Rattle.gb_folder.specs.Calls.{Asks, no_change};
@@ -19,7 +19,7 @@ use gb_core::bytes::Bytes;
 use gb_core::place::RelPath;
 use gb_folder::folder::Folder;
 use sha2::{Digest, Sha256};
-use std::alloc::Global;
+use std::alloc::{AllocError, Global};
 
 /// The path of one file, its bytes and their digest.
 fn complete<F: Folder>(
@@ -57,6 +57,21 @@ fn complete<F: Folder>(
     Ok((path, bytes, anew))
 }
 
+/// One file more, with its digest behind those of the others.
+fn add(
+    files: &mut Files,
+    digests: &mut Vec<(RelPath, [u8; 32])>,
+    path: RelPath,
+    bytes: Bytes,
+    digest: [u8; 32],
+) -> Result<(), AllocError>
+    ensures files { OnOk result (files.new ≡ put byte_order path bytes files.old) }
+    ensures digests { OnOk result (digests.new.items ≡ digests.old.items ++ (path, digest) ∷ []) }
+{
+    digests.push((path.copy()?, digest))?;
+    files.insert(path, bytes)
+}
+
 /// The bytes of the files and their digests, by their paths.
 pub(crate) fn complete_all<F: Folder>(
     alloc: Global,
@@ -81,12 +96,11 @@ pub(crate) fn complete_all<F: Folder>(
     ensures err { IsTrue F.tells → AllByRecursion (IsSeenIn (F.contents folder.old).files) seen.items
         → IfErr result (IsTreeFaultOfMachine (F.failures folder.old) (F.failures folder.new)) }
 {
-    let mut files = Files::new(alloc);
     let mut digests = Vec::with_capacity(alloc, seen.len())?;
+    let mut files = Files::new(alloc);
     for one in seen {
-        let (path, bytes, digest) = complete(alloc, folder, one)?;
-        digests.push((path.copy()?, digest))?;
-        files.insert(path, bytes)?;
+        let made = complete(alloc, folder, one)?;
+        add(&mut files, &mut digests, made.0, made.1, made.2)?;
     }
     Ok((files, digests))
 }

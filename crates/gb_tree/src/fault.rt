@@ -6,10 +6,11 @@ use gb_core::name::Name;
 use gb_core::place::{Place, RelPath};
 use gb_folder::folder::FolderFault;
 use std::alloc::{AllocError, AllocFailed};
+use std::fmt;
 use thiserror::Error;
 
 /// Why a tree is not read, with the place at which that came or the name of what was read.
-#[derive(Debug, Drop, Error)]
+#[derive(Drop, Error)]
 pub enum TreeFault {
     /// No memory for what is read; 3.
     #[error("out of memory")]
@@ -35,6 +36,13 @@ pub enum TreeFault {
     /// Two files would stand at this path, or one at a folder of it.
     #[error("duplicate input {0} {1}")]
     DuplicateInput(Name, RelPath),
+}
+
+/// Told as it is shown.
+impl fmt::Debug for TreeFault {
+    fn fmt<W: fmt::Write>(&self, f: &mut fmt::Formatter<W>) -> fmt::Result {
+        fmt::Display::fmt(self, f)
+    }
 }
 
 impl TreeFault {

@@ -208,7 +208,13 @@ pub(crate) fn see_all<F: Folder>(
     let mut seen = Vec::with_capacity(alloc, entries.len())?;
     let mut waiting = Waiting::Nothing;
     for (path, place) in entries.iter() {
-        let found = see_file(alloc, folder, path, place, room)?;
+        let found = match see_file(alloc, folder, path, place, room) {
+            Ok(found) => found,
+            Err(fault) => {
+                drop(waiting);
+                return Err(fault);
+            }
+        };
         waiting = add(&mut seen, waiting, found)?;
     }
     digest_waiting(&mut seen, waiting)?;

@@ -62,13 +62,28 @@ fn with_digest(small: SmallFile, digest: [u8; 32]) -> SeenFile
     }
 }
 
-/// Digests one file and puts it behind those that were seen.
-fn push_one(seen: &mut Vec<SeenFile>, small: SmallFile) -> Result<(), AllocError>
+/// Puts a small file with its digest behind those that were seen.
+fn push_with(seen: &mut Vec<SeenFile>, small: SmallFile, digest: [u8; 32]) -> Result<(), AllocError>
+    requires { digest ≡ sha256 small.bytes }
     ensures { OnOk result (seen.new.items ≡ seen.old.items ++ file_of small ∷ []) }
 {
-    let digest = Sha256::digest(small.bytes.as_slice());
     seen.push(with_digest(small, digest))?;
     Ok(())
+}
+
+/// Puts two small files with their digests behind those that were seen.
+fn push_both_with(
+    seen: &mut Vec<SeenFile>,
+    first: SmallFile,
+    second: SmallFile,
+    digests: ([u8; 32], [u8; 32]),
+) -> Result<(), AllocError>
+    requires first { digests.0 ≡ sha256 first.bytes }
+    requires second { digests.1 ≡ sha256 second.bytes }
+    ensures { OnOk result (seen.new.items ≡ seen.old.items ++ file_of first ∷ file_of second ∷ []) }
+{
+    push_with(seen, first, digests.0)?;
+    push_with(seen, second, digests.1)
 }
 
 /// Digests four files side by side and puts them behind those that were seen.
@@ -88,11 +103,42 @@ fn push_four(
         third.bytes.as_slice(),
         fourth.bytes.as_slice(),
     );
-    seen.push(with_digest(first, digests[0]))?;
-    seen.push(with_digest(second, digests[1]))?;
-    seen.push(with_digest(third, digests[2]))?;
-    seen.push(with_digest(fourth, digests[3]))?;
-    Ok(())
+    if let Err(error) = push_both_with(seen, first, second, (digests[0], digests[1])) {
+        drop(third);
+        drop(fourth);
+        return Err(error);
+    }
+    push_both_with(seen, third, fourth, (digests[2], digests[3]))
+}
+
+/// Digests one file and puts it behind those that were seen.
+fn push_one(seen: &mut Vec<SeenFile>, small: SmallFile) -> Result<(), AllocError>
+    ensures { OnOk result (seen.new.items ≡ seen.old.items ++ file_of small ∷ []) }
+{
+    let digest = Sha256::digest(small.bytes.as_slice());
+    push_with(seen, small, digest)
+}
+
+/// Digests two files, one after the other, and puts them behind those that were seen.
+fn push_two(seen: &mut Vec<SeenFile>, first: SmallFile, second: SmallFile) -> Result<(), AllocError>
+    ensures { OnOk result (seen.new.items ≡ seen.old.items ++ file_of first ∷ file_of second ∷ []) }
+{
+    push_one(seen, first)?;
+    push_one(seen, second)
+}
+
+/// Digests three files, one after another, and puts them behind those that were seen.
+fn push_three(
+    seen: &mut Vec<SeenFile>,
+    first: SmallFile,
+    second: SmallFile,
+    third: SmallFile,
+) -> Result<(), AllocError>
+    ensures { OnOk result (seen.new.items
+        ≡ seen.old.items ++ file_of first ∷ file_of second ∷ file_of third ∷ []) }
+{
+    push_two(seen, first, second)?;
+    push_one(seen, third)
 }
 
 /// Digests the files that wait, one after another, and puts them behind those that were seen.
@@ -102,15 +148,8 @@ pub(crate) fn digest_waiting(seen: &mut Vec<SeenFile>, waiting: Waiting) -> Resu
     match waiting {
         Waiting::Nothing => Ok(()),
         Waiting::One(first) => push_one(seen, first),
-        Waiting::Two(first, second) => {
-            push_one(seen, first)?;
-            push_one(seen, second)
-        }
-        Waiting::Three(first, second, third) => {
-            push_one(seen, first)?;
-            push_one(seen, second)?;
-            push_one(seen, third)
-        }
+        Waiting::Two(first, second) => push_two(seen, first, second),
+        Waiting::Three(first, second, third) => push_three(seen, first, second, third),
     }
 }
 

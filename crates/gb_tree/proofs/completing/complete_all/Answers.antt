@@ -20,28 +20,28 @@ use Rattle.gb_tree.proofs.Seen.{all_at, contents_more, digest_more, path_more, p
 use Rattle.gb_tree.specs.declared.kept.SeenFile.{SeenFile}
 use Rattle.gb_tree.proofs.completing.complete_all.Goals as goal
 
-pub returns-in_err-path-clause-blame : goal.returns-in_err-path-clause-blame
-returns-in_err-path-clause-blame g c =
-    let p = err_from_is_err_and c.from_residual-in_err-path.result c.from_residual-in_err-path.ensures.1 in
+pub returns-in_err-made-clause-blame : goal.returns-in_err-made-clause-blame
+returns-in_err-made-clause-blame g c =
+    let p = err_from_is_err_and c.from_residual-in_err-made.result c.from_residual-in_err-made.ensures.1 in
     let xs = c.args.seen.items in
     let x = c.in-Some.one in
     let gives = c.into_iter-one-iterator.ensures.into_iter_gives in
     let turn = YieldsList-turn (YieldsList-from_vec {s = c.into_iter-one-iterator.result} xs gives.0 (gives.1 ∙ c.args.seen.ok.0)) c.loop-one.yielded c.loop-one.one-iterator c.loop-one.yielded_by c.next.result c.next.new.self x c.in-Some.is c.next.ensures.steps in
-    blamed_before (λ at. at ≡ x.place) (λ at. IsTrue (is_among (entries_seen xs) at)) _ _ _ _ c.in_err-path.field-0.0 p.0 c.loop-one.invariant.asks.count c.in_err-path.ensures.asks.count p.1 p.2
-    (λ at same. subst (λ (place : Place). IsTrue (is_among (entries_seen xs) place)) (sym same) (seen_among xs (length c.loop-one.yielded) x turn.0 turn.1)) c.in_err-path.ensures.blame
+    blamed_before (λ at. at ≡ x.place) (λ at. IsTrue (is_among (entries_seen xs) at)) _ _ _ _ c.in_err-made.field-0.0 p.0 c.loop-one.invariant.asks.count c.in_err-made.ensures.asks.count p.1 p.2
+    (λ at same. subst (λ (place : Place). IsTrue (is_among (entries_seen xs) place)) (sym same) (seen_among xs (length c.loop-one.yielded) x turn.0 turn.1)) c.in_err-made.ensures.blame
 
-pub returns-in_err-path-clause-err : goal.returns-in_err-path-clause-err
-returns-in_err-path-clause-err g c = λ tells all.
-    let p = err_from_is_err_and c.from_residual-in_err-path.result c.from_residual-in_err-path.ensures.1 in
+pub returns-in_err-made-clause-err : goal.returns-in_err-made-clause-err
+returns-in_err-made-clause-err g c = λ tells all.
+    let p = err_from_is_err_and c.from_residual-in_err-made.result c.from_residual-in_err-made.ensures.1 in
     let failures = g.F.Folder.failures in
     let xs = c.args.seen.items in
     let x = c.in-Some.one in
     let gives = c.into_iter-one-iterator.ensures.into_iter_gives in
     let turn = YieldsList-turn (YieldsList-from_vec {s = c.into_iter-one-iterator.result} xs gives.0 (gives.1 ∙ c.args.seen.ok.0)) c.loop-one.yielded c.loop-one.one-iterator c.loop-one.yielded_by c.next.result c.next.new.self x c.in-Some.is c.next.ensures.steps in
     let is_seen = all_at (IsSeenIn (g.F.Folder.contents c.args.folder.now).files) xs (length c.loop-one.yielded) x turn.0 turn.1 all in
-    at_err (λ r. IfErr r (IsTreeFaultOfMachine (failures c.args.folder.now) (failures c.complete.new.folder))) c.from_residual-in_err-path.result p.0 c.in_err-path.field-0.0 p.1 p.2
-    (machine_before _ _ _ _ c.loop-one.invariant.asks.count c.in_err-path.ensures.asks.count
-    (c.in_err-path.ensures.err tells (subst (λ (now : Contents). IsSeenIn now.files x) (sym (c.loop-one.invariant.same tells)) is_seen)))
+    at_err (λ r. IfErr r (IsTreeFaultOfMachine (failures c.args.folder.now) (failures c.complete.new.folder))) c.from_residual-in_err-made.result p.0 c.in_err-made.field-0.0 p.1 p.2
+    (machine_before _ _ _ _ c.loop-one.invariant.asks.count c.in_err-made.ensures.asks.count
+    (c.in_err-made.ensures.err tells (subst (λ (now : Contents). IsSeenIn now.files x) (sym (c.loop-one.invariant.same tells)) is_seen)))
 
 pub loop-one-preserved : goal.loop-one-preserved
 loop-one-preserved g c =
@@ -51,27 +51,27 @@ loop-one-preserved g c =
     let x = c.in-Some.one in
     let n = length c.loop-one.yielded in
     let tree = c.loop-one.files in
-    let bytes = c.in_ok-path.bytes in
+    let bytes = c.in_ok-made.made.1 in
     let gives = c.into_iter-one-iterator.ensures.into_iter_gives in
     let turn = YieldsList-turn (YieldsList-from_vec {s = c.into_iter-one-iterator.result} xs gives.0 (gives.1 ∙ c.args.seen.ok.0)) c.loop-one.yielded c.loop-one.one-iterator c.loop-one.yielded_by c.next.result c.next.new.self x c.in-Some.is c.next.ensures.steps in
     let next = sym (length_push c.loop-one.yielded x) in
-    let more = c.in_ok-insert.ensures.ok ∙ ap (λ path. put byte_order path bytes tree) c.in_ok-path.ensures.path ∙ put_seen xs n x tree bytes turn.0 turn.1 c.requires.in_order so_far.paths in
+    let more = c.in_ok-add.ensures.files ∙ ap (λ path. put byte_order path bytes tree) c.in_ok-made.ensures.path ∙ put_seen xs n x tree bytes turn.0 turn.1 c.requires.in_order so_far.paths in
     record {
       can_next = tt;
       is_finite = tt;
       asks = asks_then so_far.asks c.complete.ensures.asks;
       same = λ tells. c.complete.ensures.same tells ∙ so_far.same tells;
-      digests = digest_more tree _ c.loop-one.digests.items _ x.path bytes c.in_ok-path.digest c.in_ok-copy.field-0 so_far.digests c.in_ok-push.ensures.items (c.in_ok-copy.ensures ∙ c.in_ok-path.ensures.path) c.in_ok-path.ensures.digest more;
+      digests = digest_more tree _ c.loop-one.digests.items _ x.path bytes c.in_ok-made.made.2 c.in_ok-made.made.0 so_far.digests c.in_ok-add.ensures.digests c.in_ok-made.ensures.path c.in_ok-made.ensures.digest more;
       paths = ap (map (λ (file : List ℕ × List ℕ). file.0)) more ∙ path_more xs n x tree bytes turn.0 turn.1 so_far.paths ∙ ap (λ k. map (λ (file : SeenFile). file.path) (take k xs)) next;
       answered = λ first before seen.
           let was = all_at (WasSeen g.F.Folder.failures g.F.Folder.may_leave g.F.Folder.asked first c.args.folder.now) xs n x turn.0 turn.1 seen in
-          subst (λ (k : ℕ). IsTreeRead g.F.Folder.failures g.F.Folder.may_leave g.F.Folder.asked first c.complete.new.folder (entries_seen (take k xs)) c.insert.new.self) next
+          subst (λ (k : ℕ). IsTreeRead g.F.Folder.failures g.F.Folder.may_leave g.F.Folder.asked first c.complete.new.folder (entries_seen (take k xs)) c.add.new.files) next
           (one_file_more xs n x tree _ bytes turn.0 turn.1 c.complete.ensures.asks (so_far.answered first before seen)
-          (c.in_ok-path.ensures.answered first (asks_then before so_far.asks) (seen_longer (asks_nothing first) so_far.asks x was)) more);
+          (c.in_ok-made.ensures.answered first (asks_then before so_far.asks) (seen_longer (asks_nothing first) so_far.asks x was)) more);
       read = λ tells all.
           let is_seen = all_at (IsSeenIn old) xs n x turn.0 turn.1 all in
           more
-          ∙ ap (λ b. tree ++ (x.path, b) ∷ []) (c.in_ok-path.ensures.read tells (subst (λ (now : Contents). IsSeenIn now.files x) (sym (so_far.same tells)) is_seen) ∙ ap (λ now. bytes_at now.files x.place) (so_far.same tells))
+          ∙ ap (λ b. tree ++ (x.path, b) ∷ []) (c.in_ok-made.ensures.read tells (subst (λ (now : Contents). IsSeenIn now.files x) (sym (so_far.same tells)) is_seen) ∙ ap (λ now. bytes_at now.files x.place) (so_far.same tells))
           ∙ ap (λ files. files ++ (x.path, bytes_at old x.place) ∷ []) (so_far.read tells all)
           ∙ contents_more old xs n x turn.0 turn.1
           ∙ ap (λ k. contents_at old (entries_seen (take k xs))) next;

@@ -1,6 +1,5 @@
-use Rattle.std.proofs.Common.{arith, ◌≡◌, ◌+◌, ◌++◌, ◌∷◌, inl, inr, true, IfErr, IsTrue, Some, ℕ, List, map, cond, drop, sym, ◌∙◌, ap, subst}
+use Rattle.std.proofs.Common.{arith, ◌≡◌, ◌+◌, ◌++◌, ◌∷◌, inl, inr, true, IsTrue, Some, ℕ, List, map, cond, drop, refl, sym, ◌∙◌, ap, subst}
 use Rattle.std.proofs.lemmas.List.{take_all}
-use Rattle.std.proofs.lemmas.Result.{err_from_is_err_and}
 use Rattle.std.specs.List.{filter}
 use Rattle.std.specs.Prelude.{IsSome}
 use Rattle.gb_core.specs.Lists.{first_of}
@@ -8,29 +7,26 @@ use Rattle.gb_folder.proofs.Asked.{asks_nothing, asks_then}
 use Rattle.gb_folder.specs.Files.{Contents, Place, file_at}
 use Rattle.gb_tree.specs.Answered.{WasSeen}
 use Rattle.gb_tree.specs.Reading.{IsReading, IsSeenIn, is_digest_of}
-use Rattle.gb_tree.specs.Tree.{IsRefused, is_among, is_large, too_large}
+use Rattle.gb_tree.specs.Tree.{is_among, is_large, too_large}
 use Rattle.gb_tree.specs.Waiting.{file_in, waiting_files}
 use Rattle.gb_tree.specs.declared.fault.TreeFault.TheVariants as faults
 use Rattle.gb_tree.specs.declared.kept.SeenFile.{SeenFile}
 use Rattle.gb_tree.proofs.Answering.{all_seen_longer, seen_longer}
 use Rattle.gb_tree.proofs.Blame.{at_entry, blamed_before}
 use Rattle.gb_tree.proofs.Loops.{step_here}
-use Rattle.gb_tree.proofs.Refused.{at_err, machine_before}
+use Rattle.gb_tree.proofs.Refused.{machine_before}
 use Rattle.gb_tree.proofs.Seen.{all_at, each_more, placed_more, seen_sorted, test_more}
 use Rattle.gb_tree.proofs.seeing.see_all.Goals as goal
 
-pub returns-in_err-found-clause-blame : goal.returns-in_err-found-clause-blame
-returns-in_err-found-clause-blame g c =
-    let p = err_from_is_err_and c.from_residual-in_err-found.result c.from_residual-in_err-found.ensures.1 in
+pub returns-in-Err-clause-blame : goal.returns-in-Err-clause-blame
+returns-in-Err-clause-blame g c =
     let entries = c.args.entries.now in
     let entry = c.loop-path-item.result in
-    blamed_before (λ at. at ≡ entry.1) (λ at. IsTrue (is_among entries at)) _ _ _ _ c.in_err-found.field-0.0 p.0 c.loop-path.invariant.asks.count c.in_err-found.ensures.asks.count p.1 p.2
-    (at_entry entries c.loop-path.path-index entry c.loop-path-test.true c.loop-path-item.is) c.in_err-found.ensures.blame
+    blamed_before (λ at. at ≡ entry.1) (λ at. IsTrue (is_among entries at)) _ _ _ _ c.in-Err.fault _ c.loop-path.invariant.asks.count c.in-Err.ensures.asks.count refl refl
+    (at_entry entries c.loop-path.path-index entry c.loop-path-test.true c.loop-path-item.is) c.in-Err.ensures.blame
 
-pub returns-in_err-found-clause-err : goal.returns-in_err-found-clause-err
-returns-in_err-found-clause-err g c = λ tells stands.
-    let p = err_from_is_err_and c.from_residual-in_err-found.result c.from_residual-in_err-found.ensures.1 in
-    let failures = g.F.Folder.failures in
+pub returns-in-Err-clause-err : goal.returns-in-Err-clause-err
+returns-in-Err-clause-err g c = λ tells stands.
     let files = (g.F.Folder.contents c.args.folder.now).files in
     let entries = c.args.entries.now in
     let so_far = c.loop-path.invariant in
@@ -39,18 +35,16 @@ returns-in_err-found-clause-err g c = λ tells stands.
     let within = c.loop-path-test.true in
     let is = c.loop-path-item.is in
     let rest = filter (λ f. is_large files f.1) (drop (i + 1) entries) in
-    at_err (λ r. IfErr r (IsRefused (failures c.args.folder.now) (failures c.see_file.new.folder) (too_large files entries)))
-    c.from_residual-in_err-found.result p.0 c.in_err-found.field-0.0 p.1 p.2
-    (elim (c.in_err-found.ensures.err tells (subst (λ (now : Contents). IsSome (file_at now.files e.1)) (sym (so_far.same tells))
+    elim (c.in-Err.ensures.err tells (subst (λ (now : Contents). IsSome (file_at now.files e.1)) (sym (so_far.same tells))
     (all_at (λ (entry : List ℕ × Place). IsSome (file_at files entry.1)) entries i e within is stands))) [
-      | inl machine ↦ inl (machine_before _ _ _ _ so_far.asks.count c.in_err-found.ensures.asks.count machine)
+      | inl machine ↦ inl (machine_before _ _ _ _ so_far.asks.count c.in-Err.ensures.asks.count machine)
       | inr large ↦
           let here : is_large files e.1 ≡ true = sym (ap (λ (now : Contents). is_large now.files e.1) (so_far.same tells)) ∙ large.0 in
           inr (sym (so_far.large tells)
           ∙ step_here (λ es. first_of (too_large files es)) entries i e within is
           ∙ ap (λ b. first_of (map (λ (f : List ℕ × List ℕ). faults.TooLarge f.1) (cond b (e ∷ rest) rest))) here
           ∙ ap Some (sym large.1))
-    ])
+    ]
 
 pub loop-path-preserved : goal.loop-path-preserved
 loop-path-preserved g c =
@@ -60,23 +54,23 @@ loop-path-preserved g c =
     let old = c.loop-path in
     let i = old.path-index in
     let e = c.loop-path-item.result in
-    let x = file_in c.in_ok-found.found in
+    let x = file_in c.in-Ok.found in
     let read = old.seen.items ++ waiting_files old.waiting in
     let within = c.loop-path-test.true in
     let is = c.loop-path-item.is in
     let added = c.in_ok-waiting.ensures in
-    let is_seen = λ (tells : IsTrue g.F.Folder.tells). subst (λ (now : Contents). IsSeenIn now.files x) (old.invariant.same tells) (c.in_ok-found.ensures.seen tells) in
+    let is_seen = λ (tells : IsTrue g.F.Folder.tells). subst (λ (now : Contents). IsSeenIn now.files x) (old.invariant.same tells) (c.in-Ok.ensures.seen tells) in
     record {
       asks = asks_then old.invariant.asks c.see_file.ensures.asks;
       same = λ tells. c.see_file.ensures.same tells ∙ old.invariant.same tells;
       answered = each_more (WasSeen g.F.Folder.failures g.F.Folder.may_leave g.F.Folder.asked c.args.folder.now c.see_file.new.folder) read _ x added
           (all_seen_longer (asks_nothing c.args.folder.now) c.see_file.ensures.asks read old.invariant.answered)
-          (seen_longer old.invariant.asks (asks_nothing c.see_file.new.folder) x c.in_ok-found.ensures.answered);
-      placed = placed_more entries i e read _ x within is added c.in_ok-found.ensures.path c.in_ok-found.ensures.place old.invariant.placed;
-      digested = test_more (λ (file : SeenFile). is_digest_of file.kept file.digest) read _ x added old.invariant.digested c.in_ok-found.ensures.digested;
+          (seen_longer old.invariant.asks (asks_nothing c.see_file.new.folder) x c.in-Ok.ensures.answered);
+      placed = placed_more entries i e read _ x within is added c.in-Ok.ensures.path c.in-Ok.ensures.place old.invariant.placed;
+      digested = test_more (λ (file : SeenFile). is_digest_of file.kept file.digest) read _ x added old.invariant.digested c.in-Ok.ensures.digested;
       each = λ tells. each_more (IsSeenIn files) read _ x added (old.invariant.each tells) (is_seen tells);
       large = λ tells.
-          let small : is_large files e.1 ≡ _ = ap (is_large files) (sym c.in_ok-found.ensures.place) ∙ (is_seen tells).small in
+          let small : is_large files e.1 ≡ _ = ap (is_large files) (sym c.in-Ok.ensures.place) ∙ (is_seen tells).small in
           sym (step_here (λ es. first_of (too_large files es)) entries i e within is ∙ ap (λ b. first_of (map (λ (f : List ℕ × List ℕ). faults.TooLarge f.1) (cond b (e ∷ filter (λ f. is_large files f.1) (drop (i + 1) entries)) (filter (λ f. is_large files f.1) (drop (i + 1) entries))))) small)
           ∙ old.invariant.large tells;
     }
