@@ -11,7 +11,13 @@ use Rattle.gb_provider.specs.declared.reading.State.TheVariants.{New, Open, Know
 use Rattle.gb_provider.specs.Meanings.{Meanings}
 use Rattle.gb_provider.specs.Rounds.{Rule, Answers, Reads, reading, after_operand, and_then}
 use Rattle.gb_provider.specs.Rules.{rule, rules}
-use Rattle.gb_provider.specs.Search.{IsLook, known, known_answer}
+use Rattle.std.proofs.Common.{drop, slice_index}
+use Rattle.std.specs.Prelude.{Result, Ok, Err, Vec}
+use Rattle.std.specs.declared.alloc.AllocError.{AllocError}
+use Rattle.std.specs.declared.alloc.Global.{Global}
+use Rattle.gb_provider.specs.Circle.{IsCircle}
+use Rattle.gb_provider.specs.Rounds.{answer}
+use Rattle.gb_provider.specs.Search.{IsEvaluated, IsLook, IsPathEnd, known, known_answer}
 
 module _ {A : Type 0} (states now : List (State A)) (same : now ≡ states) (found : Reading A) (r : Rule A) (reads : found ≡ reading (known now) r) where
   reads_here : reading (known states) r ≡ found
@@ -66,3 +72,11 @@ module _ {A : Type 0} (states : List (State A)) (operand : ℕ) where
 pub some_known : {A : Type 0} (o : Option A) → o ≢ None → (a : A) × (o ≡ Some a)
 some_known None some = absurd (some refl)
 some_known (Some a) some = (a, refl)
+
+-- an evaluation that ends with the end of its path, which is a circle
+pub circle_told : {A : Type 0} (rules : List (Rule A)) (entry : ℕ) (states : List (State A)) (path : List ℕ) (operand : ℕ) (result : Result (Option (Vec ℕ Global)) AllocError) → ((k : ℕ) → k < length path → slice_index path k ≡ operand → (answer rules entry ≡ None) × IsCircle rules entry (drop k path)) → IsPathEnd path operand result → IsEvaluated rules entry states result
+circle_told rules entry states path operand (Ok (Some circle)) all ends =
+    let found = all ends.0 ends.1 ends.2 in
+    (found.0, rw ends.3 found.1)
+circle_told rules entry states path operand (Ok None) all ends = absurd ends
+circle_told rules entry states path operand (Err failed) all ends = tt

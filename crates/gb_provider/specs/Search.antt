@@ -1,6 +1,6 @@
 -- A search for the answer of one entry.
 use Rattle.std.specs.Prelude.{◌≡◌, ◌≢◌, ℕ, ◌+◌, ◌<◌, List, length, Option, Some, None, Result, Ok, Err, Vec}
-use Rattle.std.specs.Prelude.{slice_get, slice_index, sum_by, Bool, true, false, IsTrue}
+use Rattle.std.specs.Prelude.{drop, slice_get, slice_index, sum_by, Bool, true, false, IsTrue}
 use Rattle.gb_provider.specs.declared.expression.Outcome.{Outcome}
 use Rattle.gb_provider.specs.declared.expression.Outcome.TheVariants.{Given, Absent, Refused}
 use Rattle.gb_provider.specs.declared.produced.Produced.{Produced}
@@ -76,6 +76,13 @@ IsEvaluated {A} rules entry states (Ok None) =
 IsEvaluated rules entry states (Ok (Some circle)) =
     (answer rules entry ≡ None) × IsCircle rules entry circle.items
 IsEvaluated rules entry states (Err failed) = Unit {0}
+
+-- the end of a path, from where it has the operand
+abbrev pub IsPathEnd : List ℕ → ℕ → Result (Option (Vec ℕ Global)) AllocError → Type 0
+IsPathEnd path operand (Ok (Some circle)) =
+    (k : ℕ) × (k < length path) × (slice_index path k ≡ operand) × (circle.items ≡ drop k path)
+IsPathEnd path operand (Ok None) = ⊥
+IsPathEnd path operand (Err failed) = Unit {0}
 
 -- how much is left to do at an entry
 abbrev pub left_at : {A : Type 0} → State A → ℕ

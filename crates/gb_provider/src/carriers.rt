@@ -182,15 +182,15 @@ fn carry_side(
     states: &[State<Shared<Produced>>],
     left: usize,
     right: usize,
-    chooser: Option<Shared<Outcome>>,
+    chooser: &Option<Shared<Outcome>>,
 ) -> Result<Reading<Shared<Produced>>, AllocError>
     requires left { left < length states.now }
     requires right { right < length states.now }
     ensures reads { IfOk result (λ found.
-        found ≡ reading (known states.now) (carry_side left right chooser)) }
+        found ≡ reading (known states.now) (carry_side left right chooser.now)) }
     ensures within { IfOk result (λ found. WaitsWithin (length states.now) found) }
 {
-    match &chooser {
+    match chooser {
         Some(outcome) => match outcome.get() {
             Outcome::Given(_) => carry(states, left),
             Outcome::Absent => carry(states, right),
@@ -221,11 +221,11 @@ fn choose_tasks<T: Transforms>(
     alloc: Global,
     source: usize,
     call: &Call<T::FlatMap>,
-    chooser: Option<Shared<Outcome>>,
+    chooser: &Option<Shared<Outcome>>,
 ) -> Result<Produced, AllocError>
-    ensures { IfOk result (λ found. found ≡ choose_tasks T.meanings source call.now chooser) }
+    ensures { IfOk result (λ found. found ≡ choose_tasks T.meanings source call.now chooser.now) }
 {
-    match &chooser {
+    match chooser {
         Some(outcome) => match outcome.get() {
             Outcome::Given(value) => apply::<T>(alloc, call, value),
             Outcome::Absent => Ok(Produced::Tasks(TaskPaths::new(alloc))),
@@ -288,7 +288,9 @@ impl<'b, 'a, T: Transforms> TaskReader<'b, 'a, T> {
     {
         let alloc = self.alloc;
         let chooser = self.value_of(source)?;
-        settle(alloc, choose_tasks::<T>(alloc, source, call, chooser)?)
+        let found = choose_tasks::<T>(alloc, source, call, &chooser);
+        drop(chooser);
+        settle(alloc, found?)
     }
 
     /// Those of the side that the value of the left takes.
@@ -308,7 +310,7 @@ impl<'b, 'a, T: Transforms> TaskReader<'b, 'a, T> {
     {
         let alloc = self.alloc;
         let chooser = self.value_of(left)?;
-        carry_side(alloc, states, left, right, chooser)
+        carry_side(alloc, states, left, right, &chooser)
     }
 
     /// One look at an expression whose operands are not many.

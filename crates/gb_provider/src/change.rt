@@ -21,13 +21,20 @@ pub enum Change {
     Finalize,
 }
 
+/// Replaces what a property is set to.
+fn put(property: &mut Property, setting: Option<Setting>)
+    ensures { property.new ≡ record property.old { setting = setting } }
+{
+    property.setting = setting;
+}
+
 fn apply(change: Change, property: &mut Property)
     ensures { property.new ≡ changed change property.old }
 {
     match change {
-        Change::Set(value) => property.setting = Some(Setting::Held(value)),
-        Change::SetFrom(source) => property.setting = Some(Setting::Followed(source)),
-        Change::Unset => property.setting = None,
+        Change::Set(value) => put(property, Some(Setting::Held(value))),
+        Change::SetFrom(source) => put(property, Some(Setting::Followed(source))),
+        Change::Unset => put(property, None),
         Change::Convention(source) => property.convention = Some(source),
         Change::Finalize => property.is_final = true,
     }
@@ -53,12 +60,16 @@ pub(crate) fn change_property<M, F, Z>(
     match node {
         Expression::OfProperty(property) => {
             if !takes(&change, property.is_final) {
+                drop(change);
                 return Err(Final);
             }
             apply(change, property);
             Ok(())
         }
-        _ => Err(Final),
+        _ => {
+            drop(change);
+            Err(Final)
+        }
     }
 }
 

@@ -1,5 +1,6 @@
 //! One look at an expression, where some answers are known.
-ghost use Rattle.std.specs.Prelude.{◌≡◌, ◌<◌, ℕ, [], length, slice_index, false, IfOk, All, codes, Ok};
+ghost use Rattle.std.specs.Prelude.{◌≡◌, ◌<◌, ◌++◌, ◌∷◌, ℕ, [], length, slice_index, false, IfOk, OnOk};
+ghost use Rattle.std.specs.Prelude.{All, codes, Ok};
 ghost use Rattle.std.specs.Option.{option_copied};
 ghost use Rattle.gb_provider.specs.Indexed.{IsIndexed};
 ghost use Rattle.gb_provider.specs.Meanings.{meaning_of};
@@ -7,7 +8,7 @@ ghost use Rattle.gb_provider.specs.Rounds.{reading, Reads};
 ghost use Rattle.gb_provider.specs.Rules.{PlaceWithin, OperandsWithin, rule, constant, follow, or_else};
 ghost use Rattle.gb_provider.specs.Rules.{property_rule, SettingWithin, output_rule, mapped, zipped};
 ghost use Rattle.gb_provider.specs.Rules.{chosen_rule, map_rule, flat_map_rule, zip_rule};
-ghost use Rattle.gb_provider.specs.Rules.{list_rule, refused, RefusedAs};
+ghost use Rattle.gb_provider.specs.Rules.{list_rule, listed, refused, RefusedAs};
 ghost use Rattle.gb_provider.specs.Search.{AreBefore, IsPast, is_given, known, WaitsWithin};
 ghost use Rattle.gb_provider.specs.declared.fault.Refusal.TheVariants.{WrongValue};
 
@@ -266,10 +267,7 @@ fn apply_flat_map<T: Transforms>(
     ensures within { IfOk result (λ found. WaitsWithin (length states.now) found) }
 {
     match T::flat_map(call.function, alloc, value, call.arguments.as_slice()) {
-        Ok(reply) => {
-            let reading = read_chosen(alloc, nodes, outputs, states, reply)?;
-            Ok(reading)
-        }
+        Ok(reply) => read_chosen(alloc, nodes, outputs, states, reply),
         Err(fault) => settle(alloc, Outcome::Refused(refused_by(&call.name, fault)?)),
     }
 }
@@ -306,6 +304,29 @@ fn refuse_element(alloc: Global) -> Result<Outcome, AllocError>
     Ok(Outcome::Refused(ValueFault::Refused(function, Refusal::WrongValue)))
 }
 
+/// Puts a copy of a text behind the others.
+fn push_copy(texts: &mut Texts, text: &Text) -> Result<(), AllocError>
+    ensures { OnOk result (texts.new ≡ texts.old ++ text.now ∷ []) }
+{
+    texts.push(text.copy()?)?;
+    Ok(())
+}
+
+/// That a list is made of these texts, unless an element was none.
+fn settle_list(
+    alloc: Global,
+    texts: Texts,
+    is_wrong: bool,
+) -> Result<Reading<Shared<Outcome>>, AllocError>
+    ensures { IfOk result (λ found. found ≡ Reading.Settles (listed is_wrong texts)) }
+{
+    if is_wrong {
+        drop(texts);
+        return settle(alloc, refuse_element(alloc)?);
+    }
+    settle(alloc, Outcome::Given(Value::List(texts)))
+}
+
 fn read_list(
     alloc: Global,
     states: &[State<Shared<Outcome>>],
@@ -321,15 +342,12 @@ fn read_list(
     for operand in operands {
         match known_at(states, *operand) {
             None => return Ok(Reading::Waits(*operand)),
-            Some(Outcome::Given(Value::Text(text))) => texts.push(text.copy()?)?,
+            Some(Outcome::Given(Value::Text(text))) => push_copy(&mut texts, text)?,
             Some(Outcome::Given(_)) => is_wrong = true,
             Some(_) => return follow(states, *operand),
         }
     }
-    if is_wrong {
-        return settle(alloc, refuse_element(alloc)?);
-    }
-    settle(alloc, Outcome::Given(Value::List(texts)))
+    settle_list(alloc, texts, is_wrong)
 }
 
 /// Whether an operand is known to be a value.

@@ -43,6 +43,26 @@ fn index_output(outputs: &mut Outputs, chosen: &Chosen, number: usize) -> Result
     Ok(())
 }
 
+/// Makes room for one more expression, and tells that an output stands there.
+fn make_room<'a, M: Drop, F: Drop, Z: Drop>(
+    nodes: &mut Vec<Expression<'a, M, F, Z>>,
+    outputs: &mut Outputs,
+    chosen: &Chosen,
+) -> Result<(), AllocError>
+    ensures kept { nodes.new.items ≡ nodes.old.items }
+    ensures room { OnOk result (vec_len nodes.new < vec_capacity nodes.new) }
+    ensures ok { OnOk result ((key : Chosen)
+        → get chosen_order outputs.new key
+        ≡ cond (is_at (chosen_order chosen.now) key) (Some (length nodes.old.items))
+        (get chosen_order outputs.old key)) }
+    ensures err { OnErr result ((key : Chosen)
+        → get chosen_order outputs.new key ≡ get chosen_order outputs.old key) }
+{
+    let number = nodes.len();
+    nodes.reserve(1)?;
+    index_output(outputs, chosen, number)
+}
+
 /// Puts an expression behind the others, for which there is room.
 fn push_reserved<'a, M: Drop, F: Drop, Z: Drop>(
     nodes: &mut Vec<Expression<'a, M, F, Z>>,
@@ -135,9 +155,13 @@ impl<'a, M: Drop, F: Drop, Z: Drop> Expressions<'a, M, F, Z> {
             ≡ self.old ++ Expression.OfOutput (record { chosen = chosen; declared = declared }) ∷ []) }
         ensures err { OnErr result (self.new ≡ self.old) }
     {
-        let number = self.nodes.len();
-        self.nodes.reserve(1)?;
-        index_output(&mut self.outputs, &chosen, number)?;
+        match make_room(&mut self.nodes, &mut self.outputs, &chosen) {
+            Ok(()) => {}
+            Err(AllocError) => {
+                drop(chosen);
+                return Err(AllocError);
+            }
+        }
         push_reserved(
             &mut self.nodes,
             Expression::OfOutput(Output { chosen, declared }),

@@ -1,6 +1,6 @@
 //! The names on a circle.
 ghost use Rattle.std.specs.Prelude.{◌≡◌, ◌+◌, ◌++◌, ◌<◌, ◌≤◌, ◌≢◌, IfOk, drop, length, slice_get};
-ghost use Rattle.std.specs.Prelude.{take, Some, ℕ};
+ghost use Rattle.std.specs.Prelude.{take, Some, ℕ, [], ◌∷◌};
 ghost use Rattle.std.specs.declared.cmp.Ordering.TheVariants.{Less, Greater};
 ghost use Rattle.std.specs.Bool.{OnTrue, OnFalse};
 ghost use Rattle.gb_provider.specs.Names.{label, names_of, names_on, names_order, IsLeastRound};
@@ -19,6 +19,14 @@ fn label(alloc: Global, owner: &str, name: &str) -> Result<Text, AllocError>
     Text::new(text)
 }
 
+/// Puts the label of a name behind the others.
+fn push_label(alloc: Global, owner: &str, name: &str, names: &mut Texts) -> Result<(), AllocError>
+    ensures { IfOk result (λ _. names.new ≡ names.old ++ label owner.now name.now ∷ []) }
+{
+    names.push(label(alloc, owner, name)?)?;
+    Ok(())
+}
+
 /// Puts the name of a property or an output behind the others.
 fn push_name<M, F, Z>(
     alloc: Global,
@@ -29,13 +37,16 @@ fn push_name<M, F, Z>(
 {
     match node {
         Expression::OfProperty(property) => {
-            names.push(label(alloc, property.project.as_str(), property.name.as_str())?)?;
-            Ok(())
+            push_label(
+                alloc,
+                property.project.as_str(),
+                property.name.as_str(),
+                names,
+            )
         }
         Expression::OfOutput(output) => {
             let chosen = &output.chosen;
-            names.push(label(alloc, chosen.task.as_str(), chosen.output.as_str())?)?;
-            Ok(())
+            push_label(alloc, chosen.task.as_str(), chosen.output.as_str(), names)
         }
         Expression::Constant(_) => Ok(()),
         Expression::Listed(_) => Ok(()),

@@ -215,15 +215,35 @@ impl<'a, T: Transforms> Providers<'a, T> {
             T.meanings.map.arity (map_named self.old.table name.now) name.now arguments self.new result }
         ensures err { OnErr result (self.new ≡ self.old) }
     {
-        let Some(function) = self.table.find_map(name) else {
-            return Err(StepFault::UnknownTransform);
-        };
-        if T::map_arity(function) as usize != arguments.as_slice().len() {
-            return Err(StepFault::BadArguments);
+        match accepted_map::<T>(self.table, name, arguments.as_slice().len()) {
+            Ok(function) => match self.add_map(source, name, function, arguments) {
+                Ok(node) => Ok(node),
+                Err(AllocError) => Err(StepFault::OutOfMemory),
+            },
+            Err(fault) => {
+                drop(arguments);
+                Err(fault)
+            }
         }
+    }
+
+    /// Adds a `map` by this function.
+    fn add_map(
+        &mut self,
+        source: Node,
+        name: &str,
+        function: &'a T::Map,
+        arguments: Texts,
+    ) -> Result<Node, AllocError>
+        requires { source.number < length self.old.nodes }
+        ensures ok { IfOk result (λ node.
+            IsAdded self.old
+            (Expression.Mapped source.number
+            (record { name = name.now; function = function.now; arguments = arguments })) self.new node) }
+        ensures err { OnErr result (self.new ≡ self.old) }
+    {
         let call = Call::of(self.alloc, name, function, arguments)?;
-        let node = self.add(Expression::Mapped(source.number, call))?;
-        Ok(node)
+        self.add(Expression::Mapped(source.number, call))
     }
 
     /// The output that a function of `flatMap` chooses by a value; absent where it chooses none.
@@ -239,15 +259,35 @@ impl<'a, T: Transforms> Providers<'a, T> {
             name.now arguments self.new result }
         ensures err { OnErr result (self.new ≡ self.old) }
     {
-        let Some(function) = self.table.find_flat(name) else {
-            return Err(StepFault::UnknownTransform);
-        };
-        if T::flat_map_arity(function) as usize != arguments.as_slice().len() {
-            return Err(StepFault::BadArguments);
+        match accepted_flat_map::<T>(self.table, name, arguments.as_slice().len()) {
+            Ok(function) => match self.add_flat_map(source, name, function, arguments) {
+                Ok(node) => Ok(node),
+                Err(AllocError) => Err(StepFault::OutOfMemory),
+            },
+            Err(fault) => {
+                drop(arguments);
+                Err(fault)
+            }
         }
+    }
+
+    /// Adds a `flatMap` by this function.
+    fn add_flat_map(
+        &mut self,
+        source: Node,
+        name: &str,
+        function: &'a T::FlatMap,
+        arguments: Texts,
+    ) -> Result<Node, AllocError>
+        requires { source.number < length self.old.nodes }
+        ensures ok { IfOk result (λ node.
+            IsAdded self.old
+            (Expression.FlatMapped source.number
+            (record { name = name.now; function = function.now; arguments = arguments })) self.new node) }
+        ensures err { OnErr result (self.new ≡ self.old) }
+    {
         let call = Call::of(self.alloc, name, function, arguments)?;
-        let node = self.add(Expression::FlatMapped(source.number, call))?;
-        Ok(node)
+        self.add(Expression::FlatMapped(source.number, call))
     }
 
     /// What a function of `zip` makes of two values: absent where one is.
@@ -264,15 +304,37 @@ impl<'a, T: Transforms> Providers<'a, T> {
             T.meanings.zip.arity (zip_named self.old.table name.now) name.now arguments self.new result }
         ensures err { OnErr result (self.new ≡ self.old) }
     {
-        let Some(function) = self.table.find_zip(name) else {
-            return Err(StepFault::UnknownTransform);
-        };
-        if T::zip_arity(function) as usize != arguments.as_slice().len() {
-            return Err(StepFault::BadArguments);
+        match accepted_zip::<T>(self.table, name, arguments.as_slice().len()) {
+            Ok(function) => match self.add_zip(left, right, name, function, arguments) {
+                Ok(node) => Ok(node),
+                Err(AllocError) => Err(StepFault::OutOfMemory),
+            },
+            Err(fault) => {
+                drop(arguments);
+                Err(fault)
+            }
         }
+    }
+
+    /// Adds a `zip` by this function.
+    fn add_zip(
+        &mut self,
+        left: Node,
+        right: Node,
+        name: &str,
+        function: &'a T::Zip,
+        arguments: Texts,
+    ) -> Result<Node, AllocError>
+        requires left { left.number < length self.old.nodes }
+        requires right { right.number < length self.old.nodes }
+        ensures ok { IfOk result (λ node.
+            IsAdded self.old
+            (Expression.Zipped left.number right.number
+            (record { name = name.now; function = function.now; arguments = arguments })) self.new node) }
+        ensures err { OnErr result (self.new ≡ self.old) }
+    {
         let call = Call::of(self.alloc, name, function, arguments)?;
-        let node = self.add(Expression::Zipped(left.number, right.number, call))?;
-        Ok(node)
+        self.add(Expression::Zipped(left.number, right.number, call))
     }
 
     /// Changes a property. Values stay remembered if it was not read since they were last forgotten.
@@ -414,6 +476,60 @@ impl<'a, T: Transforms> Providers<'a, T> {
             Err(fault) => Err(fault),
         }
     }
+}
+
+/// The function of `map` of a name, if it takes so many arguments.
+fn accepted_map<'a, T: Transforms>(
+    table: &'a TransformTable<T::Map, T::FlatMap, T::Zip, T::Test>,
+    name: &str,
+    count: usize,
+) -> Result<&'a T::Map, StepFault>
+    ensures accepted { IsAccepted T.meanings.map.arity count (map_named table.now name.now) result }
+    ensures found { IfOk result (λ function. map_named table.now name.now ≡ Some function.now) }
+{
+    let Some(function) = table.find_map(name) else {
+        return Err(StepFault::UnknownTransform);
+    };
+    if T::map_arity(function) as usize != count {
+        return Err(StepFault::BadArguments);
+    }
+    Ok(function)
+}
+
+/// The function of `flatMap` of a name, if it takes so many arguments.
+fn accepted_flat_map<'a, T: Transforms>(
+    table: &'a TransformTable<T::Map, T::FlatMap, T::Zip, T::Test>,
+    name: &str,
+    count: usize,
+) -> Result<&'a T::FlatMap, StepFault>
+    ensures accepted { IsAccepted T.meanings.flat_map.arity count (flat_map_named table.now name.now) result }
+    ensures found { IfOk result (λ function. flat_map_named table.now name.now ≡ Some function.now) }
+{
+    let Some(function) = table.find_flat(name) else {
+        return Err(StepFault::UnknownTransform);
+    };
+    if T::flat_map_arity(function) as usize != count {
+        return Err(StepFault::BadArguments);
+    }
+    Ok(function)
+}
+
+/// The function of `zip` of a name, if it takes so many arguments.
+fn accepted_zip<'a, T: Transforms>(
+    table: &'a TransformTable<T::Map, T::FlatMap, T::Zip, T::Test>,
+    name: &str,
+    count: usize,
+) -> Result<&'a T::Zip, StepFault>
+    ensures accepted { IsAccepted T.meanings.zip.arity count (zip_named table.now name.now) result }
+    ensures found { IfOk result (λ function. zip_named table.now name.now ≡ Some function.now) }
+{
+    let Some(function) = table.find_zip(name) else {
+        return Err(StepFault::UnknownTransform);
+    };
+    if T::zip_arity(function) as usize != count {
+        return Err(StepFault::BadArguments);
+    }
+    Ok(function)
 }
 
 /// The test of a name, if it takes so many arguments.

@@ -1,9 +1,9 @@
 //! The search for the answer of one expression: a work list, so that no chain is too long.
-ghost use Rattle.std.specs.Prelude.{◌≡◌, ◌<◌, [], ◌∷◌, ◌++◌, ℕ, List, length, IfOk, OnOk, Some, None, drop};
+ghost use Rattle.std.specs.Prelude.{◌≡◌, ◌<◌, [], ◌∷◌, ◌++◌, ℕ, List, length, IfOk, OnOk, Some, None};
 ghost use Rattle.std.specs.Prelude.{slice_index, slice_set, slice_get, ◌≢◌};
 ghost use Rattle.std.specs.Bool.{OnTrue, OnFalse};
 ghost use Rattle.gb_provider.specs.Rounds.{Rule};
-ghost use Rattle.gb_provider.specs.Search.{IsLook, IsPastAt, IsSound, IsEvaluated, WaitsWithin, known};
+ghost use Rattle.gb_provider.specs.Search.{IsLook, IsPastAt, IsPathEnd, IsSound, IsEvaluated, WaitsWithin, known};
 
 use crate::reading::{Look, Reading, State};
 use std::alloc::{AllocError, Global};
@@ -30,45 +30,53 @@ pub(crate) trait Entries {
         ensures kept { self.new ≡ self.old };
 }
 
-/// The end of a path, from an entry of it on.
-fn circle_from(alloc: Global, path: &[usize], operand: usize) -> Result<Vec<usize>, AllocError>
+/// The end of a path, from an entry of it on, which is a circle.
+fn circle_from(
+    alloc: Global,
+    path: &[usize],
+    operand: usize,
+) -> Result<Option<Vec<usize>>, AllocError>
     requires { (k : ℕ) × (k < length path.now) × (slice_index path.now k ≡ operand) }
-    ensures { IfOk result (λ circle. (k : ℕ) × (k < length path.now) × (slice_index path.now k ≡ operand)
-        × (circle.items ≡ drop k path.now)) }
+    ensures { IsPathEnd path.now operand result }
 {
     for i in 0..path.len() {
         if path[i] == operand {
-            return path[i..].to_vec(alloc);
+            let circle = path[i..].to_vec(alloc)?;
+            return Ok(Some(circle));
         }
     }
     unreachable!()
 }
 
-/// A list of one number.
-fn one(alloc: Global, number: usize) -> Result<Vec<usize>, AllocError>
-    ensures { IfOk result (λ list. list.items ≡ number ∷ []) }
+/// Puts an entry back at the end of a path, with how many of its operands need no other look.
+fn keep(
+    path: &mut Vec<usize>,
+    pasts: &mut Vec<usize>,
+    at: usize,
+    past: usize,
+) -> Result<(), AllocError>
+    ensures path { OnOk result (path.new.items ≡ path.old.items ++ at ∷ []) }
+    ensures pasts { OnOk result (pasts.new.items ≡ pasts.old.items ++ past ∷ []) }
 {
-    let mut list = Vec::new(alloc);
-    list.push(number)?;
-    Ok(list)
+    path.push(at)?;
+    pasts.push(past)?;
+    Ok(())
 }
 
-/// Opens an entry for which the last one of a path waits.
+/// Opens an entry, at the end of a path.
 fn enter<A: Drop>(
     states: &mut Vec<State<A>>,
     path: &mut Vec<usize>,
     pasts: &mut Vec<usize>,
-    past: usize,
     operand: usize,
 ) -> Result<(), AllocError>
     requires { operand < length states.old.items }
     ensures states { OnOk result (states.new.items ≡ slice_set states.old.items operand State.Open) }
     ensures path { OnOk result (path.new.items ≡ path.old.items ++ operand ∷ []) }
-    ensures pasts { OnOk result (pasts.new.items ≡ (pasts.old.items ++ past ∷ []) ++ 0 ∷ []) }
+    ensures pasts { OnOk result (pasts.new.items ≡ pasts.old.items ++ 0 ∷ []) }
 {
-    pasts.push(past)?;
-    pasts.push(0)?;
     path.push(operand)?;
+    pasts.push(0)?;
     put(states, operand, State::Open);
     Ok(())
 }
@@ -119,9 +127,31 @@ pub(crate) fn evaluate<E: Entries>(
     if is_known(states, entry) {
         return Ok(None);
     }
-    let mut path = one(alloc, entry)?;
-    let mut pasts = one(alloc, 0)?;
-    put(states, entry, State::Open);
+    let mut path = Vec::new(alloc);
+    let mut pasts = Vec::new(alloc);
+    evaluate_along(alloc, entries, states, entry, &mut path, &mut pasts)
+}
+
+/// Evaluates an entry that is not known, over two lists of the open entries: their numbers, and how many
+/// operands of each need no other look.
+fn evaluate_along<E: Entries>(
+    alloc: Global,
+    entries: &mut E,
+    states: &mut Vec<State<E::Answer>>,
+    entry: usize,
+    path: &mut Vec<usize>,
+    pasts: &mut Vec<usize>,
+) -> Result<Option<Vec<usize>>, AllocError>
+    requires entry { entry < length (E.rules entries.old) }
+    requires same { length states.old.items ≡ length (E.rules entries.old) }
+    requires sound { IsSound (E.rules entries.old) states.old.items }
+    requires unknown { known states.old.items entry ≡ None }
+    requires path { path.old.items ≡ [] }
+    requires pasts { pasts.old.items ≡ [] }
+    ensures evaluated { IsEvaluated (E.rules entries.old) entry states.new.items result }
+    ensures kept { entries.new ≡ entries.old }
+{
+    enter(states, path, pasts, entry)?;
     while let Some(at) = path.pop() {
         let Some(past) = pasts.pop() else {
             unreachable!()
@@ -131,12 +161,11 @@ pub(crate) fn evaluate<E: Entries>(
         match reading {
             Reading::Settles(answer) => put(states, at, State::Known(answer)),
             Reading::Waits(operand) => {
-                path.push(at)?;
+                keep(path, pasts, at, past)?;
                 if is_open(states, operand) {
-                    let circle = circle_from(alloc, &path, operand)?;
-                    return Ok(Some(circle));
+                    return circle_from(alloc, path, operand);
                 }
-                enter(states, &mut path, &mut pasts, past, operand)?;
+                enter(states, path, pasts, operand)?;
             }
         }
     }

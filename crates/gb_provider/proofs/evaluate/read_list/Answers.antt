@@ -8,8 +8,8 @@ loop-operand-preserved c = grind (arith, common_steps)
 pub returns-in-Some : goal.returns-in-Some
 returns-in-Some c = grind (arith, common_steps)
 
-pub returns-then-is_wrong-clause-reads : goal.returns-then-is_wrong-clause-reads
-returns-then-is_wrong-clause-reads c = grind (arith, common_steps)
+pub returns-clause-reads : goal.returns-clause-reads
+returns-clause-reads c = grind (arith, common_steps)
 
 pub returns-in-None-clause-reads : goal.returns-in-None-clause-reads
 returns-in-None-clause-reads c = grind (arith, common_steps)

@@ -1,7 +1,7 @@
 use Rattle.std.proofs.Common.{◌≡◌}
 use Rattle.gb_provider.specs.Search.{IsSearch, known, left}
 use Rattle.gb_provider.proofs.PastLemmas.{ArePast}
-use Rattle.gb_provider.proofs.search.evaluate.Given as goal
+use Rattle.gb_provider.proofs.search.evaluate_along.Given as goal
 
 abbrev pub invariant-loop-at : goal.invariant-loop-at
 invariant-loop-at g l = record {
