@@ -78,8 +78,13 @@ pub fn checked<A: Actions, T: Transforms>(
         (source_in projects.now scripts.now)) result }
 {
     let tasks = checked_in_turn(alloc, tables, scripts)?;
-    check_names(alloc, projects, &tasks, scripts)?;
-    Ok(tasks)
+    match check_names(alloc, projects, &tasks, scripts) {
+        Ok(()) => Ok(tasks),
+        Err(fault) => {
+            drop(tasks);
+            Err(fault)
+        }
+    }
 }
 
 fn checked_in_turn<A: Actions, T: Transforms>(
@@ -94,8 +99,14 @@ fn checked_in_turn<A: Actions, T: Transforms>(
         (said_in scripts.now)) result }
 {
     let mut seen = Seen::new(alloc);
-    check_scripts(alloc, tables, &mut seen, scripts)?;
-    Ok(seen.tasks)
+    match check_scripts(alloc, tables, &mut seen, scripts) {
+        Ok(()) => {}
+        Err(fault) => {
+            drop(seen);
+            return Err(fault);
+        }
+    }
+    Ok(seen.into_tasks())
 }
 
 fn check_names(

@@ -53,16 +53,19 @@ impl ProjectSet {
         ensures root { IfOk result (λ projects. projects ≡ root_path ∷ []) }
         ensures faults { TellsFirst [] result }
     {
-        let mut paths = TextSet::new(alloc);
-        paths.insert(":")?;
         let root = project_path(alloc, ":")?;
-        let mut places = Vec::new(alloc);
-        places.push((root, None))?;
-        Ok(ProjectSet {
+        let mut projects = ProjectSet {
             alloc,
-            paths,
-            places,
-        })
+            paths: TextSet::new(alloc),
+            places: Vec::new(alloc),
+        };
+        match projects.put(":", root, None) {
+            Ok(()) => Ok(projects),
+            Err(AllocError) => {
+                drop(projects);
+                Err(Fault::OutOfMemory)
+            }
+        }
     }
 
     /// Whether there is such a project. Takes no memory.

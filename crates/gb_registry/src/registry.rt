@@ -1,6 +1,6 @@
 //! What settings, scripts and a command line say, where nothing is wrong with it.
 ghost use Rattle.std.specs.Prelude.{◌≡◌, [], ◌∷◌, ◌==◌, ◌||◌, filter, bytes_eq, fold, option_copied, IfOk};
-ghost use Rattle.std.specs.Prelude.{IfErr, IsTrue, length};
+ghost use Rattle.std.specs.Prelude.{IfErr, IsTrue, length, zip};
 ghost use Rattle.std.specs.List.{list_any};
 ghost use Rattle.gb_core.specs.Path.{task_name};
 ghost use Rattle.gb_core.specs.Tasks.{with_tasks};
@@ -94,16 +94,21 @@ impl Registry {
             (configure_faults (tables_of T.meanings A.meanings tables.now)
             (source_of settings.now scripts.items given.items)) result }
     {
-        let projects = projects_in(alloc, settings.includes())?;
-        let scripts = with_projects(alloc, &projects, scripts)?;
-        let tasks = checked(alloc, tables, &projects, scripts.as_slice())?;
-        let registry = Registry {
-            projects,
-            scripts,
-            given,
-            tasks,
-        };
-        Ok(Configured { tables, registry })
+        match read_all(alloc, settings, scripts, tables) {
+            Ok((projects, scripts, tasks)) => {
+                let registry = Registry {
+                    projects,
+                    scripts,
+                    given,
+                    tasks,
+                };
+                Ok(Configured { tables, registry })
+            }
+            Err(fault) => {
+                drop(given);
+                Err(fault)
+            }
+        }
     }
 
     /// The projects in the order in which they are included, the root in front.
@@ -198,6 +203,35 @@ impl Registry {
         match last_defaults(self.scripts.as_slice()) {
             Some(texts) => texts.copy(alloc),
             None => Ok(Texts::new(alloc)),
+        }
+    }
+}
+
+/// The projects of settings, the scripts with their projects, and the tasks that these register.
+fn read_all<A: Actions, T: Transforms>(
+    alloc: Global,
+    settings: &Settings,
+    scripts: Vec<Script>,
+    tables: &Tables<A, T>,
+) -> Result<(ProjectSet, Vec<Scripted>, Tasks), Fault>
+    requires good { settings_faults settings.now ≡ [] }
+    requires one_each { length scripts.items ≡ length (project_paths settings.now) }
+    ensures projects { IfOk result (λ read. read.0 ≡ project_paths settings.now) }
+    ensures scripts { IfOk result (λ read.
+        scripts_in read.1.items ≡ zip (project_paths settings.now) scripts.items) }
+    ensures tasks { IfOk result (λ read. read.2 ≡ paths_of (said_in read.1.items)) }
+    ensures faults { TellsFirst
+        (configure_faults (tables_of T.meanings A.meanings tables.now)
+        (source_of settings.now scripts.items [])) result }
+{
+    let projects = projects_in(alloc, settings.includes())?;
+    let scripts = with_projects(alloc, &projects, scripts)?;
+    match checked(alloc, tables, &projects, scripts.as_slice()) {
+        Ok(tasks) => Ok((projects, scripts, tasks)),
+        Err(fault) => {
+            drop(projects);
+            drop(scripts);
+            Err(fault)
         }
     }
 }

@@ -52,6 +52,13 @@ impl Seen {
         }
     }
 
+    /// The tasks of all scripts so far, of which none is copied.
+    pub fn into_tasks(self) -> Tasks
+        ensures { result ≡ self.tasks }
+    {
+        self.tasks
+    }
+
     /// Begins another script.
     pub fn begin(&mut self, alloc: Global)
         ensures { self.new ≡ begun self.old }

@@ -4,7 +4,7 @@ use Rattle.gb_registry.specs.New.{AreNew}
 use Rattle.gb_registry.specs.Projects.{project_paths}
 use Rattle.gb_registry.specs.Seen.{scripts_in}
 use Rattle.gb_registry.proofs.Apart.{are_new}
-use Rattle.gb_registry.proofs.registry.Registry.configure.Goals as goal
+use Rattle.gb_registry.proofs.registry.read_all.Goals as goal
 
 pub checked-requires : goal.checked-requires
 checked-requires g c =
