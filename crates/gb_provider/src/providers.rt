@@ -1,6 +1,6 @@
 //! Providers.
 ghost use Rattle.std.specs.Prelude.{◌≡◌, ◌↔◌, ◌<◌, ◌++◌, [], ◌∷◌, length, All, IfOk, IsTrue, OnErr};
-ghost use Rattle.std.specs.Prelude.{None, Some, false};
+ghost use Rattle.std.specs.Prelude.{None, Some, false, slice_set};
 ghost use Rattle.gb_provider.specs.Answers.{IsAccepted, IsAsked, IsGot, IsRequired, IsTested, IsTestedBy};
 ghost use Rattle.gb_provider.specs.Meanings.{meaning_of};
 ghost use Rattle.gb_provider.specs.Produced.{AreProducers};
@@ -168,6 +168,31 @@ impl<'a, T: Transforms> Providers<'a, T> {
         Ok(Node { number })
     }
 
+    /// Where an output stands.
+    fn place(&self, chosen: &Chosen) -> Option<usize>
+        ensures place { result ≡ output_place self.now.nodes chosen.now }
+        ensures within { PlaceWithin (length self.now.nodes) result }
+    {
+        self.nodes.place(chosen)
+    }
+
+    /// Declares the output that stands here as an expression.
+    fn declare(&mut self, number: usize, chosen: &Chosen, source: usize)
+        requires within { number < length self.old.nodes }
+        requires stands { output_place self.old.nodes chosen.now ≡ Some number }
+        requires source { source < length self.old.nodes }
+        ensures { self.new
+            ≡ record self.old {
+              nodes =
+                  slice_set self.old.nodes number
+                  (Expression.OfOutput (record { chosen = chosen.now; declared = Some source }));
+            } }
+    {
+        self.nodes.declare(number, chosen, source);
+        forget(&mut self.values, number);
+        self.producers.clear();
+    }
+
     /// The output of a task, which stands once; 36 until it is declared.
     pub fn output(&mut self, task: TaskPath, name: Text) -> Result<Node, AllocError>
         ensures ok { IfOk result (λ node.
@@ -176,7 +201,7 @@ impl<'a, T: Transforms> Providers<'a, T> {
         ensures err { OnErr result (self.new ≡ self.old) }
     {
         let chosen = Chosen { task, output: name };
-        match self.nodes.place(&chosen) {
+        match self.place(&chosen) {
             Some(number) => Ok(Node { number }),
             None => self.add_output(chosen, None),
         }
@@ -197,11 +222,10 @@ impl<'a, T: Transforms> Providers<'a, T> {
         ensures err { OnErr result (self.new ≡ self.old) }
     {
         let chosen = Chosen { task, output: name };
-        match self.nodes.place(&chosen) {
+        match self.place(&chosen) {
             Some(number) => {
-                self.nodes.declare(number, &chosen, source.number);
-                forget(&mut self.values, number);
-                self.producers.clear();
+                self.declare(number, &chosen, source.number);
+                drop(chosen);
                 Ok(Node { number })
             }
             None => self.add_output(chosen, Some(source.number)),

@@ -3,7 +3,8 @@ ghost use Rattle.std.specs.Prelude.{◌≡◌, ◌<◌, [], ◌∷◌, ◌++◌,
 ghost use Rattle.std.specs.Prelude.{slice_index, slice_set, slice_get, ◌≢◌};
 ghost use Rattle.std.specs.Bool.{OnTrue, OnFalse};
 ghost use Rattle.gb_provider.specs.Rounds.{Rule};
-ghost use Rattle.gb_provider.specs.Search.{IsLook, IsPastAt, IsPathEnd, IsSound, IsEvaluated, WaitsWithin, known};
+ghost use Rattle.gb_provider.specs.Search.{IsLook, IsPastAt, IsPathEnd, IsSound, IsEvaluated, WaitsWithin};
+ghost use Rattle.gb_provider.specs.Search.{known};
 
 use crate::reading::{Look, Reading, State};
 use std::alloc::{AllocError, Global};
