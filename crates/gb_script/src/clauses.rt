@@ -12,7 +12,7 @@ ghost use Rattle.gb_script.specs.Readers.{clause_of_at, clause_at, block_at};
 use crate::expression::{Expression, Expressions};
 use crate::function::Function;
 use crate::reading::{
-    begins, function, name, open, patterns, property, said, skip, skip_word, stray, texts,
+    begins, closed, function, name, open, patterns, property, said, skip, skip_word, stray, texts,
 };
 use crate::script::{Assignment, Block, Call, Clause, Condition, InputFiles};
 use crate::stop::Stop;
@@ -34,8 +34,7 @@ fn bracketed_values(
 {
     let (inner, rest) = open(tokens, Sign::OpenParen, room)?;
     let (values, rest) = expressions(alloc, rest, inner)?;
-    let rest = skip(rest, Sign::CloseParen)?;
-    Ok((Expressions::new(values), rest))
+    closed(Expressions::new(values), rest, Sign::CloseParen)
 }
 
 /// Values in brackets, or none where no bracket is.
@@ -115,8 +114,13 @@ fn condition(alloc: Global, tokens: &[Token], room: u32) -> Result<(Condition, &
     ensures shorter { IfOk result (λ x. length x.1.now < length tokens.now) }
 {
     let (value, rest) = expression(alloc, tokens, room)?;
-    let (test, rest) = test(alloc, rest, room)?;
-    Ok((Condition { value, test }, rest))
+    match test(alloc, rest, room) {
+        Ok((test, rest)) => Ok((Condition { value, test }, rest)),
+        Err(stop) => {
+            drop(value);
+            Err(stop)
+        }
+    }
 }
 
 /// What is said of the files that a task reads, before their roots.
@@ -347,6 +351,5 @@ pub fn block(alloc: Global, tokens: &[Token], room: u32) -> Result<(Block, &[Tok
 {
     let rest = skip(tokens, Sign::OpenBrace)?;
     let (clauses, rest) = clauses(alloc, rest, room)?;
-    let rest = skip(rest, Sign::CloseBrace)?;
-    Ok((Block::new(clauses), rest))
+    closed(Block::new(clauses), rest, Sign::CloseBrace)
 }

@@ -3,10 +3,11 @@
 //! A function for each part reads it from the front of the tokens and answers what it says with the
 //! tokens that are left, or stops at the first fault. Each gives what the definition of its part in
 //! `specs/Readers.antt` gives.
-ghost use Rattle.std.specs.Prelude.{◌≡◌, ◌+◌, ◌<◌, ◌≤◌, length, IfOk, Ok, []};
+ghost use Rattle.std.specs.Prelude.{◌≡◌, ◌+◌, ◌<◌, ◌≤◌, List, length, IfOk, Ok, []};
 ghost use Rattle.gb_script.specs.Lexing.{begins};
-ghost use Rattle.gb_script.specs.Reading.{Gives, is_sign, is_word, skip_at, open_at, name_at, property_at};
-ghost use Rattle.gb_script.specs.Reading.{text_at, maybe_at, past_at, list_at, said_at};
+ghost use Rattle.gb_script.specs.declared.token.Token.{Token};
+ghost use Rattle.gb_script.specs.Reading.{Gives, ◌>>=◌ as bound, is_sign, is_word, skip_at, open_at};
+ghost use Rattle.gb_script.specs.Reading.{name_at, property_at, text_at, maybe_at, past_at, list_at, said_at};
 ghost use Rattle.gb_script.specs.Readers.{bracketed_text_at, bracketed_texts_at, function_at, patterns_at};
 
 use crate::function::Function;
@@ -84,6 +85,21 @@ pub fn open(tokens: &[Token], sign: Sign, room: u32) -> Result<(u32, &[Token]), 
     Ok((room - 1, rest))
 }
 
+/// What was read, and the tokens behind this sign, which has to be the first behind it.
+pub fn closed<T: Drop>(read: T, tokens: &[Token], sign: Sign) -> Result<(T, &[Token]), Stop>
+    ensures exact { Gives {Y = T × List Token} (λ x. (x.0, x.1.now)) result
+        (bound (skip_at (is_sign sign) tokens.now) (λ rest. Ok (read, rest))) }
+    ensures shorter { IfOk result (λ x. length x.1.now < length tokens.now) }
+{
+    match skip(tokens, sign) {
+        Ok(rest) => Ok((read, rest)),
+        Err(stop) => {
+            drop(read);
+            Err(stop)
+        }
+    }
+}
+
 /// The word in front, which may be one that the notation gives a meaning to.
 #[tactic(auto, unfolding(crate::specs::Reading::name_at))]
 pub fn name(tokens: &[Token]) -> Result<(Name, &[Token]), Stop>
@@ -135,8 +151,7 @@ pub fn bracketed_text(tokens: &[Token], room: u32) -> Result<(Text, &[Token]), S
 {
     let (_, rest) = open(tokens, Sign::OpenParen, room)?;
     let (text, rest) = text(rest)?;
-    let rest = skip(rest, Sign::CloseParen)?;
-    Ok((text, rest))
+    closed(text, rest, Sign::CloseParen)
 }
 
 /// A text behind a comma.
@@ -176,8 +191,7 @@ pub fn bracketed_texts(
 {
     let (_, rest) = open(tokens, Sign::OpenParen, room)?;
     let (texts, rest) = texts(alloc, rest)?;
-    let rest = skip(rest, Sign::CloseParen)?;
-    Ok((texts, rest))
+    closed(texts, rest, Sign::CloseParen)
 }
 
 /// Texts in brackets, or none where no bracket is.

@@ -10,7 +10,7 @@ ghost use Rattle.gb_script.specs.Readers.{link_of_at, link_at, inside_at, tree_a
 
 use crate::expression::{Expression, Source, Step};
 use crate::function::Function;
-use crate::reading::{begins, bracketed_text, function, open, property, skip, stray};
+use crate::reading::{begins, bracketed_text, closed, function, open, property, skip, stray};
 use crate::stop::{Fault, Stop};
 use crate::token::{Sign, Token};
 use crate::words::{SourceWord, StepWord, source_word, step_word};
@@ -75,8 +75,7 @@ fn bracketed_function(
 {
     let (inner, rest) = open(tokens, Sign::OpenParen, room)?;
     let (function, rest) = function(alloc, rest, inner)?;
-    let rest = skip(rest, Sign::CloseParen)?;
-    Ok((function, rest))
+    closed(function, rest, Sign::CloseParen)
 }
 
 fn is_in_list(tokens: &[Token]) -> bool
@@ -97,8 +96,13 @@ pub fn expression(
     ensures shorter { IfOk result (λ x. length x.1.now < length tokens.now) }
 {
     let (source, rest) = source(alloc, tokens, room)?;
-    let (steps, rest) = steps(alloc, rest, room)?;
-    Ok((Expression::new(source, steps), rest))
+    match steps(alloc, rest, room) {
+        Ok((steps, rest)) => Ok((Expression::new(source, steps), rest)),
+        Err(stop) => {
+            drop(source);
+            Err(stop)
+        }
+    }
 }
 
 #[cycle(reader)]
@@ -253,8 +257,7 @@ fn last_function(alloc: Global, tokens: &[Token], room: u32) -> Result<(Function
 {
     let rest = skip(tokens, Sign::Comma)?;
     let (function, rest) = function(alloc, rest, room)?;
-    let rest = skip(rest, Sign::CloseParen)?;
-    Ok((function, rest))
+    closed(function, rest, Sign::CloseParen)
 }
 
 #[cycle(reader)]
@@ -266,8 +269,13 @@ fn zip(alloc: Global, tokens: &[Token], room: u32) -> Result<(Step, &[Token]), S
 {
     let (inner, rest) = open(tokens, Sign::OpenParen, room)?;
     let (other, rest) = expression(alloc, rest, inner)?;
-    let (function, rest) = last_function(alloc, rest, inner)?;
-    Ok((Step::Zip(other, function), rest))
+    match last_function(alloc, rest, inner) {
+        Ok((function, rest)) => Ok((Step::Zip(other, function), rest)),
+        Err(stop) => {
+            drop(other);
+            Err(stop)
+        }
+    }
 }
 
 #[cycle(reader)]
@@ -279,6 +287,11 @@ fn or_else(alloc: Global, tokens: &[Token], room: u32) -> Result<(Step, &[Token]
 {
     let (inner, rest) = open(tokens, Sign::OpenParen, room)?;
     let (other, rest) = expression(alloc, rest, inner)?;
-    let rest = skip(rest, Sign::CloseParen)?;
-    Ok((Step::OrElse(other), rest))
+    match skip(rest, Sign::CloseParen) {
+        Ok(rest) => Ok((Step::OrElse(other), rest)),
+        Err(stop) => {
+            drop(other);
+            Err(stop)
+        }
+    }
 }

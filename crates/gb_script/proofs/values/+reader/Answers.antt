@@ -82,18 +82,14 @@ steps-steps-preserved t c =
 pub steps-returns-clause-exact : goal.steps-returns-clause-exact
 steps-returns-clause-exact t c = is_done (is_sign Dot) no_matter (λ s. link_at c.args.room (inside_at c.args.room)) _ _ tt _ _ (sym c.begins.ensures ∙ c.steps-test.false) c.steps.invariant.so_far
 
-pub or_else-returns-in_err-rest-clause-exact : goal.or_else-returns-in_err-rest-clause-exact
-or_else-returns-in_err-rest-clause-exact t c =
-    let p = err_from_is_err_and c.from_residual-in_err-rest.result c.from_residual-in_err-rest.ensures.1 in
-    rw (p.1, p.2) (else_open c.args.room c.in_ok-inner.inner c.args.tokens.now c.in_ok-inner.rest.now c.in_ok-other.rest.now c.in_ok-other.other c.in_ok-inner.ensures.exact c.in_ok-inner.ensures.room c.in_ok-other.ensures.exact _ c.in_err-rest.ensures.exact)
+pub or_else-returns-in-Err-clause-exact : goal.or_else-returns-in-Err-clause-exact
+or_else-returns-in-Err-clause-exact t c = else_open c.args.room c.in_ok-inner.inner c.args.tokens.now c.in_ok-inner.rest.now c.in_ok-other.rest.now c.in_ok-other.other c.in_ok-inner.ensures.exact c.in_ok-inner.ensures.room c.in_ok-other.ensures.exact c.in-Err.stop c.in-Err.ensures.exact
 
-pub or_else-returns-clause-exact : goal.or_else-returns-clause-exact
-or_else-returns-clause-exact t c = else_is c.args.room c.in_ok-inner.inner c.args.tokens.now c.in_ok-inner.rest.now c.in_ok-other.rest.now c.in_ok-other.other c.in_ok-inner.ensures.exact c.in_ok-inner.ensures.room c.in_ok-other.ensures.exact c.in_ok-rest.rest.now c.in_ok-rest.ensures.exact
+pub or_else-returns-in-Ok-clause-exact : goal.or_else-returns-in-Ok-clause-exact
+or_else-returns-in-Ok-clause-exact t c = else_is c.args.room c.in_ok-inner.inner c.args.tokens.now c.in_ok-inner.rest.now c.in_ok-other.rest.now c.in_ok-other.other c.in_ok-inner.ensures.exact c.in_ok-inner.ensures.room c.in_ok-other.ensures.exact c.in-Ok.rest.now c.in-Ok.ensures.exact
 
-pub zip-returns-in_err-function-clause-exact : goal.zip-returns-in_err-function-clause-exact
-zip-returns-in_err-function-clause-exact t c =
-    let p = err_from_is_err_and c.from_residual-in_err-function.result c.from_residual-in_err-function.ensures.1 in
-    rw (p.1, p.2) (zip_alone c.args.room c.in_ok-inner.inner c.args.tokens.now c.in_ok-inner.rest.now c.in_ok-other.rest.now c.in_ok-other.other c.in_ok-inner.ensures.exact c.in_ok-inner.ensures.room c.in_ok-other.ensures.exact _ c.in_err-function.ensures.exact)
+pub zip-returns-in-Err-clause-exact : goal.zip-returns-in-Err-clause-exact
+zip-returns-in-Err-clause-exact t c = zip_alone c.args.room c.in_ok-inner.inner c.args.tokens.now c.in_ok-inner.rest.now c.in_ok-other.rest.now c.in_ok-other.other c.in_ok-inner.ensures.exact c.in_ok-inner.ensures.room c.in_ok-other.ensures.exact c.in-Err.stop c.in-Err.ensures.exact
 
-pub zip-returns-clause-exact : goal.zip-returns-clause-exact
-zip-returns-clause-exact t c = zip_is c.args.room c.in_ok-inner.inner c.args.tokens.now c.in_ok-inner.rest.now c.in_ok-other.rest.now c.in_ok-other.other c.in_ok-inner.ensures.exact c.in_ok-inner.ensures.room c.in_ok-other.ensures.exact c.in_ok-function.function c.in_ok-function.rest.now c.in_ok-function.ensures.exact
+pub zip-returns-in-Ok-clause-exact : goal.zip-returns-in-Ok-clause-exact
+zip-returns-in-Ok-clause-exact t c = zip_is c.args.room c.in_ok-inner.inner c.args.tokens.now c.in_ok-inner.rest.now c.in_ok-other.rest.now c.in_ok-other.other c.in_ok-inner.ensures.exact c.in_ok-inner.ensures.room c.in_ok-other.ensures.exact c.in-Ok.function c.in-Ok.rest.now c.in-Ok.ensures.exact
