@@ -429,10 +429,7 @@ fn told_from_43(fault: &Fault) -> (&'static str, About<'_>)
     ensures { 42 < fault_number fault.now → fault_text fault.now ≡ result.0.now ++ about_text result.1 }
 {
     match fault {
-        Fault::BadArgument(task, name) => (
-            "43 bad argument ",
-            About::TaskName(task, name),
-        ),
+        Fault::BadArgument(task, name) => ("43 bad argument ", About::TaskName(task, name)),
         Fault::UnknownProject(text) => ("50 unknown project ", About::Shown(text)),
         Fault::DuplicateTask(task) => ("51 duplicate task ", About::Task(task)),
         Fault::TaskNotFound(text) => ("52 task not found ", About::Shown(text)),
@@ -470,10 +467,7 @@ fn told_from_61(fault: &Fault) -> (&'static str, About<'_>)
         ),
         Fault::NoTasks => ("64 no tasks", About::Nothing),
         Fault::BadPattern(text) => ("70 bad pattern ", About::Shown(text)),
-        Fault::DuplicateInput(name, path) => (
-            "71 duplicate input ",
-            About::NamePath(name, path),
-        ),
+        Fault::DuplicateInput(name, path) => ("71 duplicate input ", About::NamePath(name, path)),
         Fault::TooManyFiles(name) => ("72 too many files ", About::Name(name)),
         Fault::HistoryNotWritten => ("90 history not written", About::Nothing),
         Fault::OwnState(place) => ("94 own state ", About::Place(place)),
