@@ -303,13 +303,23 @@ pub fn run_by_changes<A: Actions, F: Folder>(
         (ByChanges (F.contents folder.old).files) (F.may_leave folder.old) (F.failures folder.old) fault
         lines.new (F.failures folder.new) (F.contents folder.new).files) }
 {
+    let digests = digests_stood(alloc, task.outputs.as_slice(), stood.as_slice())?;
+    drop(stood);
     let mut running = Running {
         request: full_request(alloc, task, files, changes)?,
         seen: outputs,
-        digests: digests_stood(alloc, task.outputs.as_slice(), stood.as_slice())?,
+        digests,
     };
     for action in task.actions.iter() {
-        run_one::<A, F>(alloc, folder, task, table, action, &mut running, lines)?;
+        match run_one::<A, F>(alloc, folder, task, table, action, &mut running, lines) {
+            Ok(()) => {}
+            Err(fault) => {
+                drop(running);
+                return Err(fault);
+            }
+        }
     }
-    Ok(running.digests.prints(alloc, task.outputs.as_slice())?)
+    let made = running.digests.prints(alloc, task.outputs.as_slice());
+    drop(running);
+    Ok(made?)
 }

@@ -81,9 +81,17 @@ pub fn run_in_full<A: Actions, F: Folder>(
         digests: Digests::new(alloc),
     };
     for action in task.actions.iter() {
-        run_one::<A, F>(alloc, folder, task, table, action, &mut running, lines)?;
+        match run_one::<A, F>(alloc, folder, task, table, action, &mut running, lines) {
+            Ok(()) => {}
+            Err(fault) => {
+                drop(running);
+                return Err(fault);
+            }
+        }
     }
-    Ok(running.digests.prints(alloc, task.outputs.as_slice())?)
+    let made = running.digests.prints(alloc, task.outputs.as_slice());
+    drop(running);
+    Ok(made?)
 }
 
 /// Runs one action: it is asked, its files take their places and tell their digests, and then they are

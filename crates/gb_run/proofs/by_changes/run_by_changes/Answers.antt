@@ -32,8 +32,8 @@ use Rattle.gb_run.proofs.Telling.{IsTelling, tells_all, tells_more, tells_none}
 use Rattle.gb_folder.proofs.Asked.{asks_then}
 use Rattle.gb_run.proofs.by_changes.run_by_changes.Goals as goal
 
-pub returns-in_err-full_request-clause-err : goal.returns-in_err-full_request-clause-err
-returns-in_err-full_request-clause-err g c = λ tells.
+pub returns-in_err-digests-clause-err : goal.returns-in_err-digests-clause-err
+returns-in_err-digests-clause-err g c = λ tells.
     let F = g.F.Folder in
     let folder = c.args.folder.now in
     let task = c.args.task.now in
@@ -46,16 +46,16 @@ returns-in_err-full_request-clause-err g c = λ tells.
     (sym c.requires.no_lines)
     (fails_early kinds task c.args.files c.args.changes (F.contents folder).files (F.may_leave folder) (F.failures folder) faults.OutOfMemory (F.failures folder) refl))
 
-pub returns-in_err-digests_stood-clause-err : goal.returns-in_err-digests_stood-clause-err
-returns-in_err-digests_stood-clause-err g c = λ tells.
+pub returns-in_err-full_request-clause-err : goal.returns-in_err-full_request-clause-err
+returns-in_err-full_request-clause-err g c = λ tells.
     let F = g.F.Folder in
     let folder = c.args.folder.now in
     let task = c.args.task.now in
-    let p = err_from_is_err_and c.from_residual-in_err-digests_stood.result c.from_residual-in_err-digests_stood.ensures.1 in
+    let p = err_from_is_err_and c.from_residual-in_err-full_request.result c.from_residual-in_err-full_request.ensures.1 in
     let IsFault : Fault → Type 0 = λ fault. (kinds : Kinds) → Agrees g.A.Actions.meanings c.args.table.now kinds → (old : Trees)
     → GoesOn kinds task old c.args.files c.args.changes c.args.outputs (F.contents folder).files
     → Fails (course_of kinds task c.args.files c.args.changes (rest_of task (F.contents folder).files)) (ByChanges (F.contents folder).files) (F.may_leave folder) (F.failures folder) fault c.args.lines.now (F.failures folder) (F.contents folder).files in
-    at_err (λ r. IfErr r IsFault) c.from_residual-in_err-digests_stood.result p.0 faults.OutOfMemory p.1 p.2 (λ kinds agrees old goes_on.
+    at_err (λ r. IfErr r IsFault) c.from_residual-in_err-full_request.result p.0 faults.OutOfMemory p.1 p.2 (λ kinds agrees old goes_on.
     subst (λ (lines : List Text). Fails (course_of kinds task c.args.files c.args.changes (rest_of task (F.contents folder).files)) (ByChanges (F.contents folder).files) (F.may_leave folder) (F.failures folder) faults.OutOfMemory lines (F.failures folder) (F.contents folder).files)
     (sym c.requires.no_lines)
     (fails_early kinds task c.args.files c.args.changes (F.contents folder).files (F.may_leave folder) (F.failures folder) faults.OutOfMemory (F.failures folder) refl))
@@ -70,7 +70,7 @@ loop-action-init g c = record {
   changes = search rules;
   makes = λ kinds agrees old standing sorted good goes_on.
       tells_none kinds c.args.task.now c.args.files c.args.changes standing _ _ (search rules)
-      (c.in_ok-digests_stood.ensures ∙ ap (λ (outputs : List Output). put_over [] (at_places (digests_at outputs c.as_slice-2.result.now))) c.as_slice.ensures
+      (c.in_ok-digests.ensures ∙ ap (λ (outputs : List Output). put_over [] (at_places (digests_at outputs c.as_slice-2.result.now))) c.as_slice.ensures
       ∙ digests_owned c.args.task.now standing c.args.outputs c.as_slice-2.result.now sorted good goes_on.not_own goes_on.stands (c.as_slice-2.ensures.value ∙ c.requires.prints));
   went = λ tells kinds agrees old goes_on.
       begins_so kinds c.args.task.now c.args.files c.args.changes (g.F.Folder.contents c.args.folder.now).files _ _ _ (search rules) refl c.requires.no_lines;
@@ -89,8 +89,8 @@ loop-action-preserved g c =
       asks = asks_then old.invariant.asks c.run_one.ensures.asks;
       full =
           subst (λ (files : Trees). IsFullRequest task files c.args.changes now.running.request) old.invariant.full.files
-          (subst (λ (lists : List Changes). IsFullRequest task old.running.request.files lists now.running.request) old.invariant.full.lists c.in_ok-run_one.ensures.full);
-      seen = c.in_ok-run_one.ensures.seen ∙ old.invariant.seen;
+          (subst (λ (lists : List Changes). IsFullRequest task old.running.request.files lists now.running.request) old.invariant.full.lists c.in-Ok.ensures.full);
+      seen = c.in-Ok.ensures.seen ∙ old.invariant.seen;
       ready = (subst (λ (actions : List Action). AllByRecursion (IsReadyAction g.A.Actions.meanings c.args.table.now task) actions) next old.invariant.ready).1;
       able = (subst (λ (actions : List Action). AllByRecursion (CanGoOn g.A.Actions.meanings c.args.table.now) actions) next old.invariant.able).1;
       changes = λ tells. changes_chain (is_output_of task) _ _ _ (old.invariant.changes tells) (c.run_one.ensures.changes tells);
@@ -102,10 +102,10 @@ loop-action-preserved g c =
           now.running.digests
           (λ fits quiet.
           subst (λ (trees : Trees). (made_by kinds task action trees ≡ Ok []) × (now.running.digests ≡ old.running.digests)) old.invariant.full.files
-          (c.in_ok-run_one.ensures.kept kinds agrees fits quiet))
+          (c.in-Ok.ensures.kept kinds agrees fits quiet))
           (λ turn is.
           subst (λ (trees : Trees). Makes kinds task action trees now.running.digests) old.invariant.full.files
-          (c.in_ok-run_one.ensures.makes kinds agrees standing sorted good
+          (c.in-Ok.ensures.makes kinds agrees standing sorted good
           (subst (λ (trees : Trees). IsItsTurn kinds task action trees old.running.request.changes.lists old.running.seen standing) (sym old.invariant.full.files)
           (subst (λ (lists : List Changes). IsItsTurn kinds task action c.args.files lists old.running.seen standing) (sym old.invariant.full.lists)
           (subst (λ (seen : List OutputFiles). IsItsTurn kinds task action c.args.files c.args.changes seen standing) (sym old.invariant.seen) turn))) is));
@@ -119,21 +119,21 @@ loop-action-preserved g c =
           (subst (λ (actions : List Action). IsGoing kinds task c.args.files c.args.changes start actions folder old.lines) next (old.invariant.went tells kinds agrees before goes_on))
           new now.lines
           (λ fits quiet.
-          let did = c.in_ok-run_one.ensures.read tells kinds agrees fits quiet in
+          let did = c.in-Ok.ensures.read tells kinds agrees fits quiet in
           (subst (λ (trees : Trees). made_by kinds task action trees ≡ Ok []) old.invariant.full.files did.0, ap (λ (f : Contents). f.files) did.1))
           (λ turn.
           subst (λ (trees : Trees). Ends kinds task action trees folder new) old.invariant.full.files
-          (c.in_ok-run_one.ensures.wrote tells kinds agrees
+          (c.in-Ok.ensures.wrote tells kinds agrees
           (subst (λ (trees : Trees). IsItsTurn kinds task action trees old.running.request.changes.lists old.running.seen folder) (sym old.invariant.full.files)
           (subst (λ (lists : List Changes). IsItsTurn kinds task action c.args.files lists old.running.seen folder) (sym old.invariant.full.lists)
           (subst (λ (seen : List OutputFiles). IsItsTurn kinds task action c.args.files c.args.changes seen folder) (sym old.invariant.seen) turn)))))
-          (c.in_ok-run_one.ensures.printed kinds agrees
+          (c.in-Ok.ensures.printed kinds agrees
           ∙ ap (λ (trees : Trees). old.lines ++ kinds.prints (kind_of action) action.args task.values trees old.running.request.changes.lists) old.invariant.full.files
           ∙ ap (λ (lists : List Changes). old.lines ++ kinds.prints (kind_of action) action.args task.values c.args.files lists) old.invariant.full.lists);
     }
 
-pub returns-in_err-run_one-clause-err : goal.returns-in_err-run_one-clause-err
-returns-in_err-run_one-clause-err g c = λ tells.
+pub returns-in-Err-clause-err : goal.returns-in-Err-clause-err
+returns-in-Err-clause-err g c = λ tells.
     let F = g.F.Folder in
     let task = c.args.task.now in
     let old = c.loop-action in
@@ -142,50 +142,46 @@ returns-in_err-run_one-clause-err g c = λ tells.
     let next : deque_iter_rest old.action-iterator ≡ action ∷ left = c.in-Some.ensures.steps in
     let now = c.run_one.new in
     let start = c.args.folder.now in
-    let p = err_from_is_err_and c.from_residual-in_err-run_one.result c.from_residual-in_err-run_one.ensures.1 in
-    let IsFault : Fault → Type 0 = λ fault. (kinds : Kinds) → Agrees g.A.Actions.meanings c.args.table.now kinds → (before : Trees)
-    → GoesOn kinds task before c.args.files c.args.changes c.args.outputs (F.contents start).files
-    → Fails (course_of kinds task c.args.files c.args.changes (rest_of task (F.contents start).files)) (ByChanges (F.contents start).files) (F.may_leave start) (F.failures start) fault now.lines (F.failures now.folder) (F.contents now.folder).files in
-    at_err (λ r. IfErr r IsFault) c.from_residual-in_err-run_one.result p.0 c.in_err-run_one.field-0.0 p.1 p.2 (λ kinds agrees before goes_on.
+    λ kinds agrees before goes_on.
     let folder = (F.contents old.folder).files in
     let new = (F.contents now.folder).files in
     fails_further kinds task c.args.files c.args.changes (F.contents start).files c.args.outputs before goes_on
     (all_fitting g.A.Actions.meanings kinds c.args.table.now task task.actions g.A.Actions.own_output agrees c.requires.ready)
     action left folder old.lines
     (subst (λ (actions : List Action). IsGoing kinds task c.args.files c.args.changes (F.contents start).files actions folder old.lines) next (old.invariant.went tells kinds agrees before goes_on))
-    (F.may_leave start) (F.may_leave old.folder) (F.failures start) (F.failures old.folder) (F.failures now.folder) c.in_err-run_one.field-0.0 new now.lines
+    (F.may_leave start) (F.may_leave old.folder) (F.failures start) (F.failures old.folder) (F.failures now.folder) c.in-Err.fault new now.lines
     old.invariant.asks.tearing old.invariant.asks.count c.run_one.ensures.asks.count
     (λ quiet.
-    let did = c.in_err-run_one.ensures.unread tells kinds agrees quiet in (
-      subst (λ (trees : Trees). (c.in_err-run_one.field-0.0 ≡ faults.OutOfMemory) ⊎ ((text : Text) × (c.in_err-run_one.field-0.0 ≡ faults.ActionFailed text) × (made_by kinds task action trees ≡ Err text))) old.invariant.full.files did.0,
+    let did = c.in-Err.ensures.unread tells kinds agrees quiet in (
+      subst (λ (trees : Trees). (c.in-Err.fault ≡ faults.OutOfMemory) ⊎ ((text : Text) × (c.in-Err.fault ≡ faults.ActionFailed text) × (made_by kinds task action trees ≡ Err text))) old.invariant.full.files did.0,
       ap (λ (f : Contents). f.files) did.1,
     ))
     (λ turn.
-    subst (λ (trees : Trees). Stops kinds task action trees folder (F.may_leave old.folder) (F.failures old.folder) c.in_err-run_one.field-0.0 (F.failures now.folder) new) old.invariant.full.files
-    (c.in_err-run_one.ensures.unwritten tells kinds agrees
+    subst (λ (trees : Trees). Stops kinds task action trees folder (F.may_leave old.folder) (F.failures old.folder) c.in-Err.fault (F.failures now.folder) new) old.invariant.full.files
+    (c.in-Err.ensures.unwritten tells kinds agrees
     (subst (λ (trees : Trees). IsItsTurn kinds task action trees old.running.request.changes.lists old.running.seen folder) (sym old.invariant.full.files)
     (subst (λ (lists : List Changes). IsItsTurn kinds task action c.args.files lists old.running.seen folder) (sym old.invariant.full.lists)
     (subst (λ (seen : List OutputFiles). IsItsTurn kinds task action c.args.files c.args.changes seen folder) (sym old.invariant.seen) turn)))))
-    c.in_err-run_one.ensures.lines)
+    c.in-Err.ensures.lines
 
-pub returns-in_err-prints-clause-err : goal.returns-in_err-prints-clause-err
-returns-in_err-prints-clause-err g c = λ tells.
+pub returns-in_err-made-clause-err : goal.returns-in_err-made-clause-err
+returns-in_err-made-clause-err g c = λ tells.
     let F = g.F.Folder in
     let task = c.args.task.now in
     let old = c.loop-action in
     let start = c.args.folder.now in
-    let p = err_from_is_err_and c.from_residual-in_err-prints.result c.from_residual-in_err-prints.ensures.1 in
+    let p = err_from_is_err_and c.from_residual-in_err-made.result c.from_residual-in_err-made.ensures.1 in
     let IsFault : Fault → Type 0 = λ fault. (kinds : Kinds) → Agrees g.A.Actions.meanings c.args.table.now kinds → (before : Trees)
     → GoesOn kinds task before c.args.files c.args.changes c.args.outputs (F.contents start).files
     → Fails (course_of kinds task c.args.files c.args.changes (rest_of task (F.contents start).files)) (ByChanges (F.contents start).files) (F.may_leave start) (F.failures start) fault old.lines (F.failures old.folder) (F.contents old.folder).files in
-    at_err (λ r. IfErr r IsFault) c.from_residual-in_err-prints.result p.0 faults.OutOfMemory p.1 p.2 (λ kinds agrees before goes_on.
+    at_err (λ r. IfErr r IsFault) c.from_residual-in_err-made.result p.0 faults.OutOfMemory p.1 p.2 (λ kinds agrees before goes_on.
     fails_late kinds task c.args.files c.args.changes (F.contents start).files (F.contents old.folder).files old.lines
     (subst (λ (actions : List Action). IsGoing kinds task c.args.files c.args.changes (F.contents start).files actions (F.contents old.folder).files old.lines)
     (none_left (deque_iter_rest old.action-iterator) c.in-None.ensures.steps.0) (old.invariant.went tells kinds agrees before goes_on))
     (F.may_leave start) (F.failures start) faults.OutOfMemory (F.failures old.folder) refl)
 
 pub returns-clause-named : goal.returns-clause-named
-returns-clause-named g c = c.in_ok-prints.ensures.named ∙ ap (λ (outputs : List Output). map (λ (output : Output). output.name) outputs) c.as_slice-3.ensures
+returns-clause-named g c = c.in_ok-made.ensures.named ∙ ap (λ (outputs : List Output). map (λ (output : Output). output.name) outputs) c.as_slice-3.ensures
 
 pub returns-clause-made : goal.returns-clause-made
 returns-clause-made g c = λ kinds agrees before standing sorted good goes_on.
@@ -195,7 +191,7 @@ returns-clause-made g c = λ kinds agrees before standing sorted good goes_on.
     (all_fitting g.A.Actions.meanings kinds c.args.table.now task task.actions g.A.Actions.own_output agrees c.requires.ready) old.running.digests
     (subst (λ (actions : List Action). IsTelling kinds task c.args.files c.args.changes standing actions old.running.digests)
     (none_left (deque_iter_rest old.action-iterator) c.in-None.ensures.steps.0) (old.invariant.makes kinds agrees before standing sorted good goes_on)) in
-    (all.0, all.1, c.in_ok-prints.ensures.prints all.0 all.2 ∙ ap (λ (outputs : List Output). prints_at outputs all.0) c.as_slice-3.ensures)
+    (all.0, all.1, c.in_ok-made.ensures.prints all.0 all.2 ∙ ap (λ (outputs : List Output). prints_at outputs all.0) c.as_slice-3.ensures)
 
 pub returns-clause-ok : goal.returns-clause-ok
 returns-clause-ok g c = λ tells kinds agrees before goes_on.
