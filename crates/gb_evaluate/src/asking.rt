@@ -176,18 +176,18 @@ fn truth_of<A: Actions, T: Transforms>(
     alloc: Global,
     context: &Context<'_, A, T>,
     test: &Function,
-    value: Option<Value>,
+    value: &Option<Value>,
 ) -> Result<bool, Fault>
     ensures { let tables = tables_of T.meanings A.meanings context.now.tables.now in
         (source : Source) (at : Registered)
         → IsSorted (truth_of tables source at (spots tables source) (whole tables source) test.now
-        (test_named tables.functions test.now.name) value) result }
+        (test_named tables.functions test.now.name) value.now) result }
 {
     let Some(stored) = context.tables.transforms.find_test(test.name.as_str()) else {
         return Err(Fault::UnknownTransform(test.name.copy()?));
     };
     match value {
-        Some(value) => ask_test::<T>(alloc, stored, &value, test),
+        Some(value) => ask_test::<T>(alloc, stored, value, test),
         None => Ok(false),
     }
 }
@@ -209,7 +209,9 @@ pub fn passes<A: Actions, T: Transforms>(
     ensures kept { providers.new ≡ providers.old }
 {
     let value = ask(alloc, context, providers, node)?;
-    truth_of(alloc, context, test, value)
+    let truth = truth_of(alloc, context, test, &value);
+    drop(value);
+    truth
 }
 
 /// The tasks that an expression with a value comes from.

@@ -164,6 +164,12 @@ pub fn evaluated<A: Actions, T: Transforms>(
     let parts = split(task, row);
     let flags = flags(alloc, context, providers, path, task, &parts)?;
     let contents = contents(alloc, context, providers, path, build, task, &parts)?;
-    let needs = needs(alloc, context, providers, &task.depends_on, &parts)?;
+    let needs = match needs(alloc, context, providers, &task.depends_on, &parts) {
+        Ok(needs) => needs,
+        Err(fault) => {
+            drop(contents);
+            return Err(fault.into());
+        }
+    };
     Ok(declaration(alloc, path, task, flags, contents, needs)?)
 }

@@ -45,8 +45,9 @@ pub fn values<A: Actions, T: Transforms>(
         let Some((node, others)) = rest.split_first() else {
             unreachable!();
         };
+        let called = name.copy()?;
         let value = require(alloc, context, providers, *node, path, name)?;
-        found.push((name.copy()?, value))?;
+        found.push((called, value))?;
         rest = others;
     }
     Ok(found)

@@ -24,5 +24,5 @@ returns-clause-told g c = λ at source number over.
     let entry = number c.args.node.number in
     let test = c.args.test.now in
     let says = truth_of tables source at (spots tables source) (whole tables source) test (test_named tables.functions test.name) in
-    then_gives tables source (given_at tables source entry) says c.in_ok-value.value c.truth_of.result (c.in_ok-value.ensures.told source number over)
-    (sorted_tells tables source (says c.in_ok-value.value) c.truth_of.result (c.truth_of.ensures source at))
+    then_gives tables source (given_at tables source entry) says c.in_ok-value.value c.truth_of-truth.result (c.in_ok-value.ensures.told source number over)
+    (sorted_tells tables source (says c.in_ok-value.value) c.truth_of-truth.result (c.truth_of-truth.ensures source at))

@@ -76,7 +76,7 @@ returns-clause-told g c = λ source number over at is are.
     let back = λ (r : Result TaskDeclaration Fault). subst (λ expected. Tells tables source expected r) (sym (in_parts tables source at task)) in
     let second = subst (λ p. IsOver tables source names context.faults.now p.nodes number) (sym c.in_ok-flags.ensures.kept) over in
     let third = subst (λ p. IsOver tables source names context.faults.now p.nodes number) (sym (c.in_ok-contents.ensures.kept ∙ c.in_ok-flags.ensures.kept)) over in
-    let needs = c.in_ok-needs.ensures.told source number third ∙ needs_there tables source number at task c.split-parts.result parts in
+    let needs = c.in-Ok.ensures.told source number third ∙ needs_there tables source number at task c.split-parts.result parts in
     in_parts tables source at task
     ∙ ap (λ r. and_then r go_on) (c.in_ok-flags.ensures.told source number over at is.0 parts)
     ∙ ap (λ r. and_then r (λ (contents : Contents). Ok (declaration_of at.path task c.in_ok-flags.flags contents (needed tables source at task)))) (c.in_ok-contents.ensures.told source number second at is parts)

@@ -34,8 +34,8 @@ returns-in_err-value-clause-told g c = λ source number over at is are.
     let there = subst (λ p. IsOver tables source (known_names context.projects.now context.tasks.now) context.faults.now p.nodes number) (sym c.loop-name.invariant.kept) over in
     let same = stands_for tables source number at.project (λ (value : Named Tree). value.1) f (named_in c.args.inputs.now) c.loop-name.found c.loop-name.rest.now c.in-Some-split_first.others.now c.in-Some-split_first.node.now (map (λ e. (e.0, e.1.now)) c.loop-name.name-iterator) (map (λ e. (e.0, e.1.now)) c.next.new.self) x c.in-Some-split_first.ensures.cases.0 next left in
     let fault = c.in_err-value.field-0.0 in
-    let p = err_from_is_err_and c.from_residual.result c.from_residual.ensures.1 in
-    passed_on tables source (each_of f (named_in c.args.inputs.now)) c.from_residual.result p.0 fault p.1 p.2
+    let p = err_from_is_err_and c.from_residual-in_err-value.result c.from_residual-in_err-value.ensures.1 in
+    passed_on tables source (each_of f (named_in c.args.inputs.now)) c.from_residual-in_err-value.result p.0 fault p.1 p.2
     (fails_here tables source number at.project (λ (value : Named Tree). value.1) f (named_in c.args.inputs.now) c.loop-name.found c.loop-name.rest.now c.in-Some-split_first.others.now c.in-Some-split_first.node.now (map (λ e. (e.0, e.1.now)) c.loop-name.name-iterator) (map (λ e. (e.0, e.1.now)) c.next.new.self) x c.in-Some-split_first.ensures.cases.0 next left fault
     (first_fails tables source (required tables source at (spots tables source) (whole tables source) name tree) (λ v. Ok (name, v)) fault
     (required_there tables source number at c.args.path.now is (number c.in-Some-split_first.node.now.number) tree same name (Err fault) (c.in_err-value.ensures.told source number there))))
@@ -65,7 +65,7 @@ loop-name-preserved g c = record {
       let there = subst (λ p. IsOver tables source (known_names context.projects.now context.tasks.now) context.faults.now p.nodes number) (sym c.loop-name.invariant.kept) over in
       let same = stands_for tables source number at.project (λ (value : Named Tree). value.1) f (named_in c.args.inputs.now) c.loop-name.found c.loop-name.rest.now c.in-Some-split_first.others.now c.in-Some-split_first.node.now (map (λ e. (e.0, e.1.now)) c.loop-name.name-iterator) (map (λ e. (e.0, e.1.now)) c.next.new.self) x c.in-Some-split_first.ensures.cases.0 next left in
       goes_on tables source number at.project (λ (value : Named Tree). value.1) f (named_in c.args.inputs.now) c.loop-name.found c.loop-name.rest.now c.in-Some-split_first.others.now c.in-Some-split_first.node.now (map (λ e. (e.0, e.1.now)) c.loop-name.name-iterator) (map (λ e. (e.0, e.1.now)) c.next.new.self) x c.in-Some-split_first.ensures.cases.0 next left (name, c.in_ok-value.value) c.push.new.self
-      (c.in_ok-push.ensures.ok ∙ ap (λ n. c.loop-name.found ++ (n, c.in_ok-value.value) ∷ []) c.in_ok-copy.ensures)
+      (c.in_ok-push.ensures.ok ∙ ap (λ n. c.loop-name.found ++ (n, c.in_ok-value.value) ∷ []) c.in_ok-called.ensures)
       (ap (λ r. and_then r (λ v. Ok (name, v))) (required_there tables source number at c.args.path.now is (number c.in-Some-split_first.node.now.number) tree same name (Ok c.in_ok-value.value) (c.in_ok-value.ensures.told source number there)));
 }
 
