@@ -1,5 +1,5 @@
 -- What leads a run on, and what is one whole run of an event.
-use Rattle.std.specs.Prelude.{◌≡◌, ◌≤◌, ◌++◌, Bool, true, IsTrue, List, Result, ⊤}
+use Rattle.std.specs.Prelude.{◌≡◌, ◌≤◌, ◌++◌, Bool, true, IsTrue, List, [], ◌∷◌, Result, ⊤}
 use Rattle.std.proofs.Common.{refl, sym, subst, arith}
 use Rattle.gb_folder.specs.Files.{Bytes, Contents}
 use Rattle.gb_meaning.specs.declared.events.Answer.{Answer}
@@ -66,10 +66,12 @@ led_holds setting old end invocation result count leads remembered stands =
     let start : State = state_of old remembered in
     let all : List Bytes = memory_contents (world_in start) in
     let led = leads remembered true all (λ _. (stands, seen_more all all (contents_outside old.contents) (λ bytes within. within))) in (
-      state_of end led.remembered,
-      count,
-      step_weaker setting (StillClear setting (IsTrue true) start) (StillClear setting ⊤ start) (λ contents given. (refl, given.1)) all start
-          (events.Invoke invocation) (answer_of result) (state_of end led.remembered) led.step,
-      λ given. (led.stands (refl, given.1)).0,
-      (omega arith, refl),
+      state_of end led.remembered ∷ [],
+      (
+        count,
+        step_weaker setting (StillClear setting (IsTrue true) start) (StillClear setting ⊤ start) (λ contents given. (refl, given.1)) all start
+            (events.Invoke invocation) (answer_of result) (state_of end led.remembered) led.step,
+        λ given. (led.stands (refl, given.1)).0,
+        (omega arith, refl),
+      ),
     )

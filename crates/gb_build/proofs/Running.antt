@@ -12,7 +12,7 @@ use Rattle.gb_meaning.specs.declared.events.Event.TheVariants as events
 use Rattle.gb_meaning.specs.declared.events.Invocation.{Invocation}
 use Rattle.gb_meaning.specs.Edits.{Shown}
 use Rattle.gb_meaning.specs.Events.{Setting, State, world_in}
-use Rattle.gb_meaning.specs.Headline.{AllKeepElsewhere, Ear, EventKeeps, EventsHold, HaveHeardAll, Registering, RunHolds, StillClear, answer_of, contents_outside, seen_with, state_of}
+use Rattle.gb_meaning.specs.Headline.{AllKeepElsewhere, Ear, EventKeeps, EventsHold, GoesThrough, HaveHeardAll, Registering, RunHolds, StillClear, answer_of, contents_outside, seen_with, state_of}
 use Rattle.gb_meaning.specs.Memory.{Memory}
 use Rattle.gb_meaning.specs.Outline.{IsOutlined}
 use Rattle.gb_report.specs.declared.fault.Fault.{Fault}
@@ -26,23 +26,30 @@ use Rattle.gb_build.specs.Answers.{AnswerIsOutlined, Edit, edit_answer}
 
 -- ---- Runs
 
--- a run is one too where less is clear
+-- a run went through the same states where less is clear
+goes_weaker : (setting : Setting) (one other : Type 0) → (other → one) → (seen : List Bytes) (old : State) (states : List State) (all : List Event) (told : List Answer) (end : Shown)
+    → GoesThrough setting one seen old states all told end → GoesThrough setting other seen old states all told end
+goes_weaker setting one other weaker seen old [] [] [] end run = run
+goes_weaker setting one other weaker seen old (next ∷ states) (event ∷ rest) (answer ∷ others) end run = (
+  run.0,
+  step_weaker setting (StillClear setting one old) (StillClear setting other old) (λ contents given. (weaker given.0, given.1)) seen old event answer next run.1,
+  λ given. run.2 (weaker given.0, given.1),
+  goes_weaker setting (StillClear setting one old (seen_with seen old next)) (StillClear setting other old (seen_with seen old next))
+      (λ given. (weaker given.0, given.1)) (seen ++ contents_outside old.contents) next states rest others end run.3,
+)
+goes_weaker setting one other weaker seen old [] [] (answer ∷ others) end run = absurd run
+goes_weaker setting one other weaker seen old [] (event ∷ rest) [] end run = absurd run
+goes_weaker setting one other weaker seen old [] (event ∷ rest) (answer ∷ others) end run = absurd run
+goes_weaker setting one other weaker seen old (next ∷ states) [] [] end run = absurd run
+goes_weaker setting one other weaker seen old (next ∷ states) [] (answer ∷ others) end run = absurd run
+goes_weaker setting one other weaker seen old (next ∷ states) (event ∷ rest) [] end run = absurd run
+
 run_weaker : (setting : Setting) (one other : Type 0) → (other → one) → (seen : List Bytes) (old : State) (all : List Event) (told : List Answer) (end : Shown)
     → RunHolds setting one seen old all told end → RunHolds setting other seen old all told end
-run_weaker setting one other weaker seen old [] [] end run = run
-run_weaker setting one other weaker seen old [] (answer ∷ others) end run = run
-run_weaker setting one other weaker seen old (event ∷ rest) [] end run = run
-run_weaker setting one other weaker seen old (event ∷ rest) (answer ∷ others) end run = (
-  run.0,
-  run.1,
-  step_weaker setting (StillClear setting one old) (StillClear setting other old) (λ contents given. (weaker given.0, given.1)) seen old event answer run.0 run.2,
-  λ given. run.3 (weaker given.0, given.1),
-  run_weaker setting (StillClear setting one old (seen_with seen old run.0)) (StillClear setting other old (seen_with seen old run.0))
-      (λ given. (weaker given.0, given.1)) (seen ++ contents_outside old.contents) run.0 rest others end run.4,
-)
+run_weaker setting one other weaker seen old all told end run = (run.0, goes_weaker setting one other weaker seen old run.0 all told end run.1)
 
 -- a run of these events from what a folder shows, whatever is remembered
-abbrev pub RunsFrom : Setting → Shown → List Event → List Answer → Shown → Type 0
+pub RunsFrom : Setting → Shown → List Event → List Answer → Shown → Type 0
 RunsFrom setting old all told end =
     (remembered : Memory) (clear : Bool) (seen : List Bytes) → (IsTrue clear → StandsSeen setting seen (state_of old remembered))
     → RunHolds setting (IsTrue clear) seen (state_of old remembered) all told end
@@ -64,25 +71,27 @@ is_yes (inr is_not) x = absurd (is_not x)
 -- an event, and then a run
 pub runs_on : (setting : Setting) (old mid end : Shown) (event : Event) (answer : Answer) (rest : List Event) (others : List Answer) → old.failures ≤ mid.failures
     → Leads setting old event answer mid → RunsFrom setting mid rest others end → RunsFrom setting old (event ∷ rest) (answer ∷ others) end
+unfolding RunsFrom
 runs_on setting old mid end event answer rest others count leads runs remembered clear seen worth =
     let start : State = state_of old remembered in
     let led = leads remembered clear seen worth in
     let next : State = state_of mid led.remembered in
-    let decided = clear_or_not setting start clear (seen_with seen start next) in (
-      next,
-      count,
-      led.step,
-      λ given. (led.stands given).0,
-      run_weaker setting (IsTrue (yes_of decided)) (StillClear setting (IsTrue clear) start (seen_with seen start next)) (is_yes decided)
-          (seen ++ contents_outside old.contents) next rest others end
-          (runs led.remembered (yes_of decided) (seen ++ contents_outside old.contents) (λ yes. led.stands (is_so decided yes))),
+    let decided = clear_or_not setting start clear (seen_with seen start next) in
+    let later =
+    run_weaker setting (IsTrue (yes_of decided)) (StillClear setting (IsTrue clear) start (seen_with seen start next)) (is_yes decided)
+    (seen ++ contents_outside old.contents) next rest others end
+    (runs led.remembered (yes_of decided) (seen ++ contents_outside old.contents) (λ yes. led.stands (is_so decided yes))) in (
+      next ∷ later.0,
+      (count, led.step, λ given. (led.stands given).0, later.1),
     )
 
 pub runs_nowhere : (setting : Setting) (old : Shown) → RunsFrom setting old [] [] old
-runs_nowhere setting old remembered clear seen worth = (omega arith, refl)
+unfolding RunsFrom
+runs_nowhere setting old remembered clear seen worth = ([], (omega arith, refl))
 
 -- a run from whatever true records stand
 pub runs_hold : (setting : Setting) (old end : Shown) (all : List Event) (told : List Answer) → RunsFrom setting old all told end → EventsHold setting old all told end
+unfolding RunsFrom
 runs_hold setting old end all told runs remembered stands =
     let seen : List Bytes = memory_contents (world_in (state_of old remembered)) in
     run_weaker setting (IsTrue true) ⊤ (λ _. refl) seen (state_of old remembered) all told end

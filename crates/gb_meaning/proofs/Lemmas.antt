@@ -20,3 +20,4 @@ pub mod Seen
 pub mod Sessions
 pub mod Current
 pub mod Agreeing
+pub mod Pinned

@@ -1,5 +1,5 @@
 -- What a run of any events promises, in one sentence.
-use Rattle.std.specs.Prelude.{◌≡◌, ◌≤◌, false, List, [], ◌∷◌, ◌++◌, Some, length, ⊤}
+use Rattle.std.specs.Prelude.{◌≡◌, ◌≤◌, false, List, [], ◌∷◌, ◌++◌, Some, ⊤}
 use Rattle.std.specs.List.{flat_map}
 use Rattle.gb_report.specs.declared.report.Report.{Report}
 use Rattle.gb_meaning.specs.declared.events.Event.{Event}
@@ -15,7 +15,7 @@ use Rattle.gb_meaning.specs.Turn.{Guard}
 use Rattle.gb_meaning.specs.Scratch.{from_scratch}
 use Rattle.gb_meaning.specs.Edits.{Shown}
 use Rattle.gb_meaning.specs.Events.{AreStarted, Setting, State, Step, HasPlan, has_failure, world_in}
-use Rattle.gb_meaning.specs.Headline.{EventsHold, Stands, contents_outside, state_of}
+use Rattle.gb_meaning.specs.Headline.{EventsHold, Stands, WentThrough, contents_outside, state_of}
 
 -- all contents outside `.gb` at some states
 abbrev pub contents_of_all : List State → List Bytes
@@ -61,27 +61,13 @@ abbrev pub AllApart : Setting → State → List State → Type 0
 AllApart setting start states =
     AreApart setting.digest (memory_contents (world_in start) ++ contents_of_all (start ∷ states))
 
--- what stood after the last of these states
-abbrev pub contents_after : Contents → List State → Contents
-contents_after contents [] = contents
-contents_after contents (state ∷ states) = contents_after state.contents states
-
--- From any true records that the old folder holds: there are states, one after each event and at last this
--- folder, of which this holds if no two of their contents have one digest.
-abbrev pub HoldsOfRun : Setting → (State → List State → List Event → List Answer → Shown → Type 0) → Shown →
-    List Event → List Answer → Shown → Type 0
-HoldsOfRun setting Holds old all answered end =
-    (remembered : Memory) → Stands setting old.contents remembered →
-    (states : List State) × (length states ≡ length all)
-    × (contents_after old.contents states ≡ end.contents)
-    × (AllApart setting (state_of old remembered) states
-    → Holds (state_of old remembered) states all answered end)
-
--- it holds so of every run of events
+-- This holds of each run, from the first state through those that it went through, if no two contents of
+-- these have one digest.
 abbrev pub HoldsOfRuns : Setting → (State → List State → List Event → List Answer → Shown → Type 0) → Type 0
 HoldsOfRuns setting Holds =
-    (old end : Shown) (all : List Event) (answered : List Answer) → EventsHold setting old all answered end →
-    HoldsOfRun setting Holds old all answered end
+    (start : State) (states : List State) (all : List Event) (answered : List Answer) (end : Shown)
+    → WentThrough setting start states all answered end → AllApart setting start states
+    → Holds start states all answered end
 
 -- each build in which no task failed is from scratch
 abbrev pub EverySuccessIsFromScratch : Setting → Type 0
@@ -91,13 +77,16 @@ EverySuccessIsFromScratch setting = HoldsOfRuns setting (AllSucceed setting)
 abbrev pub ClearRunIsPlain : Setting → Type 0
 ClearRunIsPlain setting = HoldsOfRuns setting (PlainRun setting)
 
--- Both of the same states: each event is a step with no premise, after each the folder holds true records,
--- and each build in which no task failed is from scratch.
+-- From any true records that the old folder holds, the run went through states, one after each event and at
+-- last this folder. If no two of their contents have one digest, each event is a step with no premise, after
+-- each the folder holds true records, and each build in which no task failed is from scratch.
 abbrev pub PromiseHolds : Setting → Shown → List Event → List Answer → Shown → Type 0
-PromiseHolds setting =
-    HoldsOfRun setting
-    (λ start states all answered end. PlainRun setting start states all answered end
-    × AllSucceed setting start states all answered end)
+PromiseHolds setting old all answered end =
+    (remembered : Memory) → Stands setting old.contents remembered →
+    let start = state_of old remembered in
+    (states : List State) × WentThrough setting start states all answered end
+    × (AllApart setting start states
+    → PlainRun setting start states all answered end × AllSucceed setting start states all answered end)
 
 -- what a run of any events promises
 abbrev pub Headline : Setting → Type 0

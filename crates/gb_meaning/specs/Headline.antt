@@ -160,19 +160,30 @@ StillClear setting clear old contents = clear × IsClear setting old.remembered 
 abbrev pub seen_with : List Bytes → State → State → List Bytes
 seen_with seen old new = seen ++ contents_outside old.contents ++ contents_outside new.contents
 
--- From a state on, each event is a step, as far as what was seen before it is clear; after each the folder
--- holds the records of what is remembered, and what is remembered is true. Nothing but steps ties what lies
--- between.
-abbrev pub RunHolds : Setting → Type 0 → List Bytes → State → List Event → List Answer → Shown → Type 0
-RunHolds setting clear seen old [] [] end = (old.failures ≤ end.failures) × (old.contents ≡ end.contents)
-RunHolds setting clear seen old [] (answer ∷ others) end = ⊥
-RunHolds setting clear seen old (event ∷ rest) [] end = ⊥
-RunHolds setting clear seen old (event ∷ rest) (answer ∷ others) end =
-    (next : State) × (old.failures ≤ next.failures)
+-- A run went through these states, one after each event, and the folder at its end shows the last one. Each
+-- event is a step, as far as what was seen before it is clear; after each the folder holds the records of
+-- what is remembered, and what is remembered is true. So a state is what led to it, as long as all is clear.
+abbrev pub GoesThrough : Setting → Type 0 → List Bytes → State → List State → List Event → List Answer → Shown
+    → Type 0
+GoesThrough setting clear seen old [] [] [] end =
+    (old.failures ≤ end.failures) × (old.contents ≡ end.contents)
+GoesThrough setting clear seen old (next ∷ states) (event ∷ rest) (answer ∷ others) end =
+    (old.failures ≤ next.failures)
     × Step setting (StillClear setting clear old) seen old event answer next
     × (StillClear setting clear old (seen_with seen old next) → Stands setting next.contents next.remembered)
-    × RunHolds setting (StillClear setting clear old (seen_with seen old next))
-    (seen ++ contents_outside old.contents) next rest others end
+    × GoesThrough setting (StillClear setting clear old (seen_with seen old next))
+    (seen ++ contents_outside old.contents) next states rest others end
+GoesThrough setting clear seen old states rest others end = ⊥
+
+-- the run went through some states
+abbrev pub RunHolds : Setting → Type 0 → List Bytes → State → List Event → List Answer → Shown → Type 0
+RunHolds setting clear seen old all answered end =
+    (states : List State) × GoesThrough setting clear seen old states all answered end
+
+-- A run of the events went through these states from a first one, whose records were seen before it.
+abbrev pub WentThrough : Setting → State → List State → List Event → List Answer → Shown → Type 0
+WentThrough setting start states all answered end =
+    GoesThrough setting ⊤ (memory_contents (world_in start)) start states all answered end
 
 -- the state of a folder that shows this, where this is remembered
 abbrev pub state_of : Shown → Memory → State
@@ -183,8 +194,7 @@ state_of shown remembered =
 abbrev pub EventsHold : Setting → Shown → List Event → List Answer → Shown → Type 0
 EventsHold setting old all answered end =
     (remembered : Memory) → Stands setting old.contents remembered →
-    RunHolds setting ⊤ (memory_contents (world_in (state_of old remembered)))
-    (state_of old remembered) all answered end
+    (states : List State) × WentThrough setting (state_of old remembered) states all answered end
 
 -- ---- One invocation
 

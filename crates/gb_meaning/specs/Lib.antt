@@ -15,3 +15,4 @@ pub mod Outline
 pub mod Every
 pub mod Sessions
 pub mod Granted
+pub mod Pinned

@@ -1,6 +1,6 @@
 -- The tool is called again and again; in between anybody may edit the folder, but no record is written by
 -- others.
-use Rattle.std.specs.Prelude.{ℕ, suc, ◌≡◌, ◌⊎◌, List, [], ◌∷◌, length, None, IsTrue, is_some, ⊤}
+use Rattle.std.specs.Prelude.{ℕ, suc, ◌≡◌, ◌⊎◌, List, [], ◌∷◌, None, IsTrue, is_some, ⊤}
 use Rattle.std.specs.FinMap.Entries.{where_key}
 use Rattle.gb_core.specs.Lists.{byte_order}
 use Rattle.gb_core.specs.Path.{is_task_path}
@@ -11,8 +11,8 @@ use Rattle.gb_meaning.specs.declared.events.Answer.{Answer}
 use Rattle.gb_meaning.specs.Memory.{Memory}
 use Rattle.gb_meaning.specs.Edits.{Shown}
 use Rattle.gb_meaning.specs.Events.{Setting, State}
-use Rattle.gb_meaning.specs.Headline.{EventsHold, Registering, Stands, state_of}
-use Rattle.gb_meaning.specs.Every.{AllApart, AllSucceed, PlainRun, contents_after}
+use Rattle.gb_meaning.specs.Headline.{EventsHold, Registering, Stands, WentThrough, state_of}
+use Rattle.gb_meaning.specs.Every.{AllApart, AllSucceed, PlainRun}
 
 -- One use of the tool: the folder that it found, what was asked and answered, and the folder that it left.
 pub record Session : Type 0 where
@@ -57,14 +57,15 @@ module _ (setting : Setting) (registers : ℕ → Registering) (may_leave : ℕ 
       × EventsHold (setting_at number) session.start session.events session.answers session.end
       × SessionsHold (suc number) session.end.contents rest
 
-  -- Each session is a plain run in which each success is from scratch, if no two contents that stood in it,
-  -- or that the records speak of which it found, have one digest; and then so are those after it.
+  -- Each session went through states. It is a plain run in which each success is from scratch, if no two
+  -- contents of these, or that the records speak of which it found, have one digest; and then so are those
+  -- after it.
   abbrev pub AllHold : ℕ → Memory → List Session → Type 0
   AllHold number remembered [] = ⊤
   AllHold number remembered (session ∷ rest) =
       let start = begins setting session remembered in
-      (states : List State) × (length states ≡ length session.events)
-      × (contents_after session.start.contents states ≡ session.end.contents)
+      (states : List State)
+      × WentThrough (setting_at number) start states session.events session.answers session.end
       × (AllApart setting start states
       → PlainRun (setting_at number) start states session.events session.answers session.end
       × AllSucceed (setting_at number) start states session.events session.answers session.end

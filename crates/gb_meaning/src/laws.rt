@@ -1,6 +1,7 @@
 //! Laws of the definitions, each the contract of a function that does nothing.
 ghost use Rattle.gb_meaning.specs.Every.{ClearRunIsPlain, EverySuccessIsFromScratch, Headline};
 ghost use Rattle.gb_meaning.specs.Granted.{MemoryGrants, SomeKindsAgree};
+ghost use Rattle.gb_meaning.specs.Pinned.{StatesAreOne};
 ghost use Rattle.gb_meaning.specs.Promise.{SuccessIsFromScratch, TruthIsKept, UpToDateIsMade};
 ghost use Rattle.gb_meaning.specs.Run.{EndedIsMade};
 ghost use Rattle.gb_meaning.specs.Sessions.{HeadlineOfSessions};
@@ -43,6 +44,12 @@ pub fn every_success_is_from_scratch<G: Grounds>()
 /// Where no two contents of a run have one digest, no step of it has a premise.
 pub fn clear_run_is_plain<G: Grounds>()
     ensures { ClearRunIsPlain G.setting }
+{}
+
+/// The states that a run went through are settled by its answers, as long as no task failed and nothing was
+/// hindered: whoever proves of a run that it went through states has no choice among them.
+pub fn states_are_one<G: Grounds>()
+    ensures { StatesAreOne G.setting }
 {}
 
 /// What a run of any events promises, in one sentence.

@@ -1,6 +1,6 @@
 -- Over every list of events, each build in which no task failed is from scratch.
-use Rattle.std.specs.Prelude.{◌≡◌, List, [], ◌∷◌, ◌++◌, length, ⊤}
-use Rattle.std.proofs.Common.{arith, refl, inl, inr}
+use Rattle.std.specs.Prelude.{List, [], ◌∷◌, ◌++◌, ⊤}
+use Rattle.std.proofs.Common.{inl, inr}
 use Rattle.gb_meaning.specs.declared.events.Event.{Event}
 use Rattle.gb_meaning.specs.declared.events.Event.TheVariants as events
 use Rattle.gb_meaning.specs.declared.events.Answer.{Answer}
@@ -10,8 +10,8 @@ use Rattle.gb_meaning.specs.TrueRecord.{AreApart}
 use Rattle.gb_meaning.specs.Turn.{Guard}
 use Rattle.gb_meaning.specs.Edits.{Shown}
 use Rattle.gb_meaning.specs.Events.{Setting, State, Step}
-use Rattle.gb_meaning.specs.Headline.{RunHolds, IsClear, StillClear, contents_outside, seen_with, state_of}
-use Rattle.gb_meaning.specs.Every.{Succeeds, AllSucceed, EverySuccessIsFromScratch, contents_after, contents_of_all}
+use Rattle.gb_meaning.specs.Headline.{GoesThrough, IsClear, StillClear, contents_outside, seen_with}
+use Rattle.gb_meaning.specs.Every.{Succeeds, AllSucceed, EverySuccessIsFromScratch, contents_of_all}
 use Rattle.gb_meaning.proofs.Lemmas.Clear.{Among, apart_of_fewer, in_left, in_right, in_one}
 
 -- what was seen, and stands before and after an event, is among all
@@ -46,30 +46,26 @@ module _ (setting : Setting) where
   step_succeeds granted seen old new (events.Invoke invocation) (answers.Refused fault) given s = tt
   step_succeeds granted seen old new (events.Invoke invocation) (answers.NotBuilt fault) given s = tt
 
-  run_succeeds : (clear : Type 0) (seen : List Bytes) (old : State) (all : List Event) (told : List Answer) (end : Shown)
-      → RunHolds setting clear seen old all told end
-      → (states : List State) × (length states ≡ length all) × (contents_after old.contents states ≡ end.contents)
-      × (clear → AreApart setting.digest (seen ++ contents_of_all (old ∷ states)) → AllSucceed setting old states all told end)
-  run_succeeds clear seen old [] [] end run = ([], refl, run.1, λ _ _. run.1)
-  run_succeeds clear seen old [] (answer ∷ others) end run = absurd run
-  run_succeeds clear seen old (event ∷ rest) [] end run = absurd run
-  run_succeeds clear seen old (event ∷ rest) (answer ∷ others) end run =
-      let next : State = run.0 in
+  run_succeeds : (clear : Type 0) (seen : List Bytes) (old : State) (states : List State) (all : List Event) (told : List Answer) (end : Shown)
+      → GoesThrough setting clear seen old states all told end
+      → clear → AreApart setting.digest (seen ++ contents_of_all (old ∷ states)) → AllSucceed setting old states all told end
+  run_succeeds clear seen old [] [] [] end run is_clear apart = run.1
+  run_succeeds clear seen old (next ∷ states) (event ∷ rest) (answer ∷ others) end run is_clear apart =
       let here_seen : List Bytes = contents_outside old.contents in
-      let later = run_succeeds (StillClear setting clear old (seen_with seen old next)) (seen ++ here_seen) next rest others end run.4 in (
-        next ∷ later.0,
-        (let long = later.1 in omega (arith, long)),
-        later.2,
-        λ is_clear apart.
-            let here : IsClear setting old.remembered (seen_with seen old next) =
-            inr (apart_of_fewer setting.digest (seen ++ contents_of_all (old ∷ next ∷ later.0)) (seen_with seen old next)
-            (up_to_here seen here_seen (contents_outside next.contents) (contents_of_all later.0)) apart) in (
-              step_succeeds (StillClear setting clear old) seen old next event answer (is_clear, here) run.2,
-              later.3 (is_clear, here) (apart_of_fewer setting.digest (seen ++ contents_of_all (old ∷ next ∷ later.0)) ((seen ++ here_seen) ++ contents_of_all (next ∷ later.0))
-                  (joined seen here_seen (contents_of_all (next ∷ later.0))) apart),
-            ),
+      let here : IsClear setting old.remembered (seen_with seen old next) =
+      inr (apart_of_fewer setting.digest (seen ++ contents_of_all (old ∷ next ∷ states)) (seen_with seen old next)
+      (up_to_here seen here_seen (contents_outside next.contents) (contents_of_all states)) apart) in (
+        step_succeeds (StillClear setting clear old) seen old next event answer (is_clear, here) run.1,
+        run_succeeds (StillClear setting clear old (seen_with seen old next)) (seen ++ here_seen) next states rest others end run.3 (is_clear, here)
+            (apart_of_fewer setting.digest (seen ++ contents_of_all (old ∷ next ∷ states)) ((seen ++ here_seen) ++ contents_of_all (next ∷ states))
+            (joined seen here_seen (contents_of_all (next ∷ states))) apart),
       )
+  run_succeeds clear seen old [] [] (answer ∷ others) end run is_clear apart = absurd run
+  run_succeeds clear seen old [] (event ∷ rest) [] end run is_clear apart = absurd run
+  run_succeeds clear seen old [] (event ∷ rest) (answer ∷ others) end run is_clear apart = absurd run
+  run_succeeds clear seen old (next ∷ states) [] [] end run is_clear apart = absurd run
+  run_succeeds clear seen old (next ∷ states) [] (answer ∷ others) end run is_clear apart = absurd run
+  run_succeeds clear seen old (next ∷ states) (event ∷ rest) [] end run is_clear apart = absurd run
 
 pub every : (setting : Setting) → EverySuccessIsFromScratch setting
-every setting old end all told holds remembered stands =
-    let run = run_succeeds setting ⊤ _ (state_of old remembered) all told end (holds remembered stands) in (run.0, run.1, run.2, run.3 tt)
+every setting start states all told end run apart = run_succeeds setting ⊤ _ start states all told end run tt apart

@@ -1,7 +1,7 @@
 -- Where no two contents of a run have one digest, no step of it has a premise; and success follows from what
 -- the other clauses of a build say.
-use Rattle.std.specs.Prelude.{ℕ, ◌≡◌, List, [], ◌∷◌, ◌++◌, length, ⊤}
-use Rattle.std.proofs.Common.{arith, refl, inl, inr}
+use Rattle.std.specs.Prelude.{ℕ, List, [], ◌∷◌, ◌++◌, ⊤}
+use Rattle.std.proofs.Common.{inl, inr}
 use Rattle.gb_report.specs.declared.report.Options.{Options}
 use Rattle.gb_report.specs.declared.report.TaskReport.{TaskReport}
 use Rattle.gb_meaning.proofs.Standing.{rules_of, standing, with_turn}
@@ -19,8 +19,8 @@ use Rattle.gb_meaning.specs.Label.{Moment}
 use Rattle.gb_meaning.specs.Turn.{May, Guard, Turns, Builds, moment_after}
 use Rattle.gb_meaning.specs.Edits.{Shown}
 use Rattle.gb_meaning.specs.Events.{Setting, State, Step, may_come, own_files, world_in}
-use Rattle.gb_meaning.specs.Headline.{RunHolds, IsClear, StillClear, contents_outside, seen_with, state_of}
-use Rattle.gb_meaning.specs.Every.{PlainRun, ClearRunIsPlain, AllSucceed, Headline, contents_after, contents_of_all, always}
+use Rattle.gb_meaning.specs.Headline.{GoesThrough, IsClear, StillClear, contents_outside, seen_with, state_of}
+use Rattle.gb_meaning.specs.Every.{PlainRun, ClearRunIsPlain, AllSucceed, Headline, contents_of_all, always}
 use Rattle.gb_meaning.proofs.Lemmas.Clear.{Among, apart_of_fewer, all_hold}
 use Rattle.gb_meaning.proofs.Lemmas.Every.{up_to_here, joined, step_succeeds}
 
@@ -74,38 +74,34 @@ module _ (setting : Setting) (granted : Guard) (spreads : Spreads granted) where
   step_plain seen old new (events.Invoke invocation) (answers.Refused fault) given s other = s
 
 module _ (setting : Setting) where
-  clear_spreads : (clear : Type 0) (old : State) → Spreads (StillClear setting clear old)
+  pub clear_spreads : (clear : Type 0) (old : State) → Spreads (StillClear setting clear old)
   clear_spreads clear old all some among given = (given.0, elim given.1 [ inl none ↦ inl none | inr apart ↦ inr (apart_of_fewer setting.digest all some among apart) ])
 
-  run_plain : (clear : Type 0) (seen : List Bytes) (old : State) (all : List Event) (told : List Answer) (end : Shown)
-      → RunHolds setting clear seen old all told end
-      → (states : List State) × (length states ≡ length all) × (contents_after old.contents states ≡ end.contents)
-      × (clear → AreApart setting.digest (seen ++ contents_of_all (old ∷ states)) → PlainRun setting old states all told end)
-  run_plain clear seen old [] [] end run = ([], refl, run.1, λ _ _. run)
-  run_plain clear seen old [] (answer ∷ others) end run = absurd run
-  run_plain clear seen old (event ∷ rest) [] end run = absurd run
-  run_plain clear seen old (event ∷ rest) (answer ∷ others) end run =
-      let next : State = run.0 in
+  run_plain : (clear : Type 0) (seen : List Bytes) (old : State) (states : List State) (all : List Event) (told : List Answer) (end : Shown)
+      → GoesThrough setting clear seen old states all told end
+      → clear → AreApart setting.digest (seen ++ contents_of_all (old ∷ states)) → PlainRun setting old states all told end
+  run_plain clear seen old [] [] [] end run is_clear apart = run
+  run_plain clear seen old (next ∷ states) (event ∷ rest) (answer ∷ others) end run is_clear apart =
       let here_seen : List Bytes = contents_outside old.contents in
-      let later = run_plain (StillClear setting clear old (seen_with seen old next)) (seen ++ here_seen) next rest others end run.4 in (
-        next ∷ later.0,
-        (let long = later.1 in omega (arith, long)),
-        later.2,
-        λ is_clear apart.
-            let here : IsClear setting old.remembered (seen_with seen old next) =
-            inr (apart_of_fewer setting.digest (seen ++ contents_of_all (old ∷ next ∷ later.0)) (seen_with seen old next)
-            (up_to_here seen here_seen (contents_outside next.contents) (contents_of_all later.0)) apart) in (
-              run.1,
-              step_plain setting (StillClear setting clear old) (clear_spreads clear old) seen old next event answer (is_clear, here) run.2,
-              run.3 (is_clear, here),
-              later.3 (is_clear, here) (apart_of_fewer setting.digest (seen ++ contents_of_all (old ∷ next ∷ later.0)) ((seen ++ here_seen) ++ contents_of_all (next ∷ later.0))
-                  (joined seen here_seen (contents_of_all (next ∷ later.0))) apart),
-            ),
+      let here : IsClear setting old.remembered (seen_with seen old next) =
+      inr (apart_of_fewer setting.digest (seen ++ contents_of_all (old ∷ next ∷ states)) (seen_with seen old next)
+      (up_to_here seen here_seen (contents_outside next.contents) (contents_of_all states)) apart) in (
+        run.0,
+        step_plain setting (StillClear setting clear old) (clear_spreads clear old) seen old next event answer (is_clear, here) run.1,
+        run.2 (is_clear, here),
+        run_plain (StillClear setting clear old (seen_with seen old next)) (seen ++ here_seen) next states rest others end run.3 (is_clear, here)
+            (apart_of_fewer setting.digest (seen ++ contents_of_all (old ∷ next ∷ states)) ((seen ++ here_seen) ++ contents_of_all (next ∷ states))
+            (joined seen here_seen (contents_of_all (next ∷ states))) apart),
       )
+  run_plain clear seen old [] [] (answer ∷ others) end run is_clear apart = absurd run
+  run_plain clear seen old [] (event ∷ rest) [] end run is_clear apart = absurd run
+  run_plain clear seen old [] (event ∷ rest) (answer ∷ others) end run is_clear apart = absurd run
+  run_plain clear seen old (next ∷ states) [] [] end run is_clear apart = absurd run
+  run_plain clear seen old (next ∷ states) [] (answer ∷ others) end run is_clear apart = absurd run
+  run_plain clear seen old (next ∷ states) (event ∷ rest) [] end run is_clear apart = absurd run
 
 pub plain : (setting : Setting) → ClearRunIsPlain setting
-plain setting old end all told holds remembered stands =
-    let run = run_plain setting ⊤ _ (state_of old remembered) all told end (holds remembered stands) in (run.0, run.1, run.2, run.3 tt)
+plain setting start states all told end run apart = run_plain setting ⊤ _ start states all told end run tt apart
 
 -- in a plain run each success is from scratch
 plain_succeeds : (setting : Setting) (old : State) (states : List State) (all : List Event) (told : List Answer) (end : Shown)
@@ -122,5 +118,10 @@ plain_succeeds setting old (next ∷ states) (event ∷ rest) [] end run = absur
 
 pub headline : (setting : Setting) → Headline setting
 headline setting old end all told holds remembered stands =
-    let run = plain setting old end all told holds remembered stands in
-    (run.0, run.1, run.2, λ apart. (run.3 apart, plain_succeeds setting (state_of old remembered) run.0 all told end (run.3 apart)))
+    let run = holds remembered stands in (
+      run.0,
+      run.1,
+      λ apart.
+          let is_plain = plain setting (state_of old remembered) run.0 all told end run.1 apart in
+          (is_plain, plain_succeeds setting (state_of old remembered) run.0 all told end is_plain),
+    )

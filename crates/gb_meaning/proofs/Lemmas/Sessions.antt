@@ -86,9 +86,8 @@ module _ (setting : Setting) (registers : ℕ → Registering) (may_leave : ℕ 
       let run = headline (at number) session.start session.end session.events session.answers hold.1 first.remembered found in (
         run.0,
         run.1,
-        run.2,
         λ apart.
-            let plain = run.3 apart in (
+            let plain = run.2 apart in (
               plain.0,
               plain.1,
               all_hold (suc number) session.end.contents rest hold.2 (remembered_after first.remembered run.0)
