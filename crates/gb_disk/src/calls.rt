@@ -8,13 +8,16 @@ ghost use Rattle.gb_disk.specs.Disk.{AllUnder, IsOfListing, IsOfMachine, path_in
 use crate::device::Device;
 use crate::names::in_order;
 use crate::span::Span;
-use crate::standing::Standing;
+use crate::standing::{Standing, Told};
 use crate::trail::Trail;
 use crate::walk::Found;
 use gb_core::place::Place;
 use gb_folder::folder::FolderFault;
 use std::alloc::Global;
 use std::fs::Files;
+
+/// So often is a file looked at that is another one once it is read.
+const LOOKS: u32 = 8;
 
 impl<R: Files> Device<R> {
     /// The places of the files at or beneath the root, in byte order.
@@ -30,7 +33,7 @@ impl<R: Files> Device<R> {
     {
         trail.forget_listed();
         let places = match self.look(trail, root)? {
-            Standing::File(len) => trail.list_file(alloc, root, len)?,
+            Standing::File(told) => trail.list_file(alloc, root, told)?,
             Standing::Folder => self.list_folder(alloc, trail, root)?,
             Standing::Nothing | Standing::UnderFile => Vec::new(alloc),
             Standing::Odd => return Err(FolderFault::BadFileName),
@@ -50,12 +53,11 @@ impl<R: Files> Device<R> {
     {
         let found = self.walk(alloc, trail, root)?;
         trail.remember(root.as_str())?;
-        trail.take_up(found.files.as_slice(), found.len)?;
+        trail.take_up(found.files.as_slice(), found.told)?;
         Ok(found.files)
     }
 
-    /// The bytes of a file, of which there are at most `limit`: as many as there were when it was looked at.
-    /// A file that has fewer by then is the device's failure.
+    /// The bytes of a file, of which there are at most `limit`, all from one open file.
     pub fn read(
         &self,
         alloc: Global,
@@ -68,17 +70,21 @@ impl<R: Files> Device<R> {
         ensures within { IfOk result (λ bytes. length bytes.items ≤ limit) }
         ensures not_named { result ≢ Err FolderFault.BadFileName }
     {
-        let len = self.file_len(trail, place)?;
-        if len > limit {
-            return Err(FolderFault::TooLarge);
+        for _ in 0..LOOKS {
+            let told = self.file_at(trail, place)?;
+            if told.len > limit {
+                return Err(FolderFault::TooLarge);
+            }
+            // One byte more shows that a file of which none was told is too large.
+            let span = Span::of(told.len, 0, limit.saturating_add(1));
+            if let Some(bytes) = self.bytes_of(alloc, trail.path.as_str(), &told, &span)? {
+                if bytes.len() as u64 > limit {
+                    return Err(FolderFault::TooLarge);
+                }
+                return Ok(bytes);
+            }
         }
-        // One byte more shows that a file of which none was told is too large.
-        let span = Span::of(len, 0, limit.saturating_add(1));
-        let bytes = self.bytes_found(alloc, trail, place, &span)?;
-        if bytes.len() as u64 > limit {
-            return Err(FolderFault::TooLarge);
-        }
-        Ok(bytes)
+        Err(FolderFault::Device)
     }
 
     /// The bytes of a file from `at` on: `len` of them, or fewer where the file ended when it was looked at.
@@ -96,11 +102,17 @@ impl<R: Files> Device<R> {
         ensures not_large { result ≢ Err FolderFault.TooLarge }
         ensures not_named { result ≢ Err FolderFault.BadFileName }
     {
-        let span = Span::of(self.file_len(trail, place)?, at, len);
-        if span.most == 0 {
-            return Ok(Vec::new(alloc));
+        for _ in 0..LOOKS {
+            let told = self.file_at(trail, place)?;
+            let span = Span::of(told.len, at, len);
+            if span.most == 0 {
+                return Ok(Vec::new(alloc));
+            }
+            if let Some(part) = self.bytes_of(alloc, trail.path.as_str(), &told, &span)? {
+                return Ok(part);
+            }
         }
-        self.bytes_found(alloc, trail, place, &span)
+        Err(FolderFault::Device)
     }
 
     /// Puts a file in place of what stood there.
@@ -123,13 +135,12 @@ impl<R: Files> Device<R> {
         }
         trail.forget_listed();
         match self.go_to(&mut trail.path, place, true)? {
-            Standing::Nothing => {}
-            Standing::File(_) => self.unlink(&mut trail.path, place)?,
+            Standing::Nothing | Standing::File(_) => {}
             Standing::Folder => self.clear(trail, place)?,
             Standing::Odd => return Err(FolderFault::Device),
             Standing::UnderFile => return Err(FolderFault::Blocked),
         }
-        self.put(&mut trail.path, place, bytes)
+        self.put(trail, place, bytes)
     }
 
     /// Takes a file away.
@@ -140,48 +151,23 @@ impl<R: Files> Device<R> {
         ensures not_named { result ≢ Err FolderFault.BadFileName }
     {
         trail.forget();
-        self.file_len(trail, place)?;
+        self.file_at(trail, place)?;
         self.unlink(&mut trail.path, place)
     }
 
-    /// The length of the file at a place, or why none stands there.
-    fn file_len(&self, trail: &mut Trail, place: &Place) -> Result<u64, FolderFault>
+    /// What is told of the file at a place, or why none stands there.
+    fn file_at(&self, trail: &mut Trail, place: &Place) -> Result<Told, FolderFault>
         ensures at { OnOk result
             (string_bytes trail.new.path ≡ path_in (string_bytes self.now.base) place.now) }
         ensures err { IfErr result
             (λ fault. IsOfMachine fault ⊎ (fault ≡ FolderFault.Missing) ⊎ (fault ≡ FolderFault.Blocked)) }
     {
         match self.look_once(trail, place)? {
-            Standing::File(len) => Ok(len),
+            Standing::File(told) => Ok(told),
             Standing::Folder if self.has_file(trail, place)? => Err(FolderFault::Blocked),
             Standing::Folder | Standing::Nothing => Err(FolderFault::Missing),
             Standing::Odd => Err(FolderFault::Device),
             Standing::UnderFile => Err(FolderFault::Blocked),
-        }
-    }
-
-    /// The bytes of a span of a file that was found. Where they cannot be read, what stands there by now
-    /// tells why.
-    fn bytes_found(
-        &self,
-        alloc: Global,
-        trail: &mut Trail,
-        place: &Place,
-        span: &Span,
-    ) -> Result<Vec<u8>, FolderFault>
-        ensures at { OnOk result
-            (string_bytes trail.new.path ≡ path_in (string_bytes self.now.base) place.now) }
-        ensures within { IfOk result (λ bytes. length bytes.items ≤ span.now.most) }
-        ensures enough { IfOk result (λ bytes. span.now.least ≤ length bytes.items) }
-        ensures err { IfErr result
-            (λ fault. IsOfMachine fault ⊎ (fault ≡ FolderFault.Missing) ⊎ (fault ≡ FolderFault.Blocked)) }
-    {
-        match self.bytes_of(alloc, &mut trail.path, place, span) {
-            Err(FolderFault::Device) => {
-                self.file_len(trail, place)?;
-                Err(FolderFault::Device)
-            }
-            outcome => outcome,
         }
     }
 

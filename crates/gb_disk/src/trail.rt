@@ -4,6 +4,7 @@ ghost use Rattle.std.specs.Prelude.{◌≡◌, IfOk};
 ghost use Rattle.gb_disk.specs.Disk.{AllUnder};
 
 use crate::names::alone;
+use crate::standing::Told;
 use gb_core::place::Place;
 use std::alloc::{AllocError, Global};
 
@@ -18,15 +19,21 @@ const MOST: usize = 8;
 /// was taken away or gave way to a file, forgets all and goes down from the top; each write and each removal
 /// goes down from there anyway. Not noticed, until so many other folders were met or a call fails, is a link
 /// put in place of a known folder, where it leads to a folder with a file or a folder at the rest of the
-/// place: `list`, `read` and `read_part` follow it. Nor is it noticed if a file changes its length, or gives
-/// way to another one, to a link, a pipe or a device, between a `list` that answers it alone and a `read` or
-/// `read_part` of it that comes next: what stands there is opened, and as many bytes are read as were listed,
-/// or all of them where none were. If it cannot be read, or not so many bytes of it, as where the file went,
-/// it is looked at once more.
+/// place: `list`, `read` and `read_part` follow it; and a link put in place of the tool's own folder, beneath
+/// which a file is written before it is moved to its place. Nor is it noticed if a file gives way to another
+/// one of the same length, to a link to such a one, to a pipe or a device, between a `list` that answers it
+/// alone and a `read` or `read_part` of it that comes next: what stands there is opened. If that is no file of
+/// the length that was listed, or cannot be read, it is looked at again.
 #[derive(Drop)]
 pub(crate) struct Trail {
     /// Room for the path that the next call is made at.
     pub path: String,
+    /// Room for the path of what is written aside.
+    pub aside: String,
+    /// Whether files can be written aside: the tool's own folder stands.
+    pub is_ready: bool,
+    /// Whether what a stopped build left aside was taken away.
+    pub is_swept: bool,
     /// Room for the names of a folder that is listed.
     pub names: Vec<u8>,
     /// The places at which folders stood, and above which too, the one met last at the end.
@@ -35,11 +42,11 @@ pub(crate) struct Trail {
     listed: Option<Listed>,
 }
 
-/// A file where it stood, and its length.
+/// A file where it stood, and what was told of it.
 #[derive(Drop)]
 struct Listed {
     place: Place,
-    len: u64,
+    told: Told,
 }
 
 impl Trail {
@@ -47,6 +54,9 @@ impl Trail {
     pub fn new(alloc: Global) -> Trail {
         Trail {
             path: String::new(alloc),
+            aside: String::new(alloc),
+            is_ready: false,
+            is_swept: false,
             names: Vec::new(alloc),
             known: Vec::new(alloc),
             listed: None,
@@ -101,40 +111,40 @@ impl Trail {
         Ok(self.known.push(copy)?)
     }
 
-    /// Lists a file of so many bytes by its own place, and takes that up.
+    /// Lists a file by its own place, and takes up what was told of it.
     pub fn list_file(
         &mut self,
         alloc: Global,
         place: &Place,
-        len: u64,
+        told: Told,
     ) -> Result<Vec<Place>, AllocError>
         ensures path { self.new.path ≡ self.old.path }
         ensures under { IfOk result (λ places. AllUnder place.now places.items) }
     {
         let places = alone(alloc, place)?;
-        self.take_up(places.as_slice(), len)?;
+        self.take_up(places.as_slice(), told)?;
         Ok(places)
     }
 
-    /// Takes up the file that was listed, if it was one alone, of so many bytes.
-    pub fn take_up(&mut self, files: &[Place], len: u64) -> Result<(), AllocError>
+    /// Takes up the file that was listed, if it was one alone.
+    pub fn take_up(&mut self, files: &[Place], told: Told) -> Result<(), AllocError>
         ensures { self.new.path ≡ self.old.path }
     {
         if let [place] = files {
             self.listed = Some(Listed {
                 place: place.copy()?,
-                len,
+                told,
             });
         }
         Ok(())
     }
 
-    /// The length of the file at the place, if the call before listed it. It is told once.
-    pub fn take_len(&mut self, place: &Place) -> Option<u64>
+    /// What was told of the file at the place, if the call before listed it; once.
+    pub fn take_told(&mut self, place: &Place) -> Option<Told>
         ensures { self.new.path ≡ self.old.path }
     {
         match self.listed.take() {
-            Some(file) if file.place == *place => Some(file.len),
+            Some(file) if file.place == *place => Some(file.told),
             _ => None,
         }
     }
@@ -152,5 +162,6 @@ impl Trail {
     {
         self.known.clear();
         self.listed = None;
+        self.is_ready = false;
     }
 }

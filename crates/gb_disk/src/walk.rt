@@ -5,7 +5,7 @@ ghost use Rattle.gb_disk.specs.Disk.{AllUnder, IsOfListing, IsOfMachine};
 
 use crate::device::Device;
 use crate::names::{alone, places_in};
-use crate::standing::{Standing, fault_of};
+use crate::standing::{Standing, Told, fault_of};
 use crate::trail::Trail;
 use gb_core::place::Place;
 use gb_folder::folder::FolderFault;
@@ -24,8 +24,8 @@ const NAMES: usize = 4_096;
 pub(crate) struct Found {
     /// The files met so far, by their whole places.
     pub files: Vec<Place>,
-    /// The length of the file met last.
-    pub len: u64,
+    /// What was told of the file met last.
+    pub told: Told,
     /// The root and the folders beneath it, each behind the one that it stands in.
     pub folders: Vec<Place>,
     /// How many more entries may be met.
@@ -39,7 +39,10 @@ impl Found {
     {
         Ok(Found {
             files: Vec::new(alloc),
-            len: 0,
+            told: Told {
+                len: 0,
+                changed: None,
+            },
             folders: alone(alloc, root)?,
             left: MOST_ENTRIES,
         })
@@ -69,8 +72,8 @@ impl Found {
             None => return Err(FolderFault::Device),
         }
         match standing {
-            Standing::File(len) => {
-                self.len = len;
+            Standing::File(told) => {
+                self.told = told;
                 Ok(self.files.push(place)?)
             }
             Standing::Folder => Ok(self.folders.push(place)?),

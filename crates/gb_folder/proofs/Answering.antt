@@ -1,6 +1,6 @@
 -- What was answered on a part of the way was answered on all of it.
-use Rattle.std.proofs.Common.{ℕ, inl, inr}
-use Rattle.gb_folder.specs.Answers.{ArePartsFrom, IsOnWay, WereRead, and_more, at_end}
+use Rattle.std.proofs.Common.{ℕ}
+use Rattle.gb_folder.specs.Answers.{IsOnWay, WereRead}
 use Rattle.gb_folder.specs.Calls.{Asks, Call, no_change}
 use Rattle.gb_folder.specs.Files.{Bytes, Place, Tearing}
 use Rattle.gb_folder.proofs.Asked.{asks_nothing, asks_then}
@@ -22,15 +22,7 @@ module _ {F : Type 0} {failures : F → ℕ} {may_leave : F → Tearing} {asked 
     rest = asks_then way.rest behind;
   }
 
-  pub parts_longer : {first old new end : F} → Asks failures may_leave asked no_change first old → Asks failures may_leave asked no_change new end
-      → (place : Place) (at : ℕ) (bytes : Bytes) → ArePartsFrom failures may_leave asked old new place at bytes
-      → ArePartsFrom failures may_leave asked first end place at bytes
-  parts_longer before behind place at bytes (at_end _ len _ short way) = at_end at len bytes short (on_longer_way before behind way)
-  parts_longer before behind place at _ (and_more _ len part rest way parts) =
-      and_more at len part rest (on_longer_way before behind way) (parts_longer before behind place _ rest parts)
-
   pub read_longer : {first old new end : F} → Asks failures may_leave asked no_change first old → Asks failures may_leave asked no_change new end
       → (place : Place) (bytes : Bytes) → WereRead failures may_leave asked old new place bytes
       → WereRead failures may_leave asked first end place bytes
-  read_longer before behind place bytes (inl whole) = inl (whole.0, on_longer_way before behind whole.1)
-  read_longer before behind place bytes (inr parts) = inr (parts_longer before behind place _ bytes parts)
+  read_longer before behind place bytes read = (read.0, on_longer_way before behind read.1)

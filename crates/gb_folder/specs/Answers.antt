@@ -1,6 +1,6 @@
 -- What calls answered on the way from one state of a folder to another, over any folder.
-use Rattle.std.specs.Prelude.{ℕ, ◌⊎◌, ◌+◌, ◌++◌, ◌<◌, List, length, Ok}
-use Rattle.gb_folder.specs.Calls.{Asks, Call, Lists, Reads, ReadsPart, no_change}
+use Rattle.std.specs.Prelude.{ℕ, List, Ok}
+use Rattle.gb_folder.specs.Calls.{Asks, Call, Lists, Reads, no_change}
 use Rattle.gb_folder.specs.Files.{Bytes, Place, Tearing}
 
 -- The call was asked on the way from the one folder to the other, on which no change was asked for.
@@ -12,24 +12,11 @@ pub record IsOnWay {F : Type 0} (failures : F → ℕ) (may_leave : F → Tearin
   pub is : asked before call after
   pub rest : Asks failures may_leave asked no_change after new
 
--- The bytes of a file from an offset on, as they were answered part after part: a part that is shorter than
--- was asked for is the last.
-pub data ArePartsFrom {F : Type 0} (failures : F → ℕ) (may_leave : F → Tearing)
-    (asked : F → Call → F → Type 0) (old new : F) (place : Place) : ℕ → Bytes → Type 0 where
-  at_end : (at len : ℕ) (part : Bytes) → length part < len
-      → IsOnWay failures may_leave asked (ReadsPart place at len (Ok part)) old new
-      → ArePartsFrom failures may_leave asked old new place at part
-  and_more : (at len : ℕ) (part rest : Bytes)
-      → IsOnWay failures may_leave asked (ReadsPart place at len (Ok part)) old new
-      → ArePartsFrom failures may_leave asked old new place (at + length part) rest
-      → ArePartsFrom failures may_leave asked old new place at (part ++ rest)
-
--- the bytes were answered as those of the file at the place: at once, or part after part
+-- the bytes were answered as those of the file at the place, all at once
 abbrev pub WereRead : {F : Type 0} → (F → ℕ) → (F → Tearing) → (F → Call → F → Type 0) → F → F → Place → Bytes
     → Type 0
 WereRead failures may_leave asked old new place bytes =
-    ((limit : ℕ) × IsOnWay failures may_leave asked (Reads place limit (Ok bytes)) old new)
-    ⊎ ArePartsFrom failures may_leave asked old new place 0 bytes
+    (limit : ℕ) × IsOnWay failures may_leave asked (Reads place limit (Ok bytes)) old new
 
 -- these places were answered as all at or beneath the root
 abbrev pub WereListed : {F : Type 0} → (F → ℕ) → (F → Tearing) → (F → Call → F → Type 0) → F → F → Place

@@ -1,19 +1,16 @@
--- The parts of a file and the listings of starts that were answered so far.
-use Rattle.std.proofs.Common.{◌≡◌, ◌⊎◌, ◌<◌, ◌+◌, inl, inr, ℕ, Bool, IsTrue, List, [], ◌∷◌, ◌++◌, Option, Some, None, Ok, length, take, get_or, refl, sym, ◌∙◌, ap, subst, append_assoc}
+-- The files and the listings of starts that were answered so far.
+use Rattle.std.proofs.Common.{◌≡◌, ◌<◌, ◌+◌, ℕ, List, [], ◌∷◌, ◌++◌, length, take, get_or, refl, sym, ◌∙◌, ap, subst, append_assoc}
 use Rattle.std.proofs.lemmas.List.{map-append, take_more}
 use Rattle.std.specs.List.{AllZip, flat_map, zip}
-use Rattle.sha2.specs.Hashers.{Holds256}
-use Rattle.sha2.specs.Sha256.{sha256}
-use Rattle.sha2.specs.declared.Sha256.{Sha256}
-use Rattle.gb_folder.specs.Answers.{ArePartsFrom, IsOnWay, WereListed, WereRead, and_more, at_end}
-use Rattle.gb_folder.specs.Calls.{Asks, Call, ReadsPart, no_change}
+use Rattle.gb_folder.specs.Answers.{WereListed, WereRead}
+use Rattle.gb_folder.specs.Calls.{Asks, Call, no_change}
 use Rattle.gb_folder.specs.Files.{Bytes, Files, Place, Tearing}
 use Rattle.gb_folder.specs.Limits.{max_files}
 use Rattle.gb_folder.proofs.Answering.{on_longer_way}
-use Rattle.gb_folder.proofs.Asked.{asks_nothing, asks_then}
+use Rattle.gb_folder.proofs.Asked.{asks_nothing}
 use Rattle.gb_tree.specs.Answered.{IsFileRead, IsStartListed, IsTreeRead, listed_in}
 use Rattle.gb_tree.specs.Property.{entries_in, held}
-use Rattle.gb_tree.specs.Reading.{KeepsOnly, entries_seen}
+use Rattle.gb_tree.specs.Reading.{entries_seen}
 use Rattle.gb_tree.specs.Tree.{Entries}
 use Rattle.gb_tree.specs.declared.kept.SeenFile.{SeenFile}
 use Rattle.gb_tree.specs.declared.property.Naming.{Naming}
@@ -38,72 +35,7 @@ flat_push R f (a ∷ xs) [] x y all = absurd all
 flat_push R f (a ∷ xs) (b ∷ ys) x y all =
     ap (λ more. f (a, b) ++ more) (flat_push R f xs ys x y all.1) ∙ sym (append_assoc (f (a, b)) (flat_map f (zip xs ys)) (f (x, y)))
 
--- ---- Parts of a file
-
-pub nothing_more : {X : Type 0} (xs more : List X) → more ≡ [] → xs ≡ xs ++ more
-nothing_more xs more none = sym (ap (λ ys. xs ++ ys) none ∙ with_none xs)
-
--- whatever rest is answered from the offset on, these bytes and the rest were answered from the start on
-abbrev pub AreFirst : {F : Type 0} → (F → ℕ) → (F → Tearing) → (F → Call → F → Type 0) → F → F → Place → ℕ → Bytes → Type 0
-AreFirst {F} failures may_leave asked old now place at bytes =
-    (end : F) (rest : Bytes) → Asks failures may_leave asked no_change now end → ArePartsFrom failures may_leave asked old end place at rest
-    → ArePartsFrom failures may_leave asked old end place 0 (bytes ++ rest)
-
--- the bytes up to the offset were answered: the hasher holds them, and where all is still there they were gathered
-pub record IsSoFar {F : Type 0} (failures : F → ℕ) (may_leave : F → Tearing) (asked : F → Call → F → Type 0)
-    (old now : F) (place : Place) (at : ℕ) (hasher : Sha256) (is_whole : Bool) (gathered : Bytes) : Type 0 where
-  pub bytes : Bytes
-  pub first : AreFirst failures may_leave asked old now place at bytes
-  pub hashed : Holds256 hasher bytes
-  pub whole : IsTrue is_whole → gathered ≡ bytes
-
 module _ {F : Type 0} {failures : F → ℕ} {may_leave : F → Tearing} {asked : F → Call → F → Type 0} where
-  pub none_so_far : (old : F) (place : Place) (hasher : Sha256) (is_whole : Bool) (gathered : Bytes) → Holds256 hasher [] → gathered ≡ []
-      → IsSoFar failures may_leave asked old old place 0 hasher is_whole gathered
-  none_so_far old place hasher is_whole gathered holds none = record {
-    bytes = [];
-    first = λ end rest asks parts. parts;
-    hashed = holds;
-    whole = λ _. none;
-  }
-
-  -- one part more, behind which more may follow
-  pub one_part_more : {old now new : F} (place : Place) (at next : ℕ) (hasher hashed : Sha256) (is_whole still : Bool) (gathered together part : Bytes)
-      → IsSoFar failures may_leave asked old now place at hasher is_whole gathered
-      → Asks failures may_leave asked no_change old now → Asks failures may_leave asked no_change now new
-      → IsOnWay failures may_leave asked (ReadsPart place at 65536 (Ok part)) now new → at + length part ≡ next
-      → ((bytes : Bytes) → Holds256 hasher bytes → Holds256 hashed (bytes ++ part))
-      → (IsTrue still → IsTrue is_whole) → (IsTrue still → together ≡ gathered ++ part)
-      → IsSoFar failures may_leave asked old new place next hashed still together
-  one_part_more {old = old} {new = new} place at next hasher hashed is_whole still gathered together part so_far before asks way along holds whole same = record {
-    bytes = so_far.bytes ++ part;
-    first = λ end rest behind parts.
-        subst (λ (bytes : Bytes). ArePartsFrom failures may_leave asked old end place 0 bytes) (sym (append_assoc so_far.bytes part rest))
-        (so_far.first end (part ++ rest) (asks_then asks behind)
-        (and_more at 65536 part rest (on_longer_way before behind way)
-        (subst (λ (n : ℕ). ArePartsFrom failures may_leave asked old end place n rest) (sym along) parts)));
-    hashed = holds so_far.bytes so_far.hashed;
-    whole = λ all. same all ∙ ap (λ (bytes : Bytes). bytes ++ part) (so_far.whole (whole all));
-  }
-
-  -- the last part: the bytes were read, and these are digested and kept
-  pub last_part : {old now new : F} (place : Place) (at len : ℕ) (hasher : Sha256) (is_whole : Bool) (gathered part digest : Bytes) (kept : Option Bytes)
-      → IsSoFar failures may_leave asked old now place at hasher is_whole gathered
-      → Asks failures may_leave asked no_change old now → Asks failures may_leave asked no_change now new
-      → IsOnWay failures may_leave asked (ReadsPart place at len (Ok part)) now new → length part < len
-      → ((bytes : Bytes) → Holds256 hasher bytes → digest ≡ sha256 (bytes ++ part))
-      → (kept ≡ None) ⊎ (IsTrue is_whole × (kept ≡ Some (gathered ++ part)))
-      → (bytes : Bytes) × WereRead failures may_leave asked old new place bytes × (digest ≡ sha256 bytes) × KeepsOnly bytes kept
-  last_part {old = old} {new = new} place at len hasher is_whole gathered part digest kept so_far before asks way short digests keeps = (
-    so_far.bytes ++ part,
-    inr (so_far.first new part asks (at_end at len part short (on_longer_way before (asks_nothing new) way))),
-    digests so_far.bytes so_far.hashed,
-    elim keeps [
-      | inl none ↦ inl none
-      | inr all ↦ inr (all.1 ∙ ap (λ (bytes : Bytes). Some (bytes ++ part)) (so_far.whole all.0))
-    ],
-  )
-
   -- ---- Listings of starts
 
   -- what was listed at one start more

@@ -58,7 +58,3 @@ is_none n e = grind (arith, nat_tests)
 
 pub is_some : (n : ℕ) → false ≡ (n == 0) → 0 < n
 is_some n e = grind (arith, nat_tests)
-
-pub is_nothing : (more : List ℕ) → length more ≡ 0 → more ≡ []
-is_nothing [] none = refl
-is_nothing (x ∷ more) none = absurd (omega (arith, none))

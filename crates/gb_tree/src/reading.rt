@@ -6,8 +6,8 @@ ghost use Rattle.std.specs.List.Sorted.{IsStrictlySortedBy};
 ghost use Rattle.std.specs.FinMap.Entries.{is_sorted};
 ghost use Rattle.gb_core.specs.Place.{is_under};
 ghost use Rattle.gb_core.specs.Lists.{byte_order};
-ghost use Rattle.gb_folder.specs.Answers.{IsOnWay, WereListed, WereRead};
-ghost use Rattle.gb_folder.specs.Calls.{Asks, ReadsPart, no_change};
+ghost use Rattle.gb_folder.specs.Answers.{WereListed, WereRead};
+ghost use Rattle.gb_folder.specs.Calls.{Asks, no_change};
 ghost use Rattle.gb_folder.specs.Files.{file_at, is_odd_under, places_under};
 ghost use Rattle.gb_tree.specs.Tree.{Blames, IsRefused, IsTreeFaultOfMachine, bytes_at, contents_at};
 ghost use Rattle.gb_tree.specs.Tree.{is_among, is_large, too_large};
@@ -71,6 +71,8 @@ pub(crate) fn read_file<F: Folder>(
         folder.old folder.new place.now bytes) }
     ensures read { IsTrue F.tells → IfOk result
         (λ bytes. bytes ≡ bytes_at (F.contents folder.old).files place.now) }
+    ensures stands { IsTrue F.tells → OnOk result
+        (IsSome (file_at (F.contents folder.old).files place.now)) }
     ensures small { IsTrue F.tells → OnOk result
         (is_large (F.contents folder.old).files place.now ≡ false) }
     ensures err { IsTrue F.tells → IsSome (file_at (F.contents folder.old).files place.now)
@@ -125,8 +127,6 @@ pub(crate) fn read_piece<F: Folder>(
         (F.failures folder.old) (F.failures folder.new) result }
     ensures same { IsTrue F.tells → F.contents folder.new ≡ F.contents folder.old }
     ensures within { IfOk result (λ piece. length piece.items ≤ len) }
-    ensures answered { IfOk result (λ piece. IsOnWay F.failures F.may_leave F.asked
-        (ReadsPart place.now at len (Ok piece.items)) folder.old folder.new) }
     ensures read { IsTrue F.tells → IfOk result
         (λ piece. piece.items ≡ take len (drop at (bytes_at (F.contents folder.old).files place.now))) }
     ensures stands { IsTrue F.tells → OnOk result

@@ -1,4 +1,4 @@
-//! Files are read once each, one after another: the digest of each is taken, and its bytes are kept
+//! Files are read once each, at once, one after another: the digest of each is taken, and its bytes are kept
 //! where there is room. Small files wait for one another, so that four are digested at a time.
 ghost use Rattle.std.specs.Prelude.{◌≡◌, ◌⊎◌, ◌++◌, ℕ, List, [], None, Some, false, true, map, IsTrue};
 ghost use Rattle.std.specs.Prelude.{IsSome, IfOk, IfErr, OnOk};
@@ -17,19 +17,21 @@ ghost use Rattle.sha2.specs.Sha256.{sha256};
 
 use crate::fault::TreeFault;
 use crate::kept::SeenFile;
-use crate::reading::{PIECE, PIECES, read_piece};
+use crate::reading::read_file;
 use crate::waiting::{Found, SmallFile, Waiting, add, digest_waiting};
 use gb_core::bytes::Bytes;
 use gb_core::place::{Place, RelPath};
 use gb_folder::folder::Folder;
-use gb_folder::limits::MAX_FILE;
 use sha2::{Digest, Sha256};
-use std::alloc::{AllocError, Global};
+use std::alloc::Global;
+
+/// A file of fewer bytes waits for others, to be digested with them.
+const SMALL: u64 = 65_536;
 
 /// What was read of a file.
 #[derive(Drop)]
 enum Content {
-    /// Its bytes, which are less than a piece, and whether there is room for them.
+    /// Its bytes, which are few, and whether there is room for them.
     Undigested(Bytes, bool),
     /// The digest, and the bytes where they are kept.
     Digested([u8; 32], Option<Bytes>),
@@ -44,45 +46,19 @@ fn take_room(size: u64, room: &mut u64) -> bool {
     true
 }
 
-/// Puts a piece behind what was gathered, and answers whether all is still there: it is no longer once
-/// the room does not hold it.
-fn gather(
-    alloc: Global,
-    gathered: &mut Vec<u8>,
-    is_whole: bool,
-    piece: Vec<u8>,
-    room: u64,
-) -> Result<bool, AllocError>
-    ensures whole { IfOk result (λ still. IsTrue still → IsTrue is_whole) }
-    ensures gathered { IfOk result
-        (λ still. IsTrue still → gathered.new.items ≡ gathered.old.items ++ piece.items) }
+/// Keeps bytes where the room holds them.
+fn keep(bytes: Bytes, room: &mut u64) -> Option<Bytes>
+    ensures { KeepsOnly bytes result }
 {
-    let held = gathered.len() as u64;
-    if !is_whole || room < held || room - held < piece.len() as u64 {
-        *gathered = Vec::new(alloc);
-        return Ok(false);
-    }
-    if gathered.is_empty() {
-        *gathered = piece;
-    } else {
-        gathered.extend_from_slice(piece.as_slice())?;
-    }
-    Ok(true)
-}
-
-/// Keeps bytes that are a whole file, where the room holds them.
-fn keep(bytes: Vec<u8>, is_whole: bool, room: &mut u64) -> Option<Bytes>
-    ensures { (result ≡ None) ⊎ (IsTrue is_whole × (result ≡ Some bytes.items)) }
-{
-    if is_whole && take_room(bytes.len() as u64, room) {
-        Some(Bytes::new(bytes))
+    if take_room(bytes.as_slice().len() as u64, room) {
+        Some(bytes)
     } else {
         None
     }
 }
 
-/// One file, of which each byte is read once: where it is small, its bytes, and else its digest, and its
-/// bytes where they are kept.
+/// One file, read at once, so that what is digested and kept are the bytes of one file: where it is small,
+/// its bytes, and else its digest, and its bytes where they are kept.
 fn see_bytes<F: Folder>(
     alloc: Global,
     folder: &mut F,
@@ -110,30 +86,14 @@ fn see_bytes<F: Folder>(
         ⊎ ((is_large (F.contents folder.old).files place.now ≡ true)
         × (fault ≡ TreeFault.TooLarge place.now))) }
 {
-    let mut hasher = Sha256::new();
-    let mut gathered = Vec::new(alloc);
-    let mut is_whole = true;
-    for index in 0..PIECES {
-        let piece = read_piece(alloc, folder, place, index * PIECE, PIECE)?;
-        let len = piece.len() as u64;
-        if index == 0 && len < PIECE {
-            let is_kept = take_room(len, room);
-            return Ok(Content::Undigested(Bytes::new(piece), is_kept));
-        }
-        hasher.update(piece.as_slice());
-        is_whole = gather(alloc, &mut gathered, is_whole, piece, *room)?;
-        if len < PIECE {
-            let kept = keep(gathered, is_whole, room);
-            return Ok(Content::Digested(hasher.finalize(), kept));
-        }
+    let bytes = read_file(alloc, folder, place)?;
+    let len = bytes.as_slice().len() as u64;
+    if len < SMALL {
+        let is_kept = take_room(len, room);
+        return Ok(Content::Undigested(bytes, is_kept));
     }
-    let more = read_piece(alloc, folder, place, MAX_FILE, 1)?;
-    if more.as_slice().is_empty() {
-        let kept = keep(gathered, is_whole, room);
-        Ok(Content::Digested(hasher.finalize(), kept))
-    } else {
-        Err(TreeFault::TooLarge(place.copy()?))
-    }
+    let digest = Sha256::digest(bytes.as_slice());
+    Ok(Content::Digested(digest, keep(bytes, room)))
 }
 
 /// One file as it is read.
