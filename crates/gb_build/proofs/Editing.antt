@@ -7,7 +7,8 @@ use Rattle.gb_folder.specs.declared.folder.FolderFault.TheVariants as folders
 use Rattle.gb_folder.specs.Limits.{max_file}
 use Rattle.gb_report.specs.declared.fault.Fault.{Fault}
 use Rattle.gb_report.specs.declared.fault.Fault.TheVariants as faults
-use Rattle.gb_store.specs.Changes.{IsCutShort, IsTorn, is_at, without_all}
+use Rattle.gb_folder.specs.Semantics.{IsTorn}
+use Rattle.gb_store.specs.Changes.{IsCutShort, is_at, without_all}
 use Rattle.gb_store.specs.Faults.{IsOfMachine, told_at}
 use Rattle.gb_store.proofs.Emptied.{emptied_place}
 use Rattle.gb_store.proofs.Machine.{machine_before}

@@ -1,19 +1,19 @@
-//! The bytes of a file of a disk, all from one open file.
+//! The bytes of a file on a disk, all from one open file.
 ghost use Rattle.std.specs.Prelude.{◌≤◌, length, IfOk, IfErr, IfSome};
 ghost use Rattle.gb_disk.specs.Disk.{IsOfMachine};
 
 use crate::device::Device;
 use crate::span::Span;
-use crate::standing::Told;
+use crate::standing::FileInfo;
 use gb_folder::folder::FolderFault;
 use std::alloc::Global;
 use std::fs::{self, Files, OpenFile};
 use std::io::{self, ErrorKind, Read, Seek, SeekFrom};
 
-/// A file of fewer bytes is given by one read.
+/// A file of fewer bytes is read by one call of the system.
 const SMALL: u64 = 65_536;
 
-/// Reads once, however often it is interrupted: how many bytes came.
+/// Reads once, and again only after an interruption. Answers how many bytes came.
 fn read_once<D: Read>(file: &mut D, buf: &mut [u8]) -> io::Result<usize> {
     for _ in 0..u64::MAX {
         match file.read(buf) {
@@ -26,12 +26,13 @@ fn read_once<D: Read>(file: &mut D, buf: &mut [u8]) -> io::Result<usize> {
 }
 
 impl<R: Files> Device<R> {
-    /// Adds the bytes of a span of a file, and answers whether what was opened is the file of which this was
-    /// told, also once they are read. Of a small one that is read whole, that it has no byte more shows it.
+    /// Adds the bytes of a span of a file. Answers whether the open file is still the one that `info`
+    /// describes; without `info`, whether it is a file at all. A small file that is read whole is the same
+    /// if it has no further byte.
     fn read_from(
         &self,
         path: &str,
-        told: &Told,
+        info: Option<&FileInfo>,
         span: &Span,
         bytes: &mut Vec<u8>,
     ) -> io::Result<bool> {
@@ -39,23 +40,32 @@ impl<R: Files> Device<R> {
         if span.at > 0 {
             file.seek(SeekFrom::Start(span.at))?;
         }
-        if told.len < SMALL && span.most == told.len {
-            bytes.resize(span.most as usize + 1, 0)?;
-            let read = read_once(&mut file, bytes.as_mut_slice())?;
-            bytes.truncate(read);
-            return Ok(read as u64 == told.len);
+        match info {
+            Some(info) if info.len < SMALL && span.most == info.len => {
+                bytes.resize(span.most as usize + 1, 0)?;
+                let read = read_once(&mut file, bytes.as_mut_slice())?;
+                bytes.truncate(read);
+                Ok(read as u64 == info.len)
+            }
+            Some(info) => {
+                file.by_ref().take(span.most).read_to_end(bytes)?;
+                Ok(info.is_of(&file.metadata()?))
+            }
+            None => {
+                file.by_ref().take(span.most).read_to_end(bytes)?;
+                Ok(file.metadata()?.is_file())
+            }
         }
-        file.by_ref().take(span.most).read_to_end(bytes)?;
-        Ok(told.is_of(&file.metadata()?))
     }
 
-    /// The bytes of a span of the file at a path, of which this was told; none where what stands there by now
-    /// is another file or none, is changed meanwhile, or cannot be read.
+    /// The bytes of a span of the file at a path that `info` describes. `None`: another file is there by
+    /// now, or none; it changed during the read; or it cannot be read. Without `info` the bytes are those
+    /// that one open file gives up to its end.
     pub fn bytes_of(
         &self,
         alloc: Global,
         path: &str,
-        told: &Told,
+        info: Option<&FileInfo>,
         span: &Span,
     ) -> Result<Option<Vec<u8>>, FolderFault>
         ensures within { IfOk result
@@ -65,7 +75,7 @@ impl<R: Files> Device<R> {
         ensures err { IfErr result IsOfMachine }
     {
         let mut bytes = Vec::with_capacity(alloc, span.room())?;
-        match self.read_from(path, told, span, &mut bytes) {
+        match self.read_from(path, info, span, &mut bytes) {
             Ok(true) if span.takes(bytes.len() as u64) => Ok(Some(bytes)),
             Ok(_) => Ok(None),
             Err(error) if error.kind() == ErrorKind::OutOfMemory => Err(FolderFault::OutOfMemory),

@@ -8,7 +8,7 @@ ghost use Rattle.gb_disk.specs.Disk.{AllUnder, IsOfListing, IsOfMachine, path_in
 use crate::device::Device;
 use crate::names::in_order;
 use crate::span::Span;
-use crate::standing::{Standing, Told};
+use crate::standing::{Standing, FileInfo};
 use crate::trail::Trail;
 use crate::walk::Found;
 use gb_core::place::Place;
@@ -16,8 +16,20 @@ use gb_folder::folder::FolderFault;
 use std::alloc::Global;
 use std::fs::Files;
 
-/// So often is a file looked at that is another one once it is read.
-const LOOKS: u32 = 8;
+/// How often a read looks for a file that nobody changes meanwhile. After that it takes what one open file
+/// gives, as of a log that grows all the time.
+const LOOKS: u32 = 3;
+
+/// The bytes, if there are at most `limit`.
+fn within(bytes: Vec<u8>, limit: u64) -> Result<Vec<u8>, FolderFault>
+    ensures ok { IfOk result (λ found. length found.items ≤ limit) }
+    ensures err { IfErr result (λ fault. fault ≡ FolderFault.TooLarge) }
+{
+    if bytes.len() as u64 > limit {
+        return Err(FolderFault::TooLarge);
+    }
+    Ok(bytes)
+}
 
 impl<R: Files> Device<R> {
     /// The places of the files at or beneath the root, in byte order.
@@ -33,7 +45,7 @@ impl<R: Files> Device<R> {
     {
         trail.forget_listed();
         let places = match self.look(trail, root)? {
-            Standing::File(told) => trail.list_file(alloc, root, told)?,
+            Standing::File(info) => trail.list_file(alloc, root, info)?,
             Standing::Folder => self.list_folder(alloc, trail, root)?,
             Standing::Nothing | Standing::UnderFile => Vec::new(alloc),
             Standing::Odd => return Err(FolderFault::BadFileName),
@@ -53,7 +65,7 @@ impl<R: Files> Device<R> {
     {
         let found = self.walk(alloc, trail, root)?;
         trail.remember(root.as_str())?;
-        trail.take_up(found.files.as_slice(), found.told)?;
+        trail.take_up(found.files.as_slice(), found.info)?;
         Ok(found.files)
     }
 
@@ -71,20 +83,19 @@ impl<R: Files> Device<R> {
         ensures not_named { result ≢ Err FolderFault.BadFileName }
     {
         for _ in 0..LOOKS {
-            let told = self.file_at(trail, place)?;
-            if told.len > limit {
+            let info = self.file_at(trail, place)?;
+            if info.len > limit {
                 return Err(FolderFault::TooLarge);
             }
-            // One byte more shows that a file of which none was told is too large.
-            let span = Span::of(told.len, 0, limit.saturating_add(1));
-            if let Some(bytes) = self.bytes_of(alloc, trail.path.as_str(), &told, &span)? {
-                if bytes.len() as u64 > limit {
-                    return Err(FolderFault::TooLarge);
-                }
-                return Ok(bytes);
+            // One byte more shows that a file whose length is not known is too large.
+            let span = Span::of(info.len, 0, limit.saturating_add(1));
+            let found = self.bytes_of(alloc, trail.path.as_str(), Some(&info), &span)?;
+            if let Some(bytes) = found {
+                return within(bytes, limit);
             }
         }
-        Err(FolderFault::Device)
+        let span = Span::of(0, 0, limit.saturating_add(1));
+        within(self.bytes_now(alloc, trail, place, &span)?, limit)
     }
 
     /// The bytes of a file from `at` on: `len` of them, or fewer where the file ended when it was looked at.
@@ -103,16 +114,38 @@ impl<R: Files> Device<R> {
         ensures not_named { result ≢ Err FolderFault.BadFileName }
     {
         for _ in 0..LOOKS {
-            let told = self.file_at(trail, place)?;
-            let span = Span::of(told.len, at, len);
+            let info = self.file_at(trail, place)?;
+            let span = Span::of(info.len, at, len);
             if span.most == 0 {
                 return Ok(Vec::new(alloc));
             }
-            if let Some(part) = self.bytes_of(alloc, trail.path.as_str(), &told, &span)? {
+            let found = self.bytes_of(alloc, trail.path.as_str(), Some(&info), &span)?;
+            if let Some(part) = found {
                 return Ok(part);
             }
         }
-        Err(FolderFault::Device)
+        self.bytes_now(alloc, trail, place, &Span::of(0, at, len))
+    }
+
+    /// The bytes of a span that one open file gives up to its end, whoever writes to it.
+    fn bytes_now(
+        &self,
+        alloc: Global,
+        trail: &mut Trail,
+        place: &Place,
+        span: &Span,
+    ) -> Result<Vec<u8>, FolderFault>
+        ensures at { OnOk result
+            (string_bytes trail.new.path ≡ path_in (string_bytes self.now.base) place.now) }
+        ensures within { IfOk result (λ bytes. length bytes.items ≤ span.now.most) }
+        ensures err { IfErr result
+            (λ fault. IsOfMachine fault ⊎ (fault ≡ FolderFault.Missing) ⊎ (fault ≡ FolderFault.Blocked)) }
+    {
+        self.file_at(trail, place)?;
+        match self.bytes_of(alloc, trail.path.as_str(), None, span)? {
+            Some(bytes) => Ok(bytes),
+            None => Err(FolderFault::Device),
+        }
     }
 
     /// Puts a file in place of what stood there.
@@ -155,15 +188,15 @@ impl<R: Files> Device<R> {
         self.unlink(&mut trail.path, place)
     }
 
-    /// What is told of the file at a place, or why none stands there.
-    fn file_at(&self, trail: &mut Trail, place: &Place) -> Result<Told, FolderFault>
+    /// The length and the time of the file at a place, or why there is none.
+    fn file_at(&self, trail: &mut Trail, place: &Place) -> Result<FileInfo, FolderFault>
         ensures at { OnOk result
             (string_bytes trail.new.path ≡ path_in (string_bytes self.now.base) place.now) }
         ensures err { IfErr result
             (λ fault. IsOfMachine fault ⊎ (fault ≡ FolderFault.Missing) ⊎ (fault ≡ FolderFault.Blocked)) }
     {
         match self.look_once(trail, place)? {
-            Standing::File(told) => Ok(told),
+            Standing::File(info) => Ok(info),
             Standing::Folder if self.has_file(trail, place)? => Err(FolderFault::Blocked),
             Standing::Folder | Standing::Nothing => Err(FolderFault::Missing),
             Standing::Odd => Err(FolderFault::Device),

@@ -1,58 +1,74 @@
-//! A file is written beneath the tool's own folder first, and then moved to its place in one step.
-ghost use Rattle.std.specs.Prelude.{◌≡◌, IfOk, IfErr, IsTrue, OnOk, string_bytes};
+//! A file is written under a name of its own beneath `.gb/new`, and then renamed to its place.
+ghost use Rattle.std.specs.Prelude.{◌≡◌, ℕ, List, IfOk, IfErr, IsTrue, OnOk, string_bytes};
 ghost use Rattle.gb_disk.specs.Disk.{IsOfMachine, aside, path_in};
 
 use crate::device::Device;
-use crate::path::lead_to;
+use crate::path::{go_down, lead_to};
 use crate::standing::{Standing, fault_of, standing_at};
 use crate::trail::Trail;
 use gb_core::place::Place;
 use gb_folder::folder::FolderFault;
+use itoa::Buffer;
+use std::alloc::AllocError;
 use std::fs::{File, Files};
+use std::hash::{DefaultHasher, Hasher};
 use std::io::{ErrorKind, Write};
 
 /// The tool's own folder.
 const OWN: &str = ".gb";
 
-/// The name under which a file is written before it is moved to its place.
+/// The folder of files that are not complete yet.
 const ASIDE: &str = ".gb/new";
 
+/// Makes the path that of the file beneath `.gb/new` in which the bytes of a place are written first. Its
+/// name is a hash of the place, so that two builds that no lock keeps apart, as on NFS, never rename each
+/// other's bytes to the wrong place.
+fn lead_aside(path: &mut String, base: &str, place: &Place) -> Result<(), AllocError>
+    ensures { OnOk result
+        ((name : List ℕ) × (string_bytes path.new ≡ path_in (path_in base.now aside) name)) }
+{
+    let mut hasher = DefaultHasher::new();
+    hasher.write(place.as_str().as_bytes());
+    lead_to(path, base, ASIDE)?;
+    go_down(path, Buffer::new().format(hasher.finish()))
+}
+
 impl<R: Files> Device<R> {
-    /// Puts a file at a place where nothing or a file stands. Whoever reads it sees what stood there or all of
-    /// the new one, if it can be written aside.
+    /// Puts a file at a place where nothing or a file exists. Whoever reads the place sees the old file or
+    /// all of the new one, except where no rename can be had: there the old file is removed first.
     pub fn put(&self, trail: &mut Trail, place: &Place, bytes: &[u8]) -> Result<(), FolderFault>
         ensures at { OnOk result
             (string_bytes trail.new.path ≡ path_in (string_bytes self.now.base) place.now) }
         ensures err { IfErr result IsOfMachine }
     {
-        if self.put_aside(trail, bytes)? && self.move_to(trail, place)? {
+        if self.put_aside(trail, place, bytes)? && self.move_to(trail, place)? {
             return Ok(());
         }
         trail.is_ready = false;
         self.put_there(&mut trail.path, place, bytes)
     }
 
-    /// Writes a file aside, and answers whether it could be: not if the tool's own folder is none, or if
-    /// somebody else has put something at the name.
-    fn put_aside(&self, trail: &mut Trail, bytes: &[u8]) -> Result<bool, FolderFault>
-        ensures at { IfOk result (λ is_put. IsTrue is_put
-            → string_bytes trail.new.aside ≡ path_in (string_bytes self.now.base) aside) }
+    /// Writes the bytes of a place beneath `.gb/new`. `false`: that folder cannot be had, or something is at
+    /// the name already.
+    fn put_aside(
+        &self,
+        trail: &mut Trail,
+        place: &Place,
+        bytes: &[u8],
+    ) -> Result<bool, FolderFault>
+        ensures at { IfOk result (λ is_put. IsTrue is_put → (name : List ℕ)
+            × (string_bytes trail.new.aside ≡ path_in (path_in (string_bytes self.now.base) aside) name)) }
         ensures err { IfErr result IsOfMachine }
     {
-        if !trail.is_ready && !self.has_own(&mut trail.aside)? {
+        if !self.make_ready(trail)? {
             return Ok(false);
         }
-        trail.is_ready = true;
-        lead_to(&mut trail.aside, self.base.as_str(), ASIDE)?;
-        if !trail.is_swept {
-            self.sweep(trail.aside.as_str())?;
-            trail.is_swept = true;
-        }
+        lead_aside(&mut trail.aside, self.base.as_str(), place)?;
         match File::create_new(&self.rt, trail.aside.as_str()) {
             Ok(mut file) => match file.write_all(bytes) {
                 Ok(()) => Ok(true),
                 Err(error) => {
-                    self.let_go(trail.aside.as_str());
+                    self.discard(trail.aside.as_str());
                     Err(fault_of(&error))
                 }
             },
@@ -63,11 +79,33 @@ impl<R: Files> Device<R> {
         }
     }
 
-    /// Whether the tool's own folder stands, or could be made.
-    fn has_own(&self, path: &mut String) -> Result<bool, FolderFault>
+    /// Whether `.gb/new` is a folder by now. The first write of a session also removes what a stopped build
+    /// left there.
+    fn make_ready(&self, trail: &mut Trail) -> Result<bool, FolderFault>
         ensures { IfErr result IsOfMachine }
     {
-        lead_to(path, self.base.as_str(), OWN)?;
+        if trail.is_ready {
+            return Ok(true);
+        }
+        if !self.has_folder(&mut trail.aside, OWN)? {
+            return Ok(false);
+        }
+        if !trail.is_swept {
+            lead_to(&mut trail.aside, self.base.as_str(), ASIDE)?;
+            let _ = self
+                .rt
+                .remove_dir_all(self.allocator(), trail.aside.as_str());
+            trail.is_swept = true;
+        }
+        trail.is_ready = self.has_folder(&mut trail.aside, ASIDE)?;
+        Ok(trail.is_ready)
+    }
+
+    /// Whether a folder of the tool's own exists, or could be made. A link to a folder is none.
+    fn has_folder(&self, path: &mut String, folder: &str) -> Result<bool, FolderFault>
+        ensures { IfErr result IsOfMachine }
+    {
+        lead_to(path, self.base.as_str(), folder)?;
         match standing_at(&self.rt, path.as_str())? {
             Standing::Folder => Ok(true),
             Standing::Nothing => Ok(self.rt.create_dir(path.as_str()).is_ok()),
@@ -75,18 +113,8 @@ impl<R: Files> Device<R> {
         }
     }
 
-    /// Takes away what a stopped build left aside.
-    fn sweep(&self, path: &str) -> Result<(), FolderFault>
-        ensures { IfErr result IsOfMachine }
-    {
-        if let Standing::File(_) = standing_at(&self.rt, path)? {
-            self.let_go(path);
-        }
-        Ok(())
-    }
-
-    /// Moves what was written aside to a place, and answers whether it could be: not from one file system to
-    /// another, nor if somebody else took it away.
+    /// Renames what was written beneath `.gb/new` to its place. `false`: the place is on another file system,
+    /// or somebody removed what was written.
     fn move_to(&self, trail: &mut Trail, place: &Place) -> Result<bool, FolderFault>
         ensures at { OnOk result
             (string_bytes trail.new.path ≡ path_in (string_bytes self.now.base) place.now) }
@@ -96,7 +124,7 @@ impl<R: Files> Device<R> {
         match self.rt.rename(trail.aside.as_str(), trail.path.as_str()) {
             Ok(()) => Ok(true),
             Err(error) => {
-                self.let_go(trail.aside.as_str());
+                self.discard(trail.aside.as_str());
                 match error.kind() {
                     ErrorKind::CrossesDevices | ErrorKind::NotFound => Ok(false),
                     _ => Err(fault_of(&error)),
@@ -105,12 +133,12 @@ impl<R: Files> Device<R> {
         }
     }
 
-    /// Takes away what was written aside. If it cannot be, the next build that writes does.
-    fn let_go(&self, path: &str) {
+    /// Removes what was written beneath `.gb/new`. If that fails, the next build that writes removes it.
+    fn discard(&self, path: &str) {
         let _ = self.rt.remove_file(path);
     }
 
-    /// Makes a file at its place, where a file that stands there is taken away first.
+    /// Makes a file at its place, and removes a file that is there first.
     fn put_there(&self, path: &mut String, place: &Place, bytes: &[u8]) -> Result<(), FolderFault>
         ensures at { OnOk result (string_bytes path.new ≡ path_in (string_bytes self.now.base) place.now) }
         ensures err { IfErr result IsOfMachine }

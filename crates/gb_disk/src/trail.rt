@@ -4,7 +4,7 @@ ghost use Rattle.std.specs.Prelude.{◌≡◌, IfOk};
 ghost use Rattle.gb_disk.specs.Disk.{AllUnder};
 
 use crate::names::alone;
-use crate::standing::Told;
+use crate::standing::FileInfo;
 use gb_core::place::Place;
 use std::alloc::{AllocError, Global};
 
@@ -28,11 +28,11 @@ const MOST: usize = 8;
 pub(crate) struct Trail {
     /// Room for the path that the next call is made at.
     pub path: String,
-    /// Room for the path of what is written aside.
+    /// Room for the path beneath `.gb/new` of a file that is not complete yet.
     pub aside: String,
-    /// Whether files can be written aside: the tool's own folder stands.
+    /// Whether `.gb/new` is known to be a folder.
     pub is_ready: bool,
-    /// Whether what a stopped build left aside was taken away.
+    /// Whether what a stopped build left beneath `.gb/new` was removed.
     pub is_swept: bool,
     /// Room for the names of a folder that is listed.
     pub names: Vec<u8>,
@@ -46,7 +46,7 @@ pub(crate) struct Trail {
 #[derive(Drop)]
 struct Listed {
     place: Place,
-    told: Told,
+    info: FileInfo,
 }
 
 impl Trail {
@@ -116,35 +116,35 @@ impl Trail {
         &mut self,
         alloc: Global,
         place: &Place,
-        told: Told,
+        info: FileInfo,
     ) -> Result<Vec<Place>, AllocError>
         ensures path { self.new.path ≡ self.old.path }
         ensures under { IfOk result (λ places. AllUnder place.now places.items) }
     {
         let places = alone(alloc, place)?;
-        self.take_up(places.as_slice(), told)?;
+        self.take_up(places.as_slice(), info)?;
         Ok(places)
     }
 
     /// Takes up the file that was listed, if it was one alone.
-    pub fn take_up(&mut self, files: &[Place], told: Told) -> Result<(), AllocError>
+    pub fn take_up(&mut self, files: &[Place], info: FileInfo) -> Result<(), AllocError>
         ensures { self.new.path ≡ self.old.path }
     {
         if let [place] = files {
             self.listed = Some(Listed {
                 place: place.copy()?,
-                told,
+                info,
             });
         }
         Ok(())
     }
 
     /// What was told of the file at the place, if the call before listed it; once.
-    pub fn take_told(&mut self, place: &Place) -> Option<Told>
+    pub fn take_listed(&mut self, place: &Place) -> Option<FileInfo>
         ensures { self.new.path ≡ self.old.path }
     {
         match self.listed.take() {
-            Some(file) if file.place == *place => Some(file.told),
+            Some(file) if file.place == *place => Some(file.info),
             _ => None,
         }
     }

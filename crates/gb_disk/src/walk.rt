@@ -5,7 +5,7 @@ ghost use Rattle.gb_disk.specs.Disk.{AllUnder, IsOfListing, IsOfMachine};
 
 use crate::device::Device;
 use crate::names::{alone, places_in};
-use crate::standing::{Standing, Told, fault_of};
+use crate::standing::{Standing, FileInfo, fault_of};
 use crate::trail::Trail;
 use gb_core::place::Place;
 use gb_folder::folder::FolderFault;
@@ -24,8 +24,8 @@ const NAMES: usize = 4_096;
 pub(crate) struct Found {
     /// The files met so far, by their whole places.
     pub files: Vec<Place>,
-    /// What was told of the file met last.
-    pub told: Told,
+    /// The length and the time of the file met last.
+    pub info: FileInfo,
     /// The root and the folders beneath it, each behind the one that it stands in.
     pub folders: Vec<Place>,
     /// How many more entries may be met.
@@ -39,7 +39,7 @@ impl Found {
     {
         Ok(Found {
             files: Vec::new(alloc),
-            told: Told {
+            info: FileInfo {
                 len: 0,
                 changed: None,
             },
@@ -72,14 +72,14 @@ impl Found {
             None => return Err(FolderFault::Device),
         }
         match standing {
-            Standing::File(told) => {
-                self.told = told;
+            Standing::File(info) => {
+                self.info = info;
                 Ok(self.files.push(place)?)
             }
             Standing::Folder => Ok(self.folders.push(place)?),
             Standing::Odd => Err(FolderFault::BadFileName),
-            // It went while its folder was listed.
-            Standing::Nothing | Standing::UnderFile => Err(FolderFault::Device),
+            // Somebody removed it while its folder was listed.
+            Standing::Nothing | Standing::UnderFile => Ok(()),
         }
     }
 }
@@ -152,7 +152,9 @@ impl<R: Files> Device<R> {
         ensures folders { AllUnder root.now found.new.folders.items }
         ensures err { IfErr result IsOfListing }
     {
-        let mut dir = self.open_folder(path, folder)?;
+        let Some(mut dir) = self.open_folder(path, folder)? else {
+            return Ok(());
+        };
         for _ in 0..u64::MAX {
             let read = next_names(&mut dir, names)?;
             if read == 0 {

@@ -1,5 +1,8 @@
 pub mod Files
 pub mod Calls
+pub mod Semantics
+pub mod Device
+pub mod Each
 pub mod Answers
 pub mod FileTree
 pub mod Faults

@@ -110,6 +110,7 @@ impl<F: Folder + Drop> FaultyFolder<F> {
 impl<F: Folder + Drop> Folder for FaultyFolder<F> {
     ghost use Rattle.gb_folder.specs.Calls.{fault_of};
     ghost use Rattle.gb_folder.specs.Faulty.{CallOf, failures_in_all, may_leave_by};
+    ghost use Rattle.gb_folder.specs.Device.{device_of};
 
     ghost failures = { λ f. failures_in_all (F.failures f.inner) f.plan.failed };
 
@@ -122,9 +123,18 @@ impl<F: Folder + Drop> Folder for FaultyFolder<F> {
     ghost asked = { λ old call new. CallOf old.plan (fault_of call) new.plan
         (new.inner ≡ old.inner) (F.asked old.inner call new.inner) };
 
+    ghost device = { device_of (λ f. failures_in_all (F.failures f.inner) f.plan.failed)
+        (λ f. may_leave_by f.plan.mode (F.may_leave f.inner))
+        (λ old call new. CallOf old.plan (fault_of call) new.plan (new.inner ≡ old.inner)
+        (F.asked old.inner call new.inner)) F.tells (λ f. F.contents f.inner) };
+
     ghost sound = { λ f. F.sound f.inner };
 
     ghost placed = { λ f. F.placed f.inner };
+
+    ghost called = { λ _ _ _ is. is };
+
+    ghost said = { λ _ _ _ is. is };
 
     fn list(&mut self, alloc: Global, root: &Place) -> Result<Vec<Place>, FolderFault> {
         if self.plan.fails() {

@@ -13,9 +13,11 @@
 //! exists where a file stands beneath it, and a large file is read in parts.
 #![tactic(auto)]
 
+pub mod calls;
 pub mod faulty;
 pub mod file_map;
 pub mod folder;
+pub mod laws;
 pub mod limits;
 pub mod memory;
 pub mod noted;

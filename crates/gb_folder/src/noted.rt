@@ -64,6 +64,7 @@ fn note_of(place: &Place, next: Option<Bytes>) -> Result<Note, AllocError>
 
 impl<F: Folder + Drop> Folder for NotedFolder<F> {
     ghost use Rattle.gb_folder.specs.Noted.{IsNoted};
+    ghost use Rattle.gb_folder.specs.Device.{device_of};
 
     ghost failures = { λ f. F.failures f.inner };
 
@@ -76,9 +77,17 @@ impl<F: Folder + Drop> Folder for NotedFolder<F> {
     ghost asked = { λ old call new. IsNoted call old.notes.items new.notes.items
         (new.inner ≡ old.inner) (F.asked old.inner call new.inner) };
 
+    ghost device = { device_of (λ f. F.failures f.inner) (λ f. F.may_leave f.inner)
+        (λ old call new. IsNoted call old.notes.items new.notes.items (new.inner ≡ old.inner)
+        (F.asked old.inner call new.inner)) F.tells (λ f. F.contents f.inner) };
+
     ghost sound = { λ f. F.sound f.inner };
 
     ghost placed = { λ f. F.placed f.inner };
+
+    ghost called = { λ _ _ _ is. is };
+
+    ghost said = { λ _ _ _ is. is };
 
     fn list(&mut self, alloc: Global, root: &Place) -> Result<Vec<Place>, FolderFault> {
         self.inner.list(alloc, root)

@@ -16,7 +16,7 @@ use Rattle.gb_history.specs.Places.{record_place}
 use Rattle.gb_meaning.specs.Events.{max_record}
 use Rattle.gb_meaning.specs.Memory.{Entry, Memory, recalled, remember, forget}
 use Rattle.gb_meaning.specs.TrueRecord.{Stores}
-use Rattle.gb_store.specs.Changes.{IsTorn}
+use Rattle.gb_folder.specs.Semantics.{IsTorn}
 use Rattle.gb_records.specs.Said.{IsText}
 use Rattle.gb_records.specs.declared.fault.Unwritten.{Unwritten}
 use Rattle.gb_records.specs.declared.fault.Unwritten.TheVariants as unwritten

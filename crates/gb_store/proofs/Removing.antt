@@ -7,7 +7,8 @@ use Rattle.gb_folder.specs.declared.folder.FolderFault.{FolderFault}
 use Rattle.gb_folder.specs.declared.folder.FolderFault.TheVariants as folders
 use Rattle.gb_report.specs.declared.fault.Fault.{Fault}
 use Rattle.gb_report.specs.declared.fault.Fault.TheVariants as faults
-use Rattle.gb_store.specs.Changes.{ChangesOnly, IsCutShort, IsHindered, IsTorn, without_all}
+use Rattle.gb_folder.specs.Semantics.{IsTorn}
+use Rattle.gb_store.specs.Changes.{ChangesOnly, IsCutShort, IsHindered, without_all}
 use Rattle.gb_store.specs.Faults.{told_at}
 use Rattle.gb_store.proofs.Loops.{step_here}
 use Rattle.gb_store.proofs.Machine.{changes_chain, changes_none, changes_without}

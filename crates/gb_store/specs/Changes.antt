@@ -2,8 +2,8 @@
 use Rattle.std.specs.Prelude.{◌≡◌, ◌⊎◌, ◌++◌, Bool, List, ◌∷◌, map, Option, None, bytes_eq, fold}
 use Rattle.std.specs.Borrow.{Bor}
 use Rattle.std.specs.List.{list_any}
-use Rattle.gb_folder.specs.Files.{Place, Bytes, Files, Contents, DiffersOnlyAt, Tearing}
-use Rattle.gb_folder.specs.Files.{file_at, with_left, without}
+use Rattle.gb_folder.specs.Files.{Place, Bytes, Files, Contents, DiffersOnlyAt, Tearing, without}
+use Rattle.gb_folder.specs.Semantics.{IsTorn}
 use Rattle.gb_report.specs.declared.fault.Fault.{Fault}
 use Rattle.gb_report.specs.declared.fault.Fault.TheVariants as faults
 
@@ -23,12 +23,6 @@ pub record ChangesOnly (test : Place → Bool) (old new : Contents) : Type 0 whe
 -- the folder without the files at these places
 abbrev pub without_all : Contents → List Place → Contents
 without_all folder places = record folder { files = fold without folder.files places }
-
--- A write or a removal was stopped at a place: there stands what the device may leave.
-abbrev pub IsTorn : Tearing → Place → Option Bytes → Contents → Contents → Type 0
-IsTorn may_leave place next old new =
-    (left : Option Bytes) × may_leave place (file_at old.files place) next left
-    × (new ≡ record old { files = with_left old.files place left })
 
 -- A write or a removal at a place came to nothing: memory ran out and nothing changed,
 -- or the device stopped it.

@@ -1,0 +1,76 @@
+-- Calls one after another, and what follows from them: of any folder, and of one that tells what it holds.
+use Rattle.std.specs.Prelude.{◌≡◌, ◌≤◌, ◌++◌, List, [], ◌∷◌, Option, Some, None, Ok, Err, IsTrue}
+use Rattle.std.specs.List.{AllByRecursion}
+use Rattle.std.proofs.Common.{refl, sym, subst, arith}
+use Rattle.gb_folder.specs.Calls.{Asks, Call, IsPermitted, Lists, Permit, Reads, ReadsPart, Removes, Writes}
+use Rattle.gb_folder.specs.Device.{Device, IsCalled, Leads}
+use Rattle.gb_folder.specs.Files.{Bytes, Contents, IsFolder, Place, SameTearing, Tearing}
+use Rattle.gb_folder.specs.Semantics.{Answers, AnswersAll, IsTorn}
+use Rattle.gb_folder.specs.declared.folder.FolderFault.TheVariants as folders
+use Rattle.gb_folder.proofs.Asked.{asks_nothing, asks_then, one_call}
+use Rattle.gb_folder.proofs.Changes.{SameTearing-same, SameTearing-chain}
+
+-- ---- over any folder
+
+module _ {F : Type 0} (device : Device F) where
+  pub leads_on : (old mid new : F) (first second : List Call) → Leads device old first mid → Leads device mid second new → Leads device old (first ++ second) new
+  leads_on old mid new [] second same more = subst (λ (f : F). Leads device f second new) same more
+  leads_on old mid new (call ∷ first) second led more = (led.0, led.1, leads_on led.0 mid new first second led.2 more)
+
+  pub leads_once : (old new : F) (call : Call) → IsCalled device old call new → Leads device old (call ∷ []) new
+  leads_once old new call called = (new, called, refl)
+
+  pub asks_of : (permit : Permit) (old new : F) (calls : List Call) → AllByRecursion (IsPermitted permit) calls → Leads device old calls new → Asks device.failures device.may_leave device.asked permit old new
+  asks_of permit old new [] all same = subst (λ (f : F). Asks device.failures device.may_leave device.asked permit old f) (sym same) (asks_nothing old)
+  asks_of permit old new (call ∷ calls) all led = asks_then (one_call call all.0 led.1.count led.1.tearing led.1.asked) (asks_of permit led.0 new calls all.1 led.2)
+
+  pub count_of : (old new : F) (calls : List Call) → Leads device old calls new → device.failures old ≤ device.failures new
+  count_of old new [] same = subst (λ (f : F). device.failures old ≤ device.failures f) (sym same) (omega arith)
+  count_of old new (call ∷ calls) led = omega (arith, led.1.count, count_of led.0 new calls led.2)
+
+-- what each call says of one device it says of another
+pub leads_as : {F : Type 0} (first second : Device F) → ((old : F) (call : Call) (new : F) → IsCalled first old call new → IsCalled second old call new)
+    → (old new : F) (calls : List Call) → Leads first old calls new → Leads second old calls new
+leads_as first second same_call old new [] same = same
+leads_as first second same_call old new (call ∷ calls) led = (led.0, same_call old call led.0 led.1, leads_as first second same_call led.0 new calls led.2)
+
+-- ---- what a stopped call may leave
+
+torn_before : (first second : Tearing) → SameTearing first second → (place : Place) (next : Option Bytes) (old new : Contents) → IsTorn second place next old new → IsTorn first place next old new
+torn_before first second same place next old new torn = (torn.0, (same place _ next torn.0).0 torn.1, torn.2)
+
+answers_before : (first second : Tearing) → SameTearing first second → (old new : Contents) (call : Call) → Answers second old call new → Answers first old call new
+answers_before first second same old new (Lists root answer) is = is
+answers_before first second same old new (Reads place limit answer) is = is
+answers_before first second same old new (ReadsPart place at len answer) is = is
+answers_before first second same old new (Writes place bytes limit (Ok done)) is = is
+answers_before first second same old new (Writes place bytes limit (Err folders.OutOfMemory)) is = is
+answers_before first second same old new (Writes place bytes limit (Err folders.Device)) is = torn_before first second same place (Some bytes) old new is
+answers_before first second same old new (Writes place bytes limit (Err folders.Missing)) is = is
+answers_before first second same old new (Writes place bytes limit (Err folders.Blocked)) is = is
+answers_before first second same old new (Writes place bytes limit (Err folders.TooLarge)) is = is
+answers_before first second same old new (Writes place bytes limit (Err folders.BadFileName)) is = is
+answers_before first second same old new (Removes place (Ok done)) is = is
+answers_before first second same old new (Removes place (Err folders.OutOfMemory)) is = is
+answers_before first second same old new (Removes place (Err folders.Device)) is = torn_before first second same place None old new is
+answers_before first second same old new (Removes place (Err folders.Missing)) is = is
+answers_before first second same old new (Removes place (Err folders.Blocked)) is = is
+answers_before first second same old new (Removes place (Err folders.TooLarge)) is = is
+answers_before first second same old new (Removes place (Err folders.BadFileName)) is = is
+
+-- ---- over a folder that tells
+
+module _ {F : Type 0} (device : Device F) (tells : IsTrue device.tells) (sound : (f : F) → IsFolder (device.contents f).files) where
+  answered_from : (first : Tearing) (old new : F) (calls : List Call) → SameTearing first (device.may_leave old) → Leads device old calls new → AnswersAll first (device.contents old) calls (device.contents new)
+  answered_from first old new [] same led = subst (λ (f : F). device.contents f ≡ device.contents old) (sym led) refl
+  answered_from first old new (call ∷ calls) same led = (
+    sound old,
+    (
+      device.contents led.0,
+      answers_before first (device.may_leave old) same (device.contents old) (device.contents led.0) call (led.1.exact tells),
+      answered_from first led.0 new calls (SameTearing-chain _ _ _ same led.1.tearing) led.2,
+    ),
+  )
+
+  pub answered_all : (old new : F) (calls : List Call) → Leads device old calls new → AnswersAll (device.may_leave old) (device.contents old) calls (device.contents new)
+  answered_all old new calls led = answered_from (device.may_leave old) old new calls (SameTearing-same _) led

@@ -1,0 +1,17 @@
+use Rattle.gb_folder.specs.Calls.{Reads, answered}
+use Rattle.gb_folder.proofs.Exact.{reads_well, row_failed, was_read}
+use Rattle.gb_folder.proofs.calls.read.Goals as goal
+
+pub returns : goal.returns
+returns g c =
+    let F = g.F.Folder in
+    let place = c.args.place.now in
+    let said = c.read.ensures in
+    g.met.F.Folder.called c.args.folder.now (Reads place c.args.limit (answered c.read.result)) c.read.new.self (record {
+      asked = said.call;
+      well = reads_well c.args.limit c.read.result said.within said.not_named;
+      count = said.asks.count;
+      tearing = said.asks.tearing;
+      risen = λ is. said.device (row_failed c.read.result is);
+      exact = λ tells. (was_read (F.contents c.args.folder.now) place c.args.limit c.read.result said.not_named (said.missing tells) (said.missing_free tells) (said.blocked tells) said.within (said.found tells) (said.large tells), said.same tells);
+    })

@@ -1,0 +1,19 @@
+use Rattle.gb_folder.specs.Calls.{Removes}
+use Rattle.gb_folder.proofs.Exact.{change_failed, removed, removes_well}
+use Rattle.gb_folder.proofs.calls.remove.Goals as goal
+
+pub returns : goal.returns
+returns g c =
+    let F = g.F.Folder in
+    let old = c.args.folder.now in
+    let place = c.args.place.now in
+    let said = c.remove.ensures in
+    g.met.F.Folder.called old (Removes place c.remove.result) c.remove.new.self (record {
+      asked = said.call;
+      well = removes_well c.remove.result said.not_large said.not_named;
+      count = said.asks.count;
+      tearing = said.asks.tearing;
+      risen = λ is. said.device (change_failed c.remove.result is);
+      exact = λ tells. removed (F.may_leave old) (F.contents old) place c.remove.result (F.contents c.remove.new.self)
+          said.not_large said.not_named (said.removed tells) (said.stood tells) (said.missing tells) (said.missing_free tells) (said.blocked tells) (said.same tells) (said.torn tells);
+    })

@@ -1,0 +1,20 @@
+use Rattle.gb_folder.specs.Calls.{Writes}
+use Rattle.gb_folder.proofs.Exact.{change_failed, writes_well, wrote}
+use Rattle.gb_folder.proofs.calls.write.Goals as goal
+
+pub returns : goal.returns
+returns g c =
+    let F = g.F.Folder in
+    let old = c.args.folder.now in
+    let place = c.args.place.now in
+    let bytes = c.args.bytes.now in
+    let said = c.write.ensures in
+    g.met.F.Folder.called old (Writes place bytes c.args.limit c.write.result) c.write.new.self (record {
+      asked = said.call;
+      well = writes_well bytes c.args.limit c.write.result said.within said.large said.not_missing said.not_named;
+      count = said.asks.count;
+      tearing = said.asks.tearing;
+      risen = λ is. said.device (change_failed c.write.result is);
+      exact = λ tells. wrote (F.may_leave old) (F.contents old) place bytes c.args.limit c.write.result (F.contents c.write.new.self) said.within
+          said.large said.not_missing said.not_named (said.written tells) (said.free tells) (said.blocked tells) (said.same tells) (said.torn tells);
+    })

@@ -1,0 +1,80 @@
+-- What folders of one type say of their calls, and calls one after another as a value.
+use Rattle.std.specs.Prelude.{ℕ, ◌≡◌, ◌≢◌, ◌<◌, ◌≤◌, Bool, List, [], ◌∷◌, Some, Result, Ok, Err, IsTrue, length, ⊤}
+use Rattle.std.specs.List.{AllPass}
+use Rattle.std.specs.List.Sorted.{IsStrictlySortedBy}
+use Rattle.gb_core.specs.Lists.{byte_order}
+use Rattle.gb_core.specs.Place.{is_under}
+use Rattle.gb_folder.specs.Calls.{Call, Lists, Reads, ReadsPart, Writes, Removes, fault_of}
+use Rattle.gb_folder.specs.Files.{Bytes, Contents, HasRisen, Place, SameTearing, Tearing}
+use Rattle.gb_folder.specs.Semantics.{Answer, Answers}
+use Rattle.gb_folder.specs.declared.folder.FolderFault.{FolderFault}
+use Rattle.gb_folder.specs.declared.folder.FolderFault.TheVariants as folders
+
+-- what folders of a type say of themselves
+pub record Device (F : Type 0) : Type 1 where
+  pub failures : F → ℕ
+  pub may_leave : F → Tearing
+  pub asked : F → Call → F → Type 0
+  pub tells : Bool
+  pub contents : F → Contents
+
+abbrev pub device_of : {F : Type 0} → (F → ℕ) → (F → Tearing) → (F → Call → F → Type 0) → Bool → (F → Contents)
+    → Device F
+device_of failures may_leave asked tells contents = record {
+  failures = failures;
+  may_leave = may_leave;
+  asked = asked;
+  tells = tells;
+  contents = contents;
+}
+
+-- ---- Answers that no folder gives, whatever it holds
+
+abbrev pub ListsWell : Place → Result (List Place) FolderFault → Type 0
+ListsWell root (Ok places) =
+    AllPass (λ place. is_under place root) places × IsStrictlySortedBy byte_order places
+ListsWell root (Err fault) = fault ≢ folders.TooLarge
+
+abbrev pub ReadsWell : ℕ → Result Bytes FolderFault → Type 0
+ReadsWell limit (Ok bytes) = length bytes ≤ limit
+ReadsWell limit (Err fault) = fault ≢ folders.BadFileName
+
+abbrev pub ReadsPartWell : ℕ → Result Bytes FolderFault → Type 0
+ReadsPartWell len (Ok part) = length part ≤ len
+ReadsPartWell len (Err fault) = (fault ≢ folders.TooLarge) × (fault ≢ folders.BadFileName)
+
+abbrev pub WritesWell : Bytes → ℕ → Answer → Type 0
+WritesWell bytes limit (Ok done) = length bytes ≤ limit
+WritesWell bytes limit (Err fault) =
+    (fault ≡ folders.TooLarge → limit < length bytes) × (fault ≢ folders.Missing)
+    × (fault ≢ folders.BadFileName)
+
+abbrev pub RemovesWell : Answer → Type 0
+RemovesWell (Ok done) = ⊤
+RemovesWell (Err fault) = (fault ≢ folders.TooLarge) × (fault ≢ folders.BadFileName)
+
+abbrev pub IsWell : Call → Type 0
+IsWell (Lists root answer) = ListsWell root answer
+IsWell (Reads place limit answer) = ReadsWell limit answer
+IsWell (ReadsPart place at len answer) = ReadsPartWell len answer
+IsWell (Writes place bytes limit answer) = WritesWell bytes limit answer
+IsWell (Removes place answer) = RemovesWell answer
+
+-- ---- Calls
+
+-- One call: the folder was asked and answered. The count of failures does not fall, and it rises where the
+-- device failed. Where folders of the type tell what they hold, the answer is exact.
+pub record IsCalled {F : Type 0} (device : Device F) (old : F) (call : Call) (new : F) : Type 0 where
+  pub asked : device.asked old call new
+  pub well : IsWell call
+  pub count : device.failures old ≤ device.failures new
+  pub tearing : SameTearing (device.may_leave old) (device.may_leave new)
+  pub risen : fault_of call ≡ Some folders.Device → HasRisen (device.failures old) (device.failures new)
+  pub exact : IsTrue device.tells
+      → Answers (device.may_leave old) (device.contents old) call (device.contents new)
+
+-- These calls, one after another, lead from the one folder to the other.
+abbrev pub Leads : {F : Type 0} → Device F → F → List Call → F → Type 0
+Leads device old [] new = new ≡ old
+Leads {F = F} device old (call ∷ calls) new =
+    (mid : F) × IsCalled device old call mid × Leads device mid calls new

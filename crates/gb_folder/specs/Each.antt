@@ -1,0 +1,22 @@
+-- What calls it takes to do something with each item of a list.
+use Rattle.std.specs.Prelude.{◌≡◌, ◌++◌, List, [], ◌∷◌, Result, Ok, Err}
+use Rattle.gb_folder.specs.Calls.{Call}
+
+-- the outcome of work that yields nothing by itself: it went well, or this fault ended it
+abbrev pub Ended : Type 0 → Type 0
+Ended E = Result (Unit {0}) E
+
+-- After an item that went well the next follows. One that did not is the last.
+abbrev pub OrStops : {E Y : Type 0} → Ended E → Type 0 → List Call → List Y → Ended E → Type 0
+OrStops (Ok done) next later more result = next
+OrStops (Err fault) next later more result = (later ≡ []) × (more ≡ []) × (result ≡ Err fault)
+
+-- Something was done with each item by these calls, and yielded these things, up to the first item that failed.
+-- `One` says of an item which calls it takes, what it yields, and how it ended.
+abbrev pub Each : {E X Y : Type 0} → (X → List Call → List Y → Ended E → Type 0) → List X → List Call → List Y
+    → Ended E → Type 0
+Each One [] calls made result = (calls ≡ []) × (made ≡ []) × (result ≡ Ok tt)
+Each {E = E} {Y = Y} One (x ∷ xs) calls made result =
+    (first : List Call) × (later : List Call) × (some : List Y) × (more : List Y) × (mid : Ended E)
+    × (calls ≡ first ++ later) × (made ≡ some ++ more) × One x first some mid
+    × OrStops mid (Each One xs later more result) later more result

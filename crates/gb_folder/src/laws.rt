@@ -1,0 +1,24 @@
+//! What follows from calls of a folder, one after another.
+ghost use Rattle.std.specs.Prelude.{Bool, List, IsTrue};
+ghost use Rattle.std.specs.List.{AllByRecursion};
+ghost use Rattle.gb_folder.specs.Calls.{Asks, Call, IsPermitted, changes_at};
+ghost use Rattle.gb_folder.specs.Device.{Leads};
+ghost use Rattle.gb_folder.specs.Files.{Place};
+ghost use Rattle.gb_folder.specs.Semantics.{AnswersAll};
+
+use crate::folder::Folder;
+
+/// A folder that tells what it holds answers each call by its contents, as the calls before left them.
+pub fn calls_are_exact<F: Folder>()
+    ensures { (old new : F) (calls : List Call) → IsTrue F.tells → Leads F.device old calls new
+        → AnswersAll (F.may_leave old) (F.contents old) calls (F.contents new) }
+{
+}
+
+/// Calls that change files only where a test holds ask for no other change.
+pub fn calls_ask_for_no_more<F: Folder>()
+    ensures { (test : Place → Bool) (old new : F) (calls : List Call)
+        → AllByRecursion (IsPermitted (changes_at test)) calls → Leads F.device old calls new
+        → Asks F.failures F.may_leave F.asked (changes_at test) old new }
+{
+}
