@@ -11,6 +11,7 @@ pub mod name;
 pub mod path;
 pub mod place;
 pub mod row;
+mod short;
 pub mod tasks;
 pub mod text;
 pub mod value;

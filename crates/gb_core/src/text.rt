@@ -1,26 +1,39 @@
 //! Any text, and texts in a row.
-ghost use Rattle.std.specs.Prelude.{◌≡◌, string_bytes, IfOk};
+ghost use Rattle.std.specs.Prelude.{◌≡◌, ◌≤◌, length, string_bytes, IfOk};
 
 use crate::row::{Copies, Row};
+use crate::short::{MAX_SHORT, ShortText};
 use std::alloc::{AllocError, Global};
 use std::cmp::Ordering;
 use std::fmt;
 use std::marker::Model;
 use std::rc::RcStr;
 
-/// A text in UTF-8. Contracts see its bytes, and its order is theirs. Copies share them.
-#[derive(Debug, Drop)]
+/// A text in UTF-8. Contracts see its bytes, and its order is theirs. Up to 22 bytes are stored inline;
+/// copies of a longer text share its bytes.
+#[derive(Drop)]
 pub struct Text {
-    text: RcStr,
+    form: Form,
+}
+
+// Three words, whichever form it has.
+const _: () = prove!(size_of::<Text>() == 24);
+
+/// Where the bytes of a text are stored.
+#[derive(Drop)]
+enum Form {
+    Short(ShortText),
+    Shared(RcStr),
 }
 
 impl Model for Text {
     ghost use Rattle.std.specs.Prelude.{List, ℕ};
-    ghost use Rattle.std.specs.Rc.{rc_str_bytes};
 
     ghost Value = { List ℕ };
 
-    ghost view = { λ t. rc_str_bytes t.text };
+    ghost use Rattle.gb_core.specs.Text.{form_bytes};
+
+    ghost view = { λ t. form_bytes t.form };
 }
 
 impl Text {
@@ -28,8 +41,11 @@ impl Text {
     pub fn new(text: String) -> Result<Text, AllocError>
         ensures { IfOk result (λ made. made ≡ string_bytes text) }
     {
+        if text.len() <= MAX_SHORT {
+            return Ok(short_text(text.as_str()));
+        }
         Ok(Text {
-            text: RcStr::from_string(text)?,
+            form: Form::Shared(RcStr::from_string(text)?),
         })
     }
 
@@ -37,25 +53,52 @@ impl Text {
     pub fn from_str(alloc: Global, text: &str) -> Result<Text, AllocError>
         ensures { IfOk result (λ made. made ≡ text.now) }
     {
+        if text.len() <= MAX_SHORT {
+            return Ok(short_text(text));
+        }
         Ok(Text {
-            text: RcStr::from_str(alloc, text)?,
+            form: Form::Shared(RcStr::from_str(alloc, text)?),
         })
     }
 
-    /// An equal text, which shares its bytes.
+    /// An equal text, which shares the bytes of a longer one.
     pub fn copy(&self) -> Result<Text, AllocError>
         ensures { IfOk result (λ copied. copied ≡ self.now) }
     {
-        Ok(Text {
-            text: self.text.clone()?,
-        })
+        match &self.form {
+            Form::Short(text) => Ok(Text {
+                form: Form::Short(text.copy()),
+            }),
+            Form::Shared(text) => Ok(Text {
+                form: Form::Shared(text.clone()?),
+            }),
+        }
     }
 
     /// Its characters, without a copy.
     pub fn as_str(&self) -> &str
         ensures { result.now ≡ self.now }
     {
-        self.text.as_str()
+        match &self.form {
+            Form::Short(text) => text.as_str(),
+            Form::Shared(text) => text.as_str(),
+        }
+    }
+}
+
+/// A text of at most 22 bytes.
+fn short_text(text: &str) -> Text
+    requires { length text.now ≤ 22 }
+    ensures { result ≡ text.now }
+{
+    Text {
+        form: Form::Short(ShortText::from_str(text)),
+    }
+}
+
+impl fmt::Debug for Text {
+    fn fmt<W: fmt::Write>(&self, f: &mut fmt::Formatter<W>) -> fmt::Result {
+        fmt::Debug::fmt(self.as_str(), f)
     }
 }
 
@@ -65,7 +108,7 @@ impl fmt::Display for Text {
     ghost output = { λ t. Some t };
 
     fn fmt<W: fmt::Write>(&self, f: &mut fmt::Formatter<W>) -> fmt::Result {
-        let text = self.text.as_str();
+        let text = self.as_str();
         write!(f, "{text}")
     }
 }
@@ -81,7 +124,7 @@ impl PartialEq for Text {
     ghost laws = { Prim.search (comparing, rules) };
 
     fn eq(&self, other: &Text) -> bool {
-        self.text == other.text
+        self.as_str() == other.as_str()
     }
 }
 
@@ -125,7 +168,7 @@ impl Ord for Text {
     ghost matches_eq = { Prim.search (comparing, rules) };
 
     fn cmp(&self, other: &Text) -> Ordering {
-        self.text.cmp(&other.text)
+        self.as_str().cmp(other.as_str())
     }
 }
 
