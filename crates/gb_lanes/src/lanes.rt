@@ -1,6 +1,6 @@
 //! The operations of SHA-256 on words (FIPS 180-4, 4.1.2), on four words at a time.
 ghost use Rattle.std.specs.Prelude.{◌≡◌, ℕ, ◌+◌, ◌/◌, ◌^◌, ◌<◌, bit_and, bit_xor, slice_index};
-ghost use Rattle.std.specs.Int.{w32, bit_not, rotate_right};
+ghost use Rattle.std.specs.Int.{w32, rotate_right};
 ghost use Rattle.sha2.specs.Sha256.{add32, big_sigma0, big_sigma1, ch, maj, small_sigma0, small_sigma1};
 
 use std::simd::u32x4;
@@ -27,13 +27,6 @@ fn and(a: u32x4, b: u32x4) -> u32x4
 }
 
 #[inline(always)]
-fn not(a: u32x4) -> u32x4
-    ensures { (j : ℕ) → j < 4 → slice_index result j ≡ bit_not w32 (slice_index a j) }
-{
-    !a
-}
-
-#[inline(always)]
 fn shift(a: u32x4, k: u32) -> u32x4
     requires { k < 32 }
     ensures { (j : ℕ) → j < 4 → slice_index result j ≡ slice_index a j / 2 ^ k }
@@ -54,7 +47,7 @@ pub(crate) fn ch(x: u32x4, y: u32x4, z: u32x4) -> u32x4
     ensures { (j : ℕ) → j < 4
         → slice_index result j ≡ ch (slice_index x j) (slice_index y j) (slice_index z j) }
 {
-    xor(and(x, y), and(not(x), z))
+    xor(z, and(x, xor(y, z)))
 }
 
 #[inline(always)]
@@ -62,7 +55,7 @@ pub(crate) fn maj(x: u32x4, y: u32x4, z: u32x4) -> u32x4
     ensures { (j : ℕ) → j < 4
         → slice_index result j ≡ maj (slice_index x j) (slice_index y j) (slice_index z j) }
 {
-    xor(xor(and(x, y), and(x, z)), and(y, z))
+    xor(y, and(xor(x, y), xor(y, z)))
 }
 
 #[inline(always)]
