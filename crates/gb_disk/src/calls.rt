@@ -8,7 +8,7 @@ ghost use Rattle.gb_disk.specs.Disk.{AllUnder, IsOfListing, IsOfMachine, path_in
 use crate::device::Device;
 use crate::names::in_order;
 use crate::span::Span;
-use crate::standing::{Standing, FileInfo};
+use crate::standing::{FileInfo, Standing};
 use crate::trail::Trail;
 use crate::walk::Found;
 use gb_core::place::Place;

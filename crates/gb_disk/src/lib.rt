@@ -2,7 +2,7 @@
 //!
 //! | At the place | `list` | `read`, `read_part` | `write` | `remove` |
 //! |---|---|---|---|---|
-//! | a file | it | its bytes | another one is moved over it | it is unlinked |
+//! | a file | it | its bytes | a new one is renamed over it | it is unlinked |
 //! | a folder with a file beneath | the files | 12 | 12 | 12 |
 //! | a tree of folders without a file | none | 11 | the folders give way | 11 |
 //! | nothing | none | 11 | folders above it are made | 11 |
@@ -11,18 +11,25 @@
 //! | beneath it a name that is no part of a place | 14 | 10 | 10 | 10 |
 //! | no permission, a full disk, an error | 10 | 10 | 10 | 10 |
 //!
-//! Each segment of a place is looked at before anything is opened, so that no link is followed out of
-//! the folder and no pipe is waited for; but for a write or a removal, a folder that was among the last
-//! ones met is not looked at again before something is missed or a call fails, nor is a file that the call
-//! before listed alone, as nobody else is to write there during a build. All that is read of a file comes from
-//! one open file, which has to be as it was told: else it is looked at again, some times, and then that is 10.
-//! A small file has as many bytes as were told; of a larger one, and of a part, the open file is looked at once
-//! it is read. Where the system told no byte of it, it is read to its end all the same, as files that the
-//! system itself makes have bytes only when they are read. A file is written as `.gb/new` and then moved to its
-//! place in one step, so that another name of the old one keeps its bytes, and whoever reads it sees the old or
-//! the new one; a write that the device stops leaves the old one. Where it cannot be so, as on another file
-//! system, the old one is unlinked and the new one made there. Nothing is waited for, so what the device holds
-//! after a loss of power is not known, nor what it refuses only as a written file is closed.
+//! Each segment of a place is looked up before anything is opened. So no link leads out of the folder, and
+//! nothing waits for a pipe. Two look-ups are saved, as nobody else is to write there during a build: `list`,
+//! `read` and `read_part` trust a folder that they met before, until something is missing or a call fails; and
+//! a read trusts the length of a file that the call before listed alone.
+//!
+//! All that a read answers comes from one open file. A small file is whole if it has just the listed length.
+//! For a larger file and for a part, length and time of the open file are compared after the read. If the file
+//! is another one by now, or changed, the read looks it up again, three times in all. After that it answers
+//! what one open file gives up to its end, as `cp` does: of a log that grows all the time. A file without a
+//! length is read to its end, since the system makes some files only when they are read.
+//!
+//! A write makes a file beneath `.gb/new`, writes all bytes, and renames it to its place. So a reader sees the
+//! old file or the new one, other names of the old file keep its bytes, and a write that fails leaves the old
+//! file. A rewrite therefore needs room for both. The next session that writes removes what a stopped one left
+//! in `.gb/new`. Where a rename cannot be had, as on another file system, the old file is removed first.
+//!
+//! A listing leaves out what others remove meanwhile. Nothing is flushed to the device: what it holds after a
+//! loss of power is not known, nor an error that it reports only when a written file is closed. The kit has no
+//! flags for `open`: a pipe that somebody puts in place between look-up and open is waited for.
 #![tactic(auto)]
 
 mod bytes;

@@ -50,12 +50,7 @@ impl<R: Files> Device<R> {
 
     /// Writes the bytes of a place beneath `.gb/new`. `false`: that folder cannot be had, or something is at
     /// the name already.
-    fn put_aside(
-        &self,
-        trail: &mut Trail,
-        place: &Place,
-        bytes: &[u8],
-    ) -> Result<bool, FolderFault>
+    fn put_aside(&self, trail: &mut Trail, place: &Place, bytes: &[u8]) -> Result<bool, FolderFault>
         ensures at { IfOk result (λ is_put. IsTrue is_put → (name : List ℕ)
             × (string_bytes trail.new.aside ≡ path_in (path_in (string_bytes self.now.base) aside) name)) }
         ensures err { IfErr result IsOfMachine }

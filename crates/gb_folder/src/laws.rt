@@ -12,13 +12,11 @@ use crate::folder::Folder;
 pub fn calls_are_exact<F: Folder>()
     ensures { (old new : F) (calls : List Call) → IsTrue F.tells → Leads F.device old calls new
         → AnswersAll (F.may_leave old) (F.contents old) calls (F.contents new) }
-{
-}
+{}
 
 /// Calls that change files only where a test holds ask for no other change.
 pub fn calls_ask_for_no_more<F: Folder>()
     ensures { (test : Place → Bool) (old new : F) (calls : List Call)
         → AllByRecursion (IsPermitted (changes_at test)) calls → Leads F.device old calls new
         → Asks F.failures F.may_leave F.asked (changes_at test) old new }
-{
-}
+{}

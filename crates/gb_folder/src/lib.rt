@@ -4,6 +4,12 @@
 //! every type of folder: where folders of the type tell what they hold, each answer is exact, and
 //! elsewhere, as on a disk, only what holds whatever a device does is promised.
 //! [`MemoryFolder`](memory::MemoryFolder) tells; `proofs/Changes.antt` has lemmas for callers.
+//!
+//! What was done to a folder is a value, too: a list of calls with their answers. `specs/Device.antt` says when
+//! such a list leads from one folder to another, over any folder. `specs/Semantics.antt` says what each call
+//! answers over known contents, and [`calls`] has the five calls with this one clause each.
+//! A function that goes over a list says its calls by `specs/Each.antt`.
+//!
 //! [`FaultyFolder`](faulty::FaultyFolder) fails at a chosen call of the folder that it holds, and
 //! [`NotedFolder`](noted::NotedFolder) notes which changes are asked of it.
 //!
