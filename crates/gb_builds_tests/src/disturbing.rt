@@ -32,6 +32,7 @@ impl Disturbed {
 
 impl Folder for Disturbed {
     ghost use Rattle.std.specs.Prelude.{false, [], refl, ⊤};
+    ghost use Rattle.gb_folder.specs.Device.{device_of};
 
     ghost failures = { λ _. 0 };
 
@@ -43,9 +44,16 @@ impl Folder for Disturbed {
 
     ghost asked = { λ _ _ _. ⊤ };
 
+    ghost device = { device_of (λ _. 0) (λ _ _ _ _ _. ⊤) (λ _ _ _. ⊤) false
+        (λ _. record { files = []; odd = [] }) };
+
     ghost sound = { λ _. record { in_order = refl; none_blocked = refl } };
 
     ghost placed = { λ _. refl };
+
+    ghost called = { λ _ _ _ is. is };
+
+    ghost said = { λ _ _ _ is. is };
 
     fn list(&mut self, alloc: Global, root: &Place) -> Result<Vec<Place>, FolderFault> {
         self.disturb();

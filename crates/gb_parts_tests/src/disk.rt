@@ -267,7 +267,7 @@ fn odd_folders_are_answered(rt: HostRuntime) -> Result<(), Fail> {
 /// What makes a folder that is changed: a file of five bytes and an empty one.
 const BEFORE: [&str; 3] = ["!make d/e", "!put d/e/a hello", "!put d/e/z"];
 
-const CHANGES: [Row<'static>; 26] = [
+const CHANGES: [Row<'static>; 30] = [
     // Folders above the file were met.
     (
         "list d;read d/e/a;!clear d;read d/e/a;list d/e;write d/e/a;read d/e/a",
@@ -277,20 +277,20 @@ const CHANGES: [Row<'static>; 26] = [
         "list d;read d/e/a;!clear d;!link d nowhere;list d/e;read d/e/a;remove d/e/a",
         "d/e/a d/e/z ;hello;14;10;10;",
     ),
-    // It was listed just before: it is read as long as it was, once; where it is shorter, the device fails.
+    // It was listed just before, and is longer or shorter by now: the read looks it up again.
     (
         "list d/e/a;!put d/e/a hello world;read d/e/a;read d/e/a;part d/e/a",
-        "d/e/a ;hello;13;lo world;",
+        "d/e/a ;13;13;lo world;",
     ),
     (
         "list d/e/a;!put d/e/a he;read d/e/a;read d/e/a",
-        "d/e/a ;10;he;",
+        "d/e/a ;he;he;",
     ),
     (
         "list d/e/a;!put d/e/a hell;part d/e/a;part d/e/a",
-        "d/e/a ;10;l;",
+        "d/e/a ;l;l;",
     ),
-    // No byte of it was told: it is read to its end.
+    // It was listed without a byte: it is read to its end.
     (
         "list d/e/z;!put d/e/z hello;read d/e/z;list d/e/z",
         "d/e/z ;hello;d/e/z ;",
@@ -304,11 +304,11 @@ const CHANGES: [Row<'static>; 26] = [
     // So it is where its folder was listed and has no other file.
     (
         "!unlink d/e/z;list d;!put d/e/a hello world;read d/e/a;read d/e/a",
-        "d/e/a ;hello;13;",
+        "d/e/a ;13;13;",
     ),
     (
         "!unlink d/e/z;list d/e;!put d/e/a he;read d/e/a;read d/e/a",
-        "d/e/a ;10;he;",
+        "d/e/a ;he;he;",
     ),
     (
         "!unlink d/e/z;list d;!put d/e/z 1;!put d/e/a hello world;read d/e/z;read d/e/a",
@@ -362,6 +362,15 @@ const CHANGES: [Row<'static>; 26] = [
         "list d/e/a;list b;!put d/e/a hello world;read d/e/a",
         "d/e/a ;;13;",
     ),
+    // The first write removes what a stopped build left beneath `.gb/new`, and leaves nothing there.
+    (
+        "!make .gb/new;!put .gb/new/1 left;list .gb;write b;list .gb;read b",
+        ".gb/new/1 ;ok;;hello;",
+    ),
+    // Where `.gb` is no folder, a file is written at its place at once.
+    ("!put .gb 1;write b;read b;read .gb", "ok;hello;1;"),
+    ("!link .gb nowhere;write b;read b", "ok;hello;"),
+    ("!make .gb;!link .gb/new d;write b;read b;list d", "ok;hello;d/e/a d/e/z ;"),
 ];
 
 #[test]
