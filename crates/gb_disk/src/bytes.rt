@@ -76,6 +76,8 @@ impl<R: Files> Device<R> {
     {
         let mut bytes = Vec::with_capacity(alloc, span.room())?;
         match self.read_from(path, info, span, &mut bytes) {
+            // An empty file keeps no room.
+            Ok(true) if bytes.is_empty() && span.least == 0 => Ok(Some(Vec::new(alloc))),
             Ok(true) if span.takes(bytes.len() as u64) => Ok(Some(bytes)),
             Ok(_) => Ok(None),
             Err(error) if error.kind() == ErrorKind::OutOfMemory => Err(FolderFault::OutOfMemory),

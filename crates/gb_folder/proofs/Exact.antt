@@ -1,5 +1,5 @@
 -- What a call answers, clause by clause, is what its definition says: for the contracts of calls.
-use Rattle.std.specs.Prelude.{ℕ, ◌≡◌, ◌≢◌, ◌<◌, ◌≤◌, false, Option, Some, None, Result, Ok, Err, IfErr, IfOk, IsSome, IsSomeAnd, OnOk, IsTrue, List, length, take, drop, ⊤}
+use Rattle.std.specs.Prelude.{ℕ, ◌≡◌, ◌≢◌, ◌<◌, ◌≤◌, false, Option, Some, None, Result, Ok, Err, IfErr, IfOk, IsSome, IsSomeAnd, OnOk, IsTrue, length, take, drop}
 use Rattle.std.specs.Global.{Global}
 use Rattle.std.specs.List.{AllPass}
 use Rattle.std.specs.List.Sorted.{IsStrictlySortedBy}
