@@ -96,9 +96,12 @@ fn short_text(text: &str) -> Text
     }
 }
 
+/// The same for both forms.
 impl fmt::Debug for Text {
     fn fmt<W: fmt::Write>(&self, f: &mut fmt::Formatter<W>) -> fmt::Result {
-        fmt::Debug::fmt(self.as_str(), f)
+        f.debug_struct("Text")
+            .field("text", &self.as_str())
+            .finish()
     }
 }
 
