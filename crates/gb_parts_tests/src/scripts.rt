@@ -4,7 +4,7 @@
 use gb_script::expression::{Expression, Source};
 use gb_script::fault::ScriptFault;
 use gb_script::script::{Clause, Statement};
-use gb_script::{read_script, read_settings};
+use gb_script::{StatementLines, read_script, read_script_lines, read_settings};
 use std::alloc::{AllocError, Global};
 use std::test::Fail;
 
@@ -329,6 +329,66 @@ const LINES: [Case; 22] = [
 #[test]
 fn tells_the_line_of_a_fault(rt: HostRuntime) -> Result<(), Fail> {
     are_told(rt.alloc(), NONE, ["20 syntax error in line ", ""], &LINES)
+}
+
+fn write_line(out: &mut String, alloc: Global, before: &str, line: u64) -> Result<(), AllocError> {
+    let text = format!(in alloc; "{before}{line}")?;
+    out.push_str(text.as_str())
+}
+
+fn write_lines(out: &mut String, alloc: Global, lines: &StatementLines) -> Result<(), AllocError> {
+    write_line(out, alloc, " ", lines.statement())?;
+    for line in lines.clauses() {
+        write_line(out, alloc, ",", *line)?;
+    }
+    Ok(())
+}
+
+fn written_lines(alloc: Global, lines: &[StatementLines]) -> Result<String, AllocError> {
+    let mut out = String::new(alloc);
+    for statement in lines {
+        write_lines(&mut out, alloc, statement)?;
+    }
+    Ok(out)
+}
+
+/// The lines of the statements of a script, each with those of its clauses, or the fault's number and text.
+fn lines_in(alloc: Global, bytes: &[u8]) -> Result<String, AllocError> {
+    match read_script_lines(alloc, bytes) {
+        Ok(lines) => written_lines(alloc, lines.as_slice()),
+        Err(fault) => format!(in alloc; "{} {fault}", fault.number()),
+    }
+}
+
+fn has_lines(alloc: Global, bytes: &[u8], want: &str) -> Result<bool, AllocError> {
+    Ok(lines_in(alloc, bytes)?.as_str() == want)
+}
+
+/// A text, and the lines of its statements and clauses.
+const PLACES: [Case; 7] = [
+    ("", ""),
+    ("// none\n", ""),
+    ("property a", " 1"),
+    ("\n// a\nproperty\na set a\n= b\n", " 3 4"),
+    (
+        "register a : k(\"x\",\n\"y\")\n{\ninput b = c doLast k\n\nenabled\ntrue}\nnamed a {}",
+        " 1,4,4,6 8",
+    ),
+    (
+        "defaultTasks \"a\",\n\"b\"\nnamed b { // c\n  dependsOn \"a\", // d\n  \"c\" onlyIf b is f\n}",
+        " 1 3,4,5",
+    ),
+    ("register a {\ninput }", "20 syntax error in line 2"),
+];
+
+#[test]
+fn finds_the_lines_of_statements_and_clauses(rt: HostRuntime) -> Result<(), Fail> {
+    for case in &PLACES {
+        if has_lines(rt.alloc(), case.0.as_bytes(), case.1) != Ok(true) {
+            return Err(Fail::new(case.0));
+        }
+    }
+    Ok(())
 }
 
 /// Whether the one statement sets a property to this text, in so many steps.

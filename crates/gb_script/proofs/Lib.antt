@@ -20,4 +20,6 @@ pub mod ValueLaws
 pub mod ClauseLaws
 pub mod StatementLaws
 pub mod Sources
+pub mod LineLaws
+pub mod LinePlaces
 pub mod Rows

@@ -77,7 +77,7 @@ module _ {A : Type 0} {P : A → Type 0} {m : A → List Leveled} {e : A → Opt
         let f = all_found R ends_text tokens script h in
         record { tokens = scan 1 bytes; source = source_is; spelled_so = sym t ∙ f.1; within = f.2; is = f.0 }
 
-    line_is : (n : ℕ) (lines : List ℕ) (front rest : List Placed) → lines ≡ map (λ p. p.1) (scan 1 bytes) → scan 1 bytes ≡ front ++ rest → n ≡ length (tokens_in rest) → get_or lines (length lines - n) (1 + newlines bytes) ≡ line_of bytes rest
+    pub line_is : (n : ℕ) (lines : List ℕ) (front rest : List Placed) → lines ≡ map (λ p. p.1) (scan 1 bytes) → scan 1 bytes ≡ front ++ rest → n ≡ length (tokens_in rest) → get_or lines (length lines - n) (1 + newlines bytes) ≡ line_of bytes rest
     line_is n lines front rest l w h =
         let e : lines ≡ map (λ p. p.1) (front ++ rest) = l ∙ ap (map (λ (p : Placed). p.1)) w in
         ap (λ (x : List ℕ). get_or x (length x - n) (1 + newlines bytes)) e

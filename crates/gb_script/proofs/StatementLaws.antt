@@ -68,7 +68,7 @@ there_same : (a : Option Call) (o : Option Token) → IsThere a → action_end a
 there_same None o p = absurd p
 there_same (Some c) o p = refl
 
-Reads-action : (room d : ℕ) → room + d ≡ 64 → Reads IsAction (action_spelled d) action_end (action_at room)
+pub Reads-action : (room d : ℕ) → room + d ≡ 64 → Reads IsAction (action_spelled d) action_end (action_at room)
 unfolding action_at
 Reads-action room d sum =
     let made = Reads-into (Reads-call room d sum) call_action IsThere (behind_colon d) there_end there_split (λ c p. p) (λ c p. refl) (λ c o p. refl) in
@@ -239,7 +239,7 @@ Reads-statement_of room d sum (words.Property properties.DisallowChanges) = made
 Reads-statement_of room d sum words.Register = made_statement d (Reads-registration room d sum) statements.Register (λ x. refl) (λ x o. refl)
 Reads-statement_of room d sum words.Named = made_statement d (Reads-configuration room d sum) statements.Named (λ x. refl) (λ x o. refl)
 
-Reads-statement : (room d : ℕ) → room + d ≡ 64 → Reads IsStatement (statement_spelled d) statement_end (statement_at room)
+pub Reads-statement : (room d : ℕ) → room + d ≡ 64 → Reads IsStatement (statement_spelled d) statement_end (statement_at room)
 unfolding statement_at
 Reads-statement room d sum =
     Reads-bind {r2 = statement_of_at room}

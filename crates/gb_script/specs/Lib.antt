@@ -14,3 +14,5 @@ pub mod Telling
 pub mod Scanning
 pub mod Reading
 pub mod Readers
+pub mod Lines
+pub mod LineReaders

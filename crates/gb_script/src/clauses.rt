@@ -313,7 +313,7 @@ fn read_clause_word(tokens: &[Token]) -> Result<(ClauseWord, &[Token]), Stop>
 }
 
 #[tactic(auto, unfolding(crate::specs::Readers::clause_at))]
-fn clause(alloc: Global, tokens: &[Token], room: u32) -> Result<(Clause, &[Token]), Stop>
+pub fn clause(alloc: Global, tokens: &[Token], room: u32) -> Result<(Clause, &[Token]), Stop>
     ensures exact { Gives (λ x. (x.0, x.1.now)) result (clause_at room tokens.now) }
     ensures shorter { IfOk result (λ x. length x.1.now < length tokens.now) }
 {
@@ -321,7 +321,7 @@ fn clause(alloc: Global, tokens: &[Token], room: u32) -> Result<(Clause, &[Token
     clause_of(alloc, word, rest, room)
 }
 
-fn is_in_block(tokens: &[Token]) -> bool
+pub fn is_in_block(tokens: &[Token]) -> bool
     ensures { result ≡ begins in_block tokens.now }
 {
     !tokens.is_empty() && !begins(tokens, Sign::CloseBrace)

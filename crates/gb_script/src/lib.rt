@@ -19,6 +19,7 @@ pub mod fault;
 pub mod function;
 pub mod laws;
 mod lexing;
+mod lines;
 mod reading;
 pub mod script;
 mod source;
@@ -28,4 +29,5 @@ mod token;
 mod values;
 mod words;
 
+pub use lines::{StatementLines, read_script_lines};
 pub use source::{MAX_SCRIPT, read_script, read_settings};

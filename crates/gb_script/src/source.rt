@@ -20,7 +20,7 @@ use std::alloc::Global;
 pub const MAX_SCRIPT: usize = 1_048_576;
 
 /// The text that the bytes are.
-fn text_of(bytes: &[u8]) -> Result<&str, ScriptFault>
+pub fn text_of(bytes: &[u8]) -> Result<&str, ScriptFault>
     ensures same { IfOk result (λ text. text.now ≡ bytes.now) }
     ensures short { IfOk result (λ text. length bytes.now ≤ 1048576) }
     ensures utf8 { IfOk result (λ text. IsUtf8 bytes.now) }
@@ -33,7 +33,7 @@ fn text_of(bytes: &[u8]) -> Result<&str, ScriptFault>
 }
 
 /// The fault of a text where reading its tokens stopped.
-fn fault_of(text: &str, lexed: &Lexed, stop: Stop) -> ScriptFault
+pub fn fault_of(text: &str, lexed: &Lexed, stop: Stop) -> ScriptFault
     requires { length text.now ≤ 1048576 }
     ensures { result ≡ fault_told text.now lexed.now.lines.items stop }
 {

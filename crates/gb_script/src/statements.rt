@@ -16,11 +16,11 @@ use gb_core::text::Texts;
 use std::alloc::Global;
 
 /// How many brackets may be open at once.
-const MAX_OPEN: u32 = 64;
+pub const MAX_OPEN: u32 = 64;
 
 /// A call behind a colon, or none where no colon is.
 #[tactic(auto, unfolding(crate::specs::Reading::maybe_at, crate::specs::Reading::past_at, crate::specs::Readers::action_at))]
-fn action(alloc: Global, tokens: &[Token], room: u32) -> Result<(Option<Call>, &[Token]), Stop>
+pub fn action(alloc: Global, tokens: &[Token], room: u32) -> Result<(Option<Call>, &[Token]), Stop>
     ensures exact { Gives (λ x. (x.0, x.1.now)) result (action_at room tokens.now) }
     ensures shorter { IfOk result (λ x. length x.1.now ≤ length tokens.now) }
 {
@@ -106,7 +106,7 @@ fn property_of(
 
 /// What stands behind the word of a statement.
 #[tactic(auto, unfolding(crate::specs::Readers::statement_of_at))]
-fn statement_of(
+pub fn statement_of(
     alloc: Global,
     word: StatementWord,
     tokens: &[Token],
@@ -133,7 +133,7 @@ fn statement_of(
 }
 
 #[tactic(auto, unfolding(crate::specs::Reading::meaning_at))]
-fn read_statement_word(tokens: &[Token]) -> Result<(StatementWord, &[Token]), Stop>
+pub fn read_statement_word(tokens: &[Token]) -> Result<(StatementWord, &[Token]), Stop>
     ensures exact { Gives (λ x. (x.0, x.1.now)) result (meaning_at statement_words tokens.now) }
     ensures shorter { IfOk result (λ x. length x.1.now < length tokens.now) }
 {
@@ -155,7 +155,7 @@ fn statement(alloc: Global, tokens: &[Token], room: u32) -> Result<(Statement, &
     statement_of(alloc, word, rest, room)
 }
 
-fn is_left(tokens: &[Token]) -> bool
+pub fn is_left(tokens: &[Token]) -> bool
     ensures { result ≡ begins is_any tokens.now }
 {
     !tokens.is_empty()
