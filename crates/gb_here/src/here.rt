@@ -1,7 +1,7 @@
 //! The program in the current folder, over any kinds of actions and functions of values.
 ghost use Rattle.std.specs.Prelude.{◌≤◌, IfOk};
 
-use crate::lock::lock_for;
+use crate::lock::locks_for;
 use crate::refused::tell_refused;
 use crate::words::command_words;
 use gb_action::actions::Actions;
@@ -56,7 +56,7 @@ fn built<A: Actions, T: Transforms, R: Files<File = File> + Env + Print + AllocG
 ) -> Result<u8, AllocError>
     ensures { IfOk result (λ status. status ≤ 2) }
 {
-    let held = lock_for(rt)?;
+    let held = locks_for(rt)?;
     let status = built_alone(rt, &tables);
     drop(held);
     status

@@ -4,10 +4,10 @@
 //! builds the folder on the disk as they ask, prints the answer and answers the status. `gb` is such a
 //! program with the built-in kinds alone, and prints no more than this crate does.
 //!
-//! One build at a time works in a folder: it holds the system's lock on the folder itself, for which no file
-//! is made, from before it reads anything until the answer is printed, and waits where another one holds it.
-//! The system lets it go with the process, however that ends. A dry run, refused words and refused tables
-//! take none.
+//! One build at a time works in a folder. A build holds the system's locks on the folder itself and on the
+//! folders of its projects, in the order of projects, from before it reads a script until its answer is
+//! printed. It waits where another build holds one. No file is made for a lock, and the system releases it
+//! with the process. A dry run, refused words and refused tables take none.
 #![tactic(auto)]
 
 pub mod here;

@@ -1,29 +1,38 @@
-//! One build at a time in a folder.
+//! One build at a time in a folder, and in the folders of its projects.
 ghost use Rattle.std.specs.Prelude.{◌≡◌, codes, map, not, string_bytes, IfOk};
 ghost use Rattle.gb_words.specs.Command.{flag_in, rows_in};
 ghost use Rattle.gb_words.specs.Faults.{TellsFirst};
 ghost use Rattle.gb_words.specs.Words.{words_faults};
 
 use crate::words::command_words;
+use gb_core::place::Place;
+use gb_disk::disk::DiskFolder;
+use gb_folder::folder::Folder;
+use gb_registry::projects::{ProjectSet, projects};
 use gb_report::fault::Fault;
+use gb_script::{MAX_SCRIPT, read_settings};
 use gb_words::words::read;
 use std::alloc::{AllocError, Global};
 use std::fs::File;
 use std::rt::{Env, Files};
 
-/// The lock on the current folder, if the words of the command ask to build it.
-pub fn lock_for<R: Files<File = File> + Env + AllocGlobal>(
+/// The locks on the current folder and on the folders of its projects, if the words of the command ask to
+/// build it.
+pub fn locks_for<R: Files<File = File> + Env + AllocGlobal>(
     rt: &R,
-) -> Result<Option<File>, AllocError> {
+) -> Result<Vec<File>, AllocError> {
+    let mut held = Vec::new(rt.alloc());
     let asked = match command_words(rt) {
         Ok(words) => is_build(rt.alloc(), words),
         Err(fault) => Err(fault),
     };
     if wants_lock(asked)? {
-        Ok(locked(rt))
-    } else {
-        Ok(None)
+        if let Some(root) = locked(rt, ".") {
+            held.push(root)?;
+        }
+        lock_projects(rt, &mut held)?;
     }
+    Ok(held)
 }
 
 /// Whether a folder is to be locked, where its words are asked for a build so: what is refused locks none.
@@ -57,10 +66,46 @@ pub fn is_build(alloc: Global, words: Vec<String>) -> Result<bool, Fault>
     Ok(!asked.options.dry_run)
 }
 
-/// The current folder, locked. Where the system gives no lock, as some shared disks do not, it is built all
-/// the same.
-fn locked<R: Files<File = File>>(rt: &R) -> Option<File> {
-    let folder = File::open(rt, ".").ok()?;
+/// Locks the folder of each project but the root, in the order of projects: parents first. So a build in the
+/// folder of a project and a build in the folder above it exclude each other. Whoever waits holds locks of
+/// folders above or before that one alone, so no two builds wait for each other.
+fn lock_projects<R: Files<File = File> + AllocGlobal>(
+    rt: &R,
+    held: &mut Vec<File>,
+) -> Result<(), AllocError> {
+    let Some(projects) = projects_here(rt) else {
+        return Ok(());
+    };
+    for (_path, folder) in projects.as_slice() {
+        if let Some(lock) = lock_at(rt, folder.as_ref()) {
+            held.push(lock)?;
+        }
+    }
+    Ok(())
+}
+
+/// The projects that `settings.gb` includes. The build reports why there are none.
+fn projects_here<R: Files + AllocGlobal>(rt: &R) -> Option<ProjectSet> {
+    let alloc = rt.alloc();
+    let place = Place::read(alloc, "settings.gb").ok()?;
+    let mut folder = DiskFolder::new(rt, String::new(alloc));
+    let text = folder.read(alloc, &place, MAX_SCRIPT as u64).ok()?;
+    let settings = read_settings(alloc, text.as_slice()).ok()?;
+    projects(alloc, &settings).ok()
+}
+
+/// The lock on the folder of a project, if it exists and is no link.
+fn lock_at<R: Files<File = File>>(rt: &R, folder: Option<&Place>) -> Option<File> {
+    let path = folder?.as_str();
+    if !rt.symlink_metadata(path).ok()?.is_dir() {
+        return None;
+    }
+    locked(rt, path)
+}
+
+/// A folder, locked. Where the system gives no lock, as some shared disks do not, it is built all the same.
+fn locked<R: Files<File = File>>(rt: &R, path: &str) -> Option<File> {
+    let folder = File::open(rt, path).ok()?;
     folder.lock().ok()?;
     Some(folder)
 }
