@@ -1,8 +1,8 @@
 //! The actions of a build by name.
 ghost use Rattle.std.specs.Prelude.{◌≡◌, [], ◌∷◌, ◌++◌, ◌↔◌, None, Some, MatchResult, OnOk, OnErr, IfOk};
-ghost use Rattle.std.specs.Prelude.{IsErrOf, IsSome, map, string_bytes};
+ghost use Rattle.std.specs.Prelude.{IsErrOf, IsSome, true, map, string_bytes};
 ghost use Rattle.std.specs.FinMap.Entries.{find};
-ghost use Rattle.gb_core.specs.Lists.{byte_order};
+ghost use Rattle.gb_core.specs.Lists.{byte_order, no_repeats};
 
 use gb_core::name::Name;
 use gb_table::table::{AddFault, NamedTable};
@@ -125,6 +125,13 @@ impl<S: Drop> ActionTable<S> {
         ensures { IfOk result (λ entries. map (λ e. (string_bytes e.0, e.1)) entries.items ≡ self) }
     {
         self.entries.into_entries()
+    }
+
+    /// No two actions have one name. A caller learns this; nothing happens at run time.
+    pub fn names_are_unique(&self)
+        ensures { no_repeats (map (λ entry. entry.0) self.now) ≡ true }
+    {
+        self.entries.names_are_unique();
     }
 
     /// The action of the name. Takes no memory.

@@ -1,10 +1,12 @@
 -- A table's entries, looked up by name.
-use Rattle.std.proofs.Common.{is_some, ◌≡◌, ℕ, true, false, true≢false, cond, List, [], ◌∷◌, ◌++◌, map, Option, Some, None, Result, Ok, Err, refl, sym, ap, ◌∙◌, bytes_eq}
+use Rattle.std.proofs.Common.{is_some, ◌≡◌, ℕ, true, false, true≢false, cond, not, ◌&&◌, ◌||◌, List, [], ◌∷◌, ◌++◌, map, Option, Some, None, Result, Ok, Err, refl, sym, ap, ◌∙◌, bytes_eq}
+use Rattle.std.specs.List.{AllByRecursion, IsDistinct}
+use Rattle.std.proofs.lemmas.Map.Keys.{IsDistinct-head, IsDistinct-tail}
 use Rattle.std.specs.Result.{IsErrAnd, IsErrOf}
 use Rattle.std.specs.Cmp.Lexicographic.{bytes_decides}
 use Rattle.std.specs.FinMap.Entries.{find}
 use Rattle.std.specs.Map.{lookup}
-use Rattle.gb_core.specs.Lists.{byte_order}
+use Rattle.gb_core.specs.Lists.{byte_order, has_text, no_repeats}
 use Rattle.gb_core.proofs.Found.{find-same, find-other}
 use Rattle.gb_table.specs.declared.table.AddFault.{AddFault}
 use Rattle.gb_table.specs.declared.table.AddFault.TheVariants.{Taken, OutOfMemory}
@@ -46,3 +48,18 @@ module _ {K S : Type 0} (text : K → List ℕ) where
       → is_some (find byte_order q table) ≡ is_some (lookup (λ k. bytes_eq name (text k)) es)
   found-by q name es table is same =
       ap (λ x. is_some (find byte_order q x)) (sym is) ∙ ap is_some (find-named q es) ∙ ap (λ n. is_some (lookup (λ k. bytes_eq n (text k)) es)) (sym same)
+
+  none_has : (q : List ℕ) (es : List (K × S)) → AllByRecursion (λ k. bytes_eq q (text k) ≡ false) (map (λ e. e.0) es)
+      → has_text (map (λ e. e.0) (named es)) q ≡ false
+  none_has q [] others = refl
+  none_has q (e ∷ es) others =
+      ap (λ b. b || has_text (map (λ e. e.0) (named es)) q) others.0 ∙ none_has q es others.1
+
+  -- keys whose texts differ give a table in which no name is there twice
+  pub no_repeats-named : (es : List (K × S)) → IsDistinct (λ k other. bytes_eq (text k) (text other)) (map (λ e. e.0) es)
+      → no_repeats (map (λ e. e.0) (named es)) ≡ true
+  no_repeats-named [] distinct = refl
+  no_repeats-named (e ∷ es) distinct =
+      let alone = none_has (text e.0) es (IsDistinct-head (λ k other. bytes_eq (text k) (text other)) e.0 (map (λ e. e.0) es) distinct) in
+      let others = no_repeats-named es (IsDistinct-tail (λ k other. bytes_eq (text k) (text other)) e.0 (map (λ e. e.0) es) distinct) in
+      ap (λ b. not b && no_repeats (map (λ e. e.0) (named es))) alone ∙ others

@@ -1,9 +1,9 @@
 //! Values by name.
 ghost use Rattle.std.specs.Prelude.{◌≡◌, [], ◌∷◌, ◌++◌, ◌↔◌, None, OnOk, OnErr, IfOk, IsErrOf};
-ghost use Rattle.std.specs.Prelude.{IsSome, map, string_bytes};
+ghost use Rattle.std.specs.Prelude.{IsSome, true, map, string_bytes};
 ghost use Rattle.std.specs.FinMap.Entries.{find};
 ghost use Rattle.std.specs.Option.{option_copied};
-ghost use Rattle.gb_core.specs.Lists.{byte_order};
+ghost use Rattle.gb_core.specs.Lists.{byte_order, no_repeats};
 
 use gb_core::name::Name;
 use indexmap::IndexMap;
@@ -103,6 +103,13 @@ impl<S: Drop> NamedTable<S> {
             named.push(entry)?;
         }
         Ok(named)
+    }
+
+    /// No two entries have one name. A caller learns this; nothing happens at run time.
+    pub fn names_are_unique(&self)
+        ensures { no_repeats (map (λ entry. entry.0) self.now) ≡ true }
+    {
+        let _count = self.entries.len();
     }
 
     /// The value of the name. Takes no memory.
