@@ -5,10 +5,11 @@ ghost use Rattle.gb_words.specs.Faults.{TellsFirst};
 ghost use Rattle.gb_words.specs.Words.{words_faults};
 
 use crate::words::command_words;
+use gb_core::path::ProjectPath;
 use gb_core::place::Place;
 use gb_disk::disk::DiskFolder;
 use gb_folder::folder::Folder;
-use gb_registry::projects::{ProjectSet, projects};
+use gb_registry::projects::projects;
 use gb_report::fault::Fault;
 use gb_script::{MAX_SCRIPT, read_settings};
 use gb_words::words::read;
@@ -76,7 +77,7 @@ fn lock_projects<R: Files<File = File> + AllocGlobal>(
     let Some(projects) = projects_here(rt) else {
         return Ok(());
     };
-    for (_path, folder) in projects.as_slice() {
+    for (_path, folder) in projects.iter() {
         if let Some(lock) = lock_at(rt, folder.as_ref()) {
             held.push(lock)?;
         }
@@ -84,8 +85,8 @@ fn lock_projects<R: Files<File = File> + AllocGlobal>(
     Ok(())
 }
 
-/// The projects that `settings.gb` includes. The build reports why there are none.
-fn projects_here<R: Files + AllocGlobal>(rt: &R) -> Option<ProjectSet> {
+/// The projects that `settings.gb` includes, with their folders. The build reports why there are none.
+fn projects_here<R: Files + AllocGlobal>(rt: &R) -> Option<Vec<(ProjectPath, Option<Place>)>> {
     let alloc = rt.alloc();
     let place = Place::read(alloc, "settings.gb").ok()?;
     let mut folder = DiskFolder::new(rt, String::new(alloc));
