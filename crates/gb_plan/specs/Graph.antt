@@ -1,4 +1,5 @@
 -- The plan of what was asked: which tasks are scheduled, and in which order they stand.
+pub use Rattle.gb_core.specs.Lists.{no_repeats}
 use Rattle.std.specs.Prelude.{ℕ, ◌≡◌, ◌<◌, Bool, true, false, not, ◌&&◌, ◌||◌, ◌==◌, ◌↔◌, List, [], ◌∷◌, ◌++◌}
 use Rattle.std.specs.Prelude.{map, if◌then◌else◌, bytes_eq, nat_lt, nat_eq, codes, Option, Some, None, Result}
 use Rattle.std.specs.Prelude.{Ok, Err, IsTrue, IfOk, slice_get}
@@ -39,11 +40,6 @@ names_of path = filter (λ name. not (is_empty name)) (slice_split (λ byte. byt
 -- the build folder of a project: `build` in the project's folder
 abbrev pub build_folder : Path → Place
 build_folder path = join_by (λ name. name) (codes "/") (names_of path ++ codes "build" ∷ [])
-
--- no path stands twice
-abbrev pub no_repeats : List Path → Bool
-no_repeats [] = true
-no_repeats (path ∷ paths) = not (has_path paths path) && no_repeats paths
 
 -- A task declared under a path: the path is its own, its project is registered and so is what it brings, and
 -- its outputs are those of actions and lie beneath the build folder of its project.

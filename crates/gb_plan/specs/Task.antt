@@ -1,5 +1,6 @@
 -- What the parts of a declared task are called: its places, and what actions see of it.
-use Rattle.std.specs.Prelude.{ℕ, ◌≡◌, Bool, true, false, List, [], map, bytes_eq}
+pub use Rattle.gb_core.specs.Lists.{has_text as has_path}
+use Rattle.std.specs.Prelude.{ℕ, ◌≡◌, Bool, true, false, List, [], map}
 use Rattle.std.specs.List.{list_any, flat_map}
 use Rattle.gb_core.specs.Place.{is_under}
 use Rattle.gb_folder.specs.Files.{Place, is_empty}
@@ -14,9 +15,6 @@ Text = List ℕ
 -- the path of a task, as `:lib:gen`, or of a project, as `:lib`
 abbrev pub Path : Type 0
 Path = List ℕ
-
-abbrev pub has_path : List Path → Path → Bool
-has_path paths path = list_any (bytes_eq path) paths
 
 -- the roots of all file properties
 abbrev pub roots_of : TaskDeclaration → List Place
