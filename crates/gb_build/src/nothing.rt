@@ -1,10 +1,9 @@
 //! Events over a folder in memory that holds nothing yet.
-ghost use Rattle.std.specs.Prelude.{◌≡◌, [], true, IfOk, map};
+ghost use Rattle.std.specs.Prelude.{[], IfOk};
 ghost use Rattle.gb_meaning.specs.Every.{PromiseHolds};
 ghost use Rattle.gb_meaning.specs.Granted.{leaves_nothing};
 ghost use Rattle.gb_meaning.specs.Headline.{Agrees, Stands};
 ghost use Rattle.gb_meaning.specs.Kinds.{Kinds};
-ghost use Rattle.gb_plan.specs.Graph.{no_repeats};
 ghost use Rattle.gb_registry.specs.Tables.{tables_of};
 ghost use Rattle.gb_build.specs.Registering.{setting_of};
 
@@ -19,15 +18,15 @@ use gb_registry::tables::Tables;
 use std::alloc::{AllocError, Global};
 
 /// Takes the events in their order over an empty folder in memory, and answers each. All that `run_events`
-/// asks for is granted here, where no name of an action stands twice: some kinds agree with the table, the
-/// folder holds the records of an empty memory, and nothing is torn.
+/// assumes is proved here: the table has each name of an action once, so some kinds agree with it; the folder
+/// holds the records of an empty memory; and there are no torn writes.
 pub fn run_from_nothing<A: Actions, T: Transforms, L: TaskListener>(
     alloc: Global,
     tables: &Tables<A, T>,
     events: &[Event],
     listeners: &mut Vec<L>,
 ) -> Result<(MemoryFolder, Vec<Answer>), AllocError>
-    ensures { no_repeats (map (λ row. row.0) tables.now.actions) ≡ true → IfOk result (λ made. (kinds : Kinds)
+    ensures { IfOk result (λ made. (kinds : Kinds)
         × Agrees A.meanings tables.now.actions kinds
         × Stands (setting_of (tables_of T.meanings A.meanings tables.now) kinds leaves_nothing)
         (record { files = []; odd = [] }) []
@@ -36,6 +35,7 @@ pub fn run_from_nothing<A: Actions, T: Transforms, L: TaskListener>(
         events.now made.1.items
         (record { contents = record { files = made.0.files; odd = [] }; failures = 0 })) }
 {
+    tables.actions.names_are_unique();
     some_kinds_agree::<A>();
     let mut folder = MemoryFolder::new(alloc);
     let answers = run_events(alloc, &mut folder, tables, events, listeners)?;

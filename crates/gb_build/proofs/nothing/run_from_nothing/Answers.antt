@@ -21,8 +21,8 @@ none_torn : TearsAreSeen IsText record_place leaves_nothing
 none_torn path old new left is_path of_tool torn = absurd torn
 
 pub returns : goal.returns
-returns g c = λ once.
-    let kinds = c.some_kinds_agree.ensures c.args.tables.now.actions once in
+returns g c =
+    let kinds = c.some_kinds_agree.ensures c.args.tables.now.actions c.names_are_unique.ensures in
     let setting : Setting = setting_of (tables_of g.T.Transforms.meanings g.A.Actions.meanings c.args.tables.now) kinds.0 leaves_nothing in (
       kinds.0,
       kinds.1,
