@@ -1,13 +1,12 @@
 -- Edits, by what the folder answers.
 use Rattle.std.proofs.Common.{◌≡◌, ◌≢◌, ◌≤◌, ◌<◌, ◌⊎◌, ℕ, true, false, List, None, Some, Ok, Err, OnOk, IfErr, IsTrue, length, refl, ap, subst, ◌∙◌, inl, inr}
 use Rattle.std.specs.Cmp.Lexicographic.{bytes_decides}
-use Rattle.gb_folder.specs.Files.{Place, Contents, IsFolder, HasRisen, SameTearing, Tearing, file_at, is_blocked, is_odd_under, is_own, places_under}
+use Rattle.gb_folder.specs.Files.{Place, Contents, IsFolder, HasRisen, SameTearing, Tearing, file_at, is_blocked, is_odd_under, is_own, places_under, IsTorn}
 use Rattle.gb_folder.specs.declared.folder.FolderFault.{FolderFault}
 use Rattle.gb_folder.specs.declared.folder.FolderFault.TheVariants as folders
 use Rattle.gb_folder.specs.Limits.{max_file}
 use Rattle.gb_report.specs.declared.fault.Fault.{Fault}
 use Rattle.gb_report.specs.declared.fault.Fault.TheVariants as faults
-use Rattle.gb_folder.specs.Semantics.{IsTorn}
 use Rattle.gb_store.specs.Changes.{IsCutShort, is_at, without_all}
 use Rattle.gb_store.specs.Faults.{IsOfMachine, told_at}
 use Rattle.gb_store.proofs.Emptied.{emptied_place}

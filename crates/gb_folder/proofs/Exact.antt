@@ -10,8 +10,8 @@ use Rattle.gb_core.specs.Lists.{byte_order}
 use Rattle.gb_core.specs.Place.{is_under}
 use Rattle.gb_folder.specs.Calls.{answered}
 use Rattle.gb_folder.specs.Device.{ListsWell, ReadsPartWell, ReadsWell, RemovesWell, WritesWell}
-use Rattle.gb_folder.specs.Files.{Bytes, Contents, Place, Tearing, file_at, is_blocked, is_odd_under, places_under, with_file, without}
-use Rattle.gb_folder.specs.Semantics.{Answer, IsTorn, Listed, Read, ReadPart, Removed, Unread, Wrote}
+use Rattle.gb_folder.specs.Files.{Bytes, Contents, IsTorn, Place, Tearing, file_at, is_blocked, is_odd_under, places_under, with_file, without}
+use Rattle.gb_folder.specs.Semantics.{Answer, Listed, Read, ReadPart, Removed, Unread, Wrote}
 use Rattle.gb_folder.specs.declared.folder.FolderFault.{FolderFault}
 use Rattle.gb_folder.specs.declared.folder.FolderFault.TheVariants as folders
 

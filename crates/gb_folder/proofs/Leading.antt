@@ -4,8 +4,8 @@ use Rattle.std.specs.List.{AllByRecursion}
 use Rattle.std.proofs.Common.{refl, sym, subst, arith}
 use Rattle.gb_folder.specs.Calls.{Asks, Call, IsPermitted, Lists, Permit, Reads, ReadsPart, Removes, Writes}
 use Rattle.gb_folder.specs.Device.{Device, IsCalled, Leads}
-use Rattle.gb_folder.specs.Files.{Bytes, Contents, IsFolder, Place, SameTearing, Tearing}
-use Rattle.gb_folder.specs.Semantics.{Answers, AnswersAll, IsTorn}
+use Rattle.gb_folder.specs.Files.{Bytes, Contents, IsFolder, IsTorn, Place, SameTearing, Tearing}
+use Rattle.gb_folder.specs.Semantics.{Answers, AnswersAll}
 use Rattle.gb_folder.specs.declared.folder.FolderFault.TheVariants as folders
 use Rattle.gb_folder.proofs.Asked.{asks_nothing, asks_then, one_call}
 use Rattle.gb_folder.proofs.Changes.{SameTearing-same, SameTearing-chain}

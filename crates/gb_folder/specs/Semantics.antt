@@ -1,21 +1,15 @@
 -- What a folder answers to a call, and what it then holds.
-use Rattle.std.specs.Prelude.{ℕ, ◌≡◌, ◌<◌, ◌≤◌, false, List, [], ◌∷◌, Option, Some, None, Result, Ok, Err, IsTrue}
+use Rattle.std.specs.Prelude.{ℕ, ◌≡◌, ◌<◌, ◌≤◌, false, List, [], ◌∷◌, Some, None, Result, Ok, Err, IsTrue}
 use Rattle.std.specs.Prelude.{length, take, drop, IsSome}
 use Rattle.gb_folder.specs.Calls.{Call, Lists, Reads, ReadsPart, Writes, Removes}
-use Rattle.gb_folder.specs.Files.{Bytes, Contents, IsFolder, Place, Tearing, file_at, is_blocked, is_odd_under}
-use Rattle.gb_folder.specs.Files.{places_under, with_file, with_left, without}
+use Rattle.gb_folder.specs.Files.{Bytes, Contents, IsFolder, IsTorn, Place, Tearing, file_at, is_blocked}
+use Rattle.gb_folder.specs.Files.{is_odd_under, places_under, with_file, without}
 use Rattle.gb_folder.specs.declared.folder.FolderFault.{FolderFault}
 use Rattle.gb_folder.specs.declared.folder.FolderFault.TheVariants as folders
 
 -- the answer to a write or a removal
 abbrev pub Answer : Type 0
 Answer = Result (Unit {0}) FolderFault
-
--- The device stopped a write or a removal at a place: the place holds what the device may leave there.
-abbrev pub IsTorn : Tearing → Place → Option Bytes → Contents → Contents → Type 0
-IsTorn may_leave place next old new =
-    (left : Option Bytes) × may_leave place (file_at old.files place) next left
-    × (new ≡ record old { files = with_left old.files place left })
 
 abbrev pub Listed : Contents → Place → Result (List Place) FolderFault → Type 0
 Listed old root (Ok places) = (places ≡ places_under old.files root) × (is_odd_under old root ≡ false)

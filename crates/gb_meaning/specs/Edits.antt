@@ -2,11 +2,10 @@
 use Rattle.std.specs.Prelude.{ℕ, ◌≡◌, ◌≤◌, ◌<◌, ◌⊎◌, false, not, Option, None, Some, IsSome}
 use Rattle.std.specs.Prelude.{IsTrue, codes, length}
 use Rattle.gb_folder.specs.Files.{Place, Bytes, Contents, HasRisen, Tearing, file_at, files_where, is_blocked}
-use Rattle.gb_folder.specs.Files.{is_odd_under, is_own, places_under, with_file, without}
+use Rattle.gb_folder.specs.Files.{IsTorn, is_odd_under, is_own, places_under, with_file, without}
 use Rattle.gb_folder.specs.Limits.{max_file}
 use Rattle.gb_report.specs.declared.fault.Fault.{Fault}
 use Rattle.gb_report.specs.declared.fault.Fault.TheVariants as faults
-use Rattle.gb_folder.specs.Semantics.{IsTorn}
 use Rattle.gb_store.specs.Changes.{IsCutShort}
 use Rattle.gb_store.specs.Faults.{IsOfMachine}
 use Rattle.gb_meaning.specs.declared.events.Answer.{Answer}

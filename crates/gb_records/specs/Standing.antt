@@ -7,7 +7,7 @@ use Rattle.sha2.specs.Sha256.{sha256}
 use Rattle.gb_core.specs.Lists.{byte_order}
 use Rattle.gb_core.specs.Path.{is_task_path}
 use Rattle.gb_core.specs.Place.{is_place}
-use Rattle.gb_folder.specs.Files.{Bytes, Files, Contents, HasRisen, Tearing, file_at}
+use Rattle.gb_folder.specs.Files.{Bytes, Files, Contents, HasRisen, Tearing, file_at, IsTorn}
 use Rattle.gb_folder.specs.Files.{is_blocked, with_file, without}
 use Rattle.gb_plan.specs.Task.{Path}
 use Rattle.gb_history.specs.Record.{Record}
@@ -16,7 +16,6 @@ use Rattle.gb_history.specs.Places.{record_place}
 use Rattle.gb_meaning.specs.Events.{max_record}
 use Rattle.gb_meaning.specs.Memory.{Entry, Memory, recalled, remember, forget}
 use Rattle.gb_meaning.specs.TrueRecord.{Stores}
-use Rattle.gb_folder.specs.Semantics.{IsTorn}
 use Rattle.gb_records.specs.Said.{IsText}
 use Rattle.gb_records.specs.declared.fault.Unwritten.{Unwritten}
 use Rattle.gb_records.specs.declared.fault.Unwritten.TheVariants as unwritten

@@ -2,12 +2,11 @@
 use Rattle.std.proofs.Common.{◌≡◌, ◌≢◌, ◌<◌, ◌+◌, inl, inr, ℕ, zero, suc, Bool, true, List, [], ◌∷◌, ◌++◌, Option, None, fold, take, drop, length, get_or, refl, sym, ap, subst, ◌∙◌}
 use Rattle.std.proofs.lemmas.List.{take-append-drop, take_more}
 use Rattle.std.specs.List.{AllByRecursion}
-use Rattle.gb_folder.specs.Files.{Place, Bytes, Contents, Files, SameTearing, Tearing, without}
+use Rattle.gb_folder.specs.Files.{Place, Bytes, Contents, Files, SameTearing, Tearing, without, IsTorn}
 use Rattle.gb_folder.specs.declared.folder.FolderFault.{FolderFault}
 use Rattle.gb_folder.specs.declared.folder.FolderFault.TheVariants as folders
 use Rattle.gb_report.specs.declared.fault.Fault.{Fault}
 use Rattle.gb_report.specs.declared.fault.Fault.TheVariants as faults
-use Rattle.gb_folder.specs.Semantics.{IsTorn}
 use Rattle.gb_store.specs.Changes.{ChangesOnly, IsCutShort, IsHindered, without_all}
 use Rattle.gb_store.specs.Faults.{told_at}
 use Rattle.gb_store.proofs.Loops.{step_here}

@@ -1,6 +1,6 @@
 use Rattle.std.proofs.Common.{◌<◌, ℕ, List, Some, length, subst, Err, ap, sym, ◌∙◌, inl, inr, refl}
 use Rattle.gb_folder.specs.Limits.{max_file}
-use Rattle.gb_folder.specs.Semantics.{IsTorn}
+use Rattle.gb_folder.specs.Files.{IsTorn}
 use Rattle.gb_store.specs.Faults.{told_at}
 use Rattle.gb_build.proofs.Editing.{put_failed}
 use Rattle.gb_folder.specs.Calls.{Writes}
