@@ -1,6 +1,4 @@
-" Vim syntax file for the notation of build.gb and settings.gb (docs/REFERENCE.md, "The notation").
-" Copy it to ~/.vim/syntax/gb.vim, and put into ~/.vim/ftdetect/gb.vim:
-"   autocmd BufNewFile,BufRead *.gb setfiletype gb
+" Colours for the notation of build.gb and settings.gb (docs/REFERENCE.md, "The notation").
 
 if exists("b:current_syntax")
   finish

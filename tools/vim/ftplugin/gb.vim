@@ -1,0 +1,10 @@
+" Comments and names of the notation, and :make, which goes to the line of a fault.
+
+if exists("b:did_ftplugin")
+  finish
+endif
+let b:did_ftplugin = 1
+
+setlocal comments=:// commentstring=//\ %s iskeyword=@,48-57,_,-
+setlocal makeprg=gb errorformat=REFUSED\ %n\ %m\ %f:%l,%-G%.%#
+let b:undo_ftplugin = "setlocal comments< commentstring< iskeyword< makeprg< errorformat<"
