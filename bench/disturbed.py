@@ -2,10 +2,11 @@
 """disturbed.py PROGRAM [--every K] [--pairs N] [--first]: somebody else writes in a folder that gb builds.
 
 A build of four tasks, in full and by changes, is stopped before each of its calls of the file system (or
-before each K-th one), and meanwhile one thing is changed; then it goes on to its end. After that the built
-gb runs once more, nobody else about, and a second time if that failed. Then the outputs have to be those of
-a first build of a copy of the sources. Told is for each change how often it was tried, and how often the
-outputs were wrong; with --first also the first wrong case of each.
+before each K-th one), and meanwhile one thing is changed; then it goes on to its end, or is killed. A copy of
+a large source then has to be of one version, old or new. After that the built gb runs once more, nobody else
+about, and a second time if that failed. Then the outputs have to be those of a first build of a copy of the
+sources, and nothing may be left in `.gb/new`. For each change the script prints how often it was tried, and
+how often something was wrong; with --first also the first wrong case of each.
 
 Then two builds run at once in one folder, N times (300), with different values of a property, and after them
 a third one alone: all outputs have to be of its value.
@@ -25,15 +26,18 @@ register prints : sums {
 register words : wordIndex { inputFiles src incremental from dir("src") outputDir out = dir("build/w") }
 register build { dependsOn "copies", "joined", "prints", "words" }
 """
-SOURCES = {"changed": "one two\n", "d/gone": "gone\n", "d/kept": "it stays\n", "kept": "this stays too\n"}
+LARGE = {"old": "one two three\n" * 12_000, "new": "six ten seven\n" * 12_000,
+         "longer": "six ten seven\n" * 13_000, "shorter": "six ten seven\n" * 9_000}
+SOURCES = {"changed": "one two\n", "d/gone": "gone\n", "d/kept": "it stays\n", "kept": "this stays too\n",
+           "large": LARGE["old"]}
 TASKS = 40
 AT_ONCE = 2  # cases are tried side by side
 
 
-def saved(name):
-    """A file that an editor puts in place of the one that stood."""
+def saved(name, text="a text that was saved\n"):
+    """A file that an editor puts in place of the one that was there."""
     def change(folder):
-        put(folder / "src" / f".{name}.new", "a text that was saved\n")
+        put(folder / "src" / f".{name}.new", text)
         os.replace(folder / "src" / f".{name}.new", folder / "src" / name)
     return change
 
@@ -60,6 +64,10 @@ def removed(place):
     return change
 
 
+def killed(folder):
+    """The build itself is killed."""
+
+
 def cleared(*names):
     def change(folder):
         for name in names:
@@ -71,6 +79,8 @@ OUTPUTS = ["build/o/d/kept", "build/all", "build/s/d/kept", "build/w/stays"]
 FOREIGN = ["build/o/foreign", "build/s/foreign", "build/w/foreign", *OUTPUTS]
 CHANGES = {
     "a source is saved by rename": [saved("kept"), saved("changed")],
+    "a large source is saved": [saved("large", LARGE[it]) for it in ("new", "longer", "shorter")],
+    "the build is killed": [killed],
     "a source is saved in place": [written("src/kept"), written("src/d/kept", "x"), written("src/changed")],
     "a source is added": [written("src/d/new"), written("src/0")],
     "a source is removed": [removed("src/kept"), removed("src/changed")],
@@ -123,15 +133,21 @@ def tried(rooms, before, moment, change):
     if process is None:
         return "it ended before"
     is_changed = change(room) is not False
+    if change is killed:
+        process.kill()
     told = go_on(process)
     if not is_changed:
         return None
+    copy = room / "build/o/large"
+    if copy.is_file() and copy.read_text() not in LARGE.values():
+        return "a copy of two versions, or a part of one"
     again = rooms.program.run(room, ["build"])
     if again[0]:
         again = rooms.program.run(room, ["build"])
     want, have = rooms.outputs(files(room / "src")), files(room / "build")
     if again[0] == 0 and have == want:
-        return ""
+        left = list((room / ".gb/new").rglob("*"))
+        return f"left over: {left}" if left else ""
     wrong = sorted(it for it in want.keys() | have.keys() if want.get(it) != have.get(it))
     return f"status {told[0]}, then {again[0]} {again[1].splitlines()[-1:]}, wrong: {', '.join(wrong)}"
 
@@ -145,6 +161,7 @@ def begun(program, top):
     assert status == 0, text
     put(by_changes / "src/changed", "three two\n")
     put(by_changes / "src/e", "added\n")
+    put(by_changes / "src/large", LARGE["shorter"])
     (by_changes / "src/d/gone").unlink()
     return {"in full": full, "by changes": by_changes}
 
