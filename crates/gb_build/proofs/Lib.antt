@@ -33,3 +33,4 @@ pub mod Alike
 pub mod Running
 pub mod Blaming
 pub mod EventAsked
+pub mod OnePlan
