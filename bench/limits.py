@@ -180,17 +180,25 @@ def apart(work, *given):
         sys.exit(f"{work.__name__} {given} failed")
 
 
+def start(program, arguments, folder, source, report):
+    """Becomes the program."""
+    try:
+        os.chdir(folder)
+        os.dup2(source.fileno(), 0)
+        os.dup2(report.fileno(), 1)
+        resource.setrlimit(resource.RLIMIT_AS, (ROOM, ROOM))
+        os.execv(program, [program, *arguments])
+    finally:
+        os._exit(127)
+
+
 def run(room, given):
     """Processor seconds, the most memory in MB, and how the report ends."""
     arguments = [it for it in room.joinpath("arguments").read_text().split("\0") if it]
     with open(room / "input") as source, open(room / "report", "w+b") as report:
         pid = os.fork()
         if pid == 0:
-            os.chdir(room / "folder")
-            os.dup2(source.fileno(), 0)
-            os.dup2(report.fileno(), 1)
-            resource.setrlimit(resource.RLIMIT_AS, (ROOM, ROOM))
-            os.execv(given.program, [given.program, *arguments])
+            start(given.program, arguments, room / "folder", source, report)
         _, _, used = os.wait4(pid, 0)
         size = report.seek(0, os.SEEK_END)
         report.seek(max(0, size - 400))
@@ -232,6 +240,8 @@ def main():
     words.add_argument("--rounds", type=int, default=3, metavar="N", help="3 where none is given")
     given = words.parse_args()
     given.program = str(pathlib.Path(given.program).resolve())
+    if not os.access(given.program, os.X_OK):
+        words.error(f"no program at {given.program}")
     for make, count in LAYOUTS.items():
         if given.layout and make.__name__ not in given.layout:
             continue

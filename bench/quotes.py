@@ -12,6 +12,8 @@
   each group, in the order of crates.txt.
 - A file of a crate's src/ that is named in the tables of docs/CRATES.md is there, and each one is named.
 - Files and definitions in that page's table of rules are there.
+- The words of the notation in docs/REFERENCE.md are in the files of tools/ for editors, and the options of
+  the command line in those for shells.
 - No line of a document is longer than 110 columns.
 """
 import os
@@ -32,6 +34,14 @@ ROOTS = [
     ("gb_records", "Granted"),
     ("gb_build", "Registering"),
     ("gb_registry", "Tables"),
+]
+# Headings of docs/REFERENCE.md whose tables have the words of the notation.
+WORDS_BELOW = [
+    "### Statements of `build.gb`",
+    "### Clauses of a block",
+    "### Expressions",
+    "### The functions",
+    "## Kinds of actions",
 ]
 faults = []
 
@@ -181,6 +191,34 @@ def check_rules():
             faults.append(f"docs/CRATES.md: no {word} in {path}")
 
 
+def check_tools():
+    words = {word for heading in WORDS_BELOW for row in cells_below(heading) for word in words_of(row)}
+    for path in ("tools/vim/syntax/gb.vim", "tools/vscode/gb.tmLanguage.json"):
+        there = set(re.findall(r"[A-Za-z]+", "\n".join(lines_of(path))))
+        for word in sorted(words - there):
+            faults.append(f"{path}: no {word}")
+    options = re.findall(r"`(--?[a-zA-Z][a-z-]*)", " ".join(cells_below("## The command line")))
+    for path in ("gb.bash", "_gb", "gb.fish"):
+        text = "\n".join(lines_of(f"tools/completions/{path}"))
+        # fish has `-l continue` for `--continue`, and `-s m` for `-m`
+        text = re.sub(r"-s (\w) ", r" -\1 ", re.sub(r"-l ", " --", text)) if path == "gb.fish" else text
+        for option in options:
+            if not re.search(rf"(?<![\w-]){option}(?![a-z-])", text):
+                faults.append(f"tools/completions/{path}: no {option}")
+
+
+def cells_below(heading):
+    """The first cells of the tables below a heading of the reference."""
+    text = "\n".join(lines_of("docs/REFERENCE.md")).partition(f"\n{heading}\n")[2]
+    return re.findall(r"(?m)^\| (`.*?`) \|", re.split(r"(?m)^##", text)[0])
+
+
+def words_of(cell):
+    """The words of the notation in a cell: what is in texts, and names that the reader chooses, are none."""
+    bare = re.sub(r'"[^"]*"', "", " ".join(re.findall(r"`([^`]*)`", cell)))
+    return set(re.findall(r"(?<![\w-])[a-z][A-Za-z]+(?![\w-])", bare))
+
+
 def check_columns(path):
     for number, line in enumerate(lines_of(path), 1):
         if len(line) > MOST_COLUMNS:
@@ -198,6 +236,7 @@ def main(words):
     check_crates()
     check_rules()
     check_theorem()
+    check_tools()
     for fault in faults:
         print(fault)
     print(f"{len(DOCS)} documents, {len(faults)} faults")

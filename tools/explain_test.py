@@ -93,6 +93,8 @@ def cures():
     syntax("    register u {", "a bracket is open here since build.gb:1", cured, above="register t {\n")
     syntax("}", "the line above is not complete: build.gb:2: onlyIf p", above="register t {\n  onlyIf p\n")
     syntax("    input = p", "written in full: input n = EXPR", *others, hasnt=[cured])
+    for line in ('    inputFiles src from task("a") dir("b")', "register delete : copyFiles dir"):
+        syntax(line, "written in full: ", *others, hasnt=[cured, "for Gradle's"])
 
 
 def cures_of_tasks():
@@ -107,13 +109,20 @@ def cures_of_tasks():
     check("52", named.explain(REFUSED.format("52 task not found complie")), ["did you mean compile?", cured])
     ran = named.explain(REFUSED.format("59 unknown output :t out"))
     check("59", ran, ["the outputs of :t are made", cured])
-    check("33", named.explain(REFUSED.format("33 no value :t printLine")), ["build.gb:2: register t"], [
-        "`printLine` is the name"])
+    valued = Folder(build='property v\nset v = gradleProperty("v")\nregister t { doLast printLine(v) }\n')
+    ran = valued.explain(REFUSED.format("33 no value :t printLine"))
+    check("33", ran, ["build.gb:3: register t", "build.gb:2: set v = "], ["`printLine` is the name"])
+    twice = Folder(build=TASK.replace('dir("src")', 'dir("in/m"), dir("in/n")'))
+    for place in ("in/m", "in/n", "in/n/o"):
+        (twice.at / place).mkdir(parents=True)
+        (twice.at / place / "a").touch()
+    ran = twice.explain(FAILED.format("", "71 duplicate input src a"))
+    check("71", ran, ["in/m/a has this path", "in/n/a has this path"], ["in/n/o/a"])
     (named.at / "sub").mkdir()
     inner = Folder()
     inner.at = named.at / "sub"
     ran = inner.explain(REFUSED.format("52 task not found t"))
-    check("52 in a folder beneath", ran, ["but one above has: "])
+    check("52 in a subfolder", ran, ["but one above has: "])
     copied = Folder()
     shutil.copy(explain, copied.at / "explain")
     check("without FAULTS.md", copied.explain(REFUSED.format("64 no tasks"), program=copied.at / "explain"),
