@@ -11,19 +11,19 @@ use std::alloc::{AllocError, Global};
 /// So many folders are known at most.
 const MOST: usize = 8;
 
-/// The folders that were met last, so that what stands in one of them is looked at by its whole path at once,
-/// and the file that the call before listed alone, so that a read of it does not look again.
+/// The folders that were met last, so that the system is asked for a whole path in one of them at once;
+/// and the file that the call before listed alone, so that a read of it does not look it up again.
 ///
-/// If somebody else writes in the folder during a build, what stands at a place is still seen as it is, but
-/// for two changes. A look by a whole path that finds neither a file nor a folder, as beneath a folder that
-/// was taken away or gave way to a file, forgets all and goes down from the top; each write and each removal
-/// goes down from there anyway. Not noticed, until so many other folders were met or a call fails, is a link
-/// put in place of a known folder, where it leads to a folder with a file or a folder at the rest of the
-/// place: `list`, `read` and `read_part` follow it; and a link put in place of the tool's own folder, beneath
-/// which a file is written before it is moved to its place. Nor is it noticed if a file gives way to another
-/// one of the same length, to a link to such a one, to a pipe or a device, between a `list` that answers it
-/// alone and a `read` or `read_part` of it that comes next: what stands there is opened. If that is no file of
-/// the length that was listed, or cannot be read, it is looked at again.
+/// If somebody else writes in the folder during a build, each place is still seen as it is, with two
+/// exceptions. A look-up by a whole path that finds neither a file nor a folder forgets all and goes down
+/// from the top; each write and each removal goes down from there anyway. First exception: a link in
+/// place of a known folder. Until so many other folders were met or a call fails, `list`, `read` and
+/// `read_part` follow it, if it leads to a folder that has the rest of the place. A link in place of the
+/// tool's own folder is such a one: a file is written beneath it before it is renamed to its place.
+/// Second exception: between a `list` that answers a file alone and the read of it that comes next, the
+/// file gives way to another one of the same length, to a link to such a one, to a pipe or a device.
+/// Whatever is there is opened. If it is no file of the listed length, or cannot be read, it is looked up
+/// again.
 #[derive(Drop)]
 pub(crate) struct Trail {
     /// Room for the path that the next call is made at.
