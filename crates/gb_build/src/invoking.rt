@@ -113,7 +113,9 @@ pub fn invoke<A: Actions, T: Transforms, F: Folder, L: TaskListener, P: Printer>
     let copied = invocation.properties.copy(alloc)?;
     let given = copied.into_vec();
     let configured = read_registry(alloc, folder, tables, given)?;
-    build_registered(alloc, folder, &configured, invocation, listeners, printer)
+    let answered = build_registered(alloc, folder, &configured, invocation, listeners, printer);
+    P::finish(configured);
+    answered
 }
 
 /// Builds what is asked of the tasks of these scripts.
@@ -161,7 +163,7 @@ fn build_registered<A: Actions, T: Transforms, F: Folder, L: TaskListener, P: Pr
 {
     let _scripts = configured.registry.scripts();
     let mut tasks = ScriptTasks::declare(alloc, configured)?;
-    build_requested::<A, F, L, P, _>(
+    let answered = build_requested::<A, F, L, P, _>(
         alloc,
         folder,
         &mut tasks,
@@ -169,5 +171,7 @@ fn build_registered<A: Actions, T: Transforms, F: Folder, L: TaskListener, P: Pr
         invocation,
         listeners,
         printer,
-    )
+    );
+    P::finish(tasks);
+    answered
 }

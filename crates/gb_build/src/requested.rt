@@ -106,5 +106,7 @@ pub fn build_requested<A: Actions, F: Folder, L: TaskListener, P: Printer, Ts: T
         printer,
         options,
     )?;
+    P::finish(plan);
+    P::finish(records);
     Ok(report)
 }

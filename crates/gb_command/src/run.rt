@@ -57,7 +57,7 @@ pub fn run<A: Actions, T: Transforms, F: Folder, W: Printer>(
     let answer = answered(alloc, folder, words, tables, writer);
     let status = status_of(&answer);
     print_rest(alloc, writer, &answer);
-    drop(answer);
+    W::finish(answer);
     if writer.is_whole() {
         Some(status)
     } else {

@@ -8,6 +8,7 @@ use gb_action::actions::Actions;
 use gb_action::table::{ActionTable, TableFault};
 use gb_command::run::{UNPRINTED, run};
 use gb_disk::disk::DiskFolder;
+use gb_printer::last::Last;
 use gb_printer::page::Page;
 use gb_provider::table::TransformTable;
 use gb_provider::transforms::Transforms;
@@ -74,7 +75,7 @@ fn built_alone<A: Actions, T: Transforms, R: Files + Env + Print + AllocGlobal>(
     let Ok(writer) = BufWriter::new(alloc, io::writer(rt)) else {
         return Err(AllocError);
     };
-    let mut page = Page::new(writer);
+    let mut page = Last::new(Page::new(writer));
     let words = command_words(rt);
     let status = run(alloc, &mut folder, words, &mut page, tables);
     Ok(status.unwrap_or(UNPRINTED))

@@ -35,6 +35,11 @@ pub trait Printer {
     /// Whether all that it was given is printed.
     fn is_whole(&self) -> bool
         ensures { result ≡ whole self.now };
+
+    /// Takes a value that a build needs no more, and drops it.
+    fn finish<T: Drop>(value: T) {
+        drop(value);
+    }
 }
 
 /// One who prints nothing, as if the first text could not be printed.

@@ -49,9 +49,9 @@ returns-clause-leads g c = λ tells kinds granted.
     let declared = registry_in g.T.Transforms.meanings g.A.Actions.meanings c.in_ok-tasks.tasks.workspace in
     let same : declared ≡ registry_said tables c.args.configured.now.registry = c.in_ok-tasks.ensures.registry in
     let old : Shown = record { contents = F.contents c.args.folder.now; failures = F.failures c.args.folder.now } in
-    let new : Shown = record { contents = F.contents c.build_requested.new.folder; failures = F.failures c.build_requested.new.folder } in
-    subst (λ (registry : Registry). Leads (setting_with kinds (λ files given. Ok registry) (F.may_leave c.args.folder.now)) old (events.Invoke c.args.invocation.now) (answer_of c.build_requested.result) new) same
-    (c.build_requested.ensures.leads tells kinds (λ files given. Ok declared) granted refl)
+    let new : Shown = record { contents = F.contents c.build_requested-answered.new.folder; failures = F.failures c.build_requested-answered.new.folder } in
+    subst (λ (registry : Registry). Leads (setting_with kinds (λ files given. Ok registry) (F.may_leave c.args.folder.now)) old (events.Invoke c.args.invocation.now) (answer_of c.build_requested-answered.result) new) same
+    (c.build_requested-answered.ensures.leads tells kinds (λ files given. Ok declared) granted refl)
 
 pub returns-clause-keeps : goal.returns-clause-keeps
 returns-clause-keeps g c = λ tells.
@@ -59,8 +59,8 @@ returns-clause-keeps g c = λ tells.
     let tables = tables_of g.T.Transforms.meanings g.A.Actions.meanings c.args.configured.now.tables.now in
     let declared = registry_in g.T.Transforms.meanings g.A.Actions.meanings c.in_ok-tasks.tasks.workspace in
     let same : declared ≡ registry_said tables c.args.configured.now.registry = c.in_ok-tasks.ensures.registry in
-    let changes = c.build_requested.ensures.elsewhere tells in
-    subst (λ (registry : Registry). KeepsElsewhere registry (F.contents c.args.folder.now) (F.contents c.build_requested.new.folder)) same (changes.elsewhere, changes.odd)
+    let changes = c.build_requested-answered.ensures.elsewhere tells in
+    subst (λ (registry : Registry). KeepsElsewhere registry (F.contents c.args.folder.now) (F.contents c.build_requested-answered.new.folder)) same (changes.elsewhere, changes.odd)
 
 pub returns-in_err-tasks-clause-keeps : goal.returns-in_err-tasks-clause-keeps
 returns-in_err-tasks-clause-keeps g c = λ tells. (refl, refl)
@@ -75,7 +75,7 @@ pub returns-clause-device : goal.returns-clause-device
 returns-clause-device g c =
     let tables = tables_of g.T.Transforms.meanings g.A.Actions.meanings c.args.configured.now.tables.now in
     let same : registry_in g.T.Transforms.meanings g.A.Actions.meanings c.in_ok-tasks.tasks.workspace ≡ registry_said tables c.args.configured.now.registry = c.in_ok-tasks.ensures.registry in
-    c.build_requested.ensures.device (subst NoneBlameDevice (sym same) (declared_blame_none tables c.args.configured.now.registry))
+    c.build_requested-answered.ensures.device (subst NoneBlameDevice (sym same) (declared_blame_none tables c.args.configured.now.registry))
 
 pub returns-in_err-tasks-clause-places : goal.returns-in_err-tasks-clause-places
 returns-in_err-tasks-clause-places g c =
@@ -99,31 +99,31 @@ returns-clause-outlined g c =
     let declared = registry_in g.T.Transforms.meanings g.A.Actions.meanings c.in_ok-tasks.tasks.workspace in
     each_report (IsOutlinedBy declared c.args.invocation.now) (IsOutlined c.args.invocation.now)
     (λ report is. record { registry = declared; is_registry = c.in_ok-tasks.tasks.ordered; outlined = is })
-    c.build_requested.result c.build_requested.ensures.outlined
+    c.build_requested-answered.result c.build_requested-answered.ensures.outlined
 
 pub returns-clause-not_begun : goal.returns-clause-not_begun
 returns-clause-not_begun g c =
     let F = g.F.Folder in
     let tables = tables_of g.T.Transforms.meanings g.A.Actions.meanings c.args.configured.now.tables.now in
     let same : registry_in g.T.Transforms.meanings g.A.Actions.meanings c.in_ok-tasks.tasks.workspace ≡ registry_said tables c.args.configured.now.registry = c.in_ok-tasks.ensures.registry in
-    subst (λ (registry : Registry). IfErr c.build_requested.result
-    (IsNotBegun registry c.args.invocation.now (F.failures c.args.folder.now) (F.failures c.build_requested.new.folder))) same c.build_requested.ensures.not_begun
+    subst (λ (registry : Registry). IfErr c.build_requested-answered.result
+    (IsNotBegun registry c.args.invocation.now (F.failures c.args.folder.now) (F.failures c.build_requested-answered.new.folder))) same c.build_requested-answered.ensures.not_begun
 
 pub returns-clause-places : goal.returns-clause-places
 returns-clause-places g c =
     let F = g.F.Folder in
     let tables = tables_of g.T.Transforms.meanings g.A.Actions.meanings c.args.configured.now.tables.now in
     let before = F.failures c.args.folder.now in
-    let after = F.failures c.build_requested.new.folder in
+    let after = F.failures c.build_requested-answered.new.folder in
     let registry = registry_said tables c.args.configured.now.registry in
     each_fault (IsNotBegun registry c.args.invocation.now before after) (λ (fault : Fault). (place : List ℕ) → fault ≡ faults.Device place → IsTrue (is_own place && not c.args.invocation.now.options.dry_run))
     (λ fault why. refused_at registry c.args.invocation.now fault before after (declared_blame_none tables c.args.configured.now.registry) why)
-    c.build_requested.result (returns-clause-not_begun g c)
+    c.build_requested-answered.result (returns-clause-not_begun g c)
 
 pub returns-clause-asks : goal.returns-clause-asks
 returns-clause-asks g c =
     registered_asks g.F.Folder.failures g.F.Folder.may_leave g.F.Folder.asked g.A.Actions.meanings c.args.configured.now.tables.now.actions c.args.invocation.now (registry_in g.T.Transforms.meanings g.A.Actions.meanings c.in_ok-tasks.tasks.workspace) c.in_ok-tasks.tasks.ordered
-    c.build_requested.result c.args.folder.now c.build_requested.new.folder c.build_requested.ensures.asks
+    c.build_requested-answered.result c.args.folder.now c.build_requested-answered.new.folder c.build_requested-answered.ensures.asks
 
 pub returns-in_err-tasks-clause-asks : goal.returns-in_err-tasks-clause-asks
 returns-in_err-tasks-clause-asks g c =

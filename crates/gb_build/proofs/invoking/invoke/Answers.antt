@@ -60,17 +60,17 @@ returns-clause-leads g c = λ tells kinds granted.
     let source = c.in_ok-configured.configured.registry in
     let before = F.contents c.args.folder.now in
     let later = F.failures c.read_registry.new.folder in
-    let new : Shown = shows (F.contents c.build_registered.new.folder) (F.failures c.build_registered.new.folder) in
+    let new : Shown = shows (F.contents c.build_registered-answered.new.folder) (F.failures c.build_registered-answered.new.folder) in
     since_read kinds (registry_said tables source) (registers_in tables) first second c.read_registry.ensures.asks.tearing c.args.invocation.now before (F.failures c.args.folder.now) later
     c.read_registry.ensures.asks.count
     (registered tables before c.into_vec-given.result.items c.args.invocation.now.properties (c.into_vec-given.ensures ∙ c.in_ok-copied.ensures) source (c.in_ok-configured.ensures.said tells))
-    c.build_registered.result new c.build_registered.ensures.count
-    (subst (λ (contents : Contents). Leads (setting_by kinds (always (registry_said tables source)) second) (shows contents later) (events.Invoke c.args.invocation.now) (answer_of c.build_registered.result) new)
+    c.build_registered-answered.result new c.build_registered-answered.ensures.count
+    (subst (λ (contents : Contents). Leads (setting_by kinds (always (registry_said tables source)) second) (shows contents later) (events.Invoke c.args.invocation.now) (answer_of c.build_registered-answered.result) new)
     (c.read_registry.ensures.same tells)
     (subst (λ (given : handed.Tables _ _ _ _ _ _ _). Leads (setting_by kinds (always (registry_said (tables_of g.T.Transforms.meanings g.A.Actions.meanings given) source)) second)
-    (shows (F.contents c.read_registry.new.folder) later) (events.Invoke c.args.invocation.now) (answer_of c.build_registered.result) new)
+    (shows (F.contents c.read_registry.new.folder) later) (events.Invoke c.args.invocation.now) (answer_of c.build_registered-answered.result) new)
     same
-    (c.build_registered.ensures.leads tells kinds
+    (c.build_registered-answered.ensures.leads tells kinds
     (subst (λ (given : handed.Tables _ _ _ _ _ _ _). IsGranted g.A.Actions.meanings given.actions kinds second) (sym same)
     (granted_later first second c.read_registry.ensures.asks.tearing granted)))))
 
@@ -95,7 +95,7 @@ returns-clause-holds g c = λ tells kinds granted.
     let F = g.F.Folder in
     let tables = tables_of g.T.Transforms.meanings g.A.Actions.meanings c.args.tables.now in
     led_holds (setting_of tables kinds (F.may_leave c.args.folder.now)) (shows (F.contents c.args.folder.now) (F.failures c.args.folder.now))
-    (shows (F.contents c.build_registered.new.folder) (F.failures c.build_registered.new.folder)) c.args.invocation.now c.build_registered.result (omega (arith, c.read_registry.ensures.asks.count, c.build_registered.ensures.count))
+    (shows (F.contents c.build_registered-answered.new.folder) (F.failures c.build_registered-answered.new.folder)) c.args.invocation.now c.build_registered-answered.result (omega (arith, c.read_registry.ensures.asks.count, c.build_registered-answered.ensures.count))
     (returns-clause-leads g c tells kinds granted)
 
 pub returns-clause-keeps : goal.returns-clause-keeps
@@ -104,14 +104,14 @@ returns-clause-keeps g c = λ tells.
     let tables = tables_of g.T.Transforms.meanings g.A.Actions.meanings c.args.tables.now in
     let source = c.in_ok-configured.configured.registry in
     let before = F.contents c.args.folder.now in
-    invoked_keeps (registers_in tables) c.args.invocation.now c.build_registered.result before (F.contents c.build_registered.new.folder) (registry_said tables source)
+    invoked_keeps (registers_in tables) c.args.invocation.now c.build_registered-answered.result before (F.contents c.build_registered-answered.new.folder) (registry_said tables source)
     (registered tables before c.into_vec-given.result.items c.args.invocation.now.properties (c.into_vec-given.ensures ∙ c.in_ok-copied.ensures) source (c.in_ok-configured.ensures.said tells))
-    (subst (λ (contents : Contents). KeepsElsewhere (registry_said tables source) contents (F.contents c.build_registered.new.folder)) (c.read_registry.ensures.same tells)
+    (subst (λ (contents : Contents). KeepsElsewhere (registry_said tables source) contents (F.contents c.build_registered-answered.new.folder)) (c.read_registry.ensures.same tells)
     (subst (λ (given : handed.Tables _ _ _ _ _ _ _). KeepsElsewhere (registry_said (tables_of g.T.Transforms.meanings g.A.Actions.meanings given) source)
-    (F.contents c.read_registry.new.folder) (F.contents c.build_registered.new.folder))
-    c.in_ok-configured.ensures.tables (c.build_registered.ensures.keeps tells)))
-    (subst (λ (contents : Contents). OnErr c.build_registered.result (F.contents c.build_registered.new.folder ≡ contents)) (c.read_registry.ensures.same tells)
-    (c.build_registered.ensures.refused tells))
+    (F.contents c.read_registry.new.folder) (F.contents c.build_registered-answered.new.folder))
+    c.in_ok-configured.ensures.tables (c.build_registered-answered.ensures.keeps tells)))
+    (subst (λ (contents : Contents). OnErr c.build_registered-answered.result (F.contents c.build_registered-answered.new.folder ≡ contents)) (c.read_registry.ensures.same tells)
+    (c.build_registered-answered.ensures.refused tells))
 
 pub returns-in_err-copied-clause-keeps : goal.returns-in_err-copied-clause-keeps
 returns-in_err-copied-clause-keeps g c = λ tells.
@@ -144,8 +144,8 @@ returns-in_err-configured-clause-device g c =
 pub returns-clause-device : goal.returns-clause-device
 returns-clause-device g c =
     let F = g.F.Folder in
-    failed_since (times_blamed (answer_of c.build_registered.result)) (F.failures c.args.folder.now) (F.failures c.read_registry.new.folder) (F.failures c.build_registered.new.folder)
-    c.read_registry.ensures.asks.count c.build_registered.ensures.device
+    failed_since (times_blamed (answer_of c.build_registered-answered.result)) (F.failures c.args.folder.now) (F.failures c.read_registry.new.folder) (F.failures c.build_registered-answered.new.folder)
+    c.read_registry.ensures.asks.count c.build_registered-answered.ensures.device
 
 -- ---- Why it is refused
 
@@ -189,7 +189,7 @@ returns-clause-places g c =
     each_fault (λ (fault : Fault). (place : List ℕ) → fault ≡ faults.Device place → IsTrue (is_own place && not c.args.invocation.now.options.dry_run))
     (λ (fault : Fault). (place : List ℕ) → fault ≡ faults.Device place → IsTrue (is_read_first c.args.invocation.now.options place))
     (λ fault at place is. own_is_read_first c.args.invocation.now place (at place is))
-    c.build_registered.result c.build_registered.ensures.places
+    c.build_registered-answered.result c.build_registered-answered.ensures.places
 
 pub returns-clause-not_built : goal.returns-clause-not_built
 returns-clause-not_built g c = λ tells.
@@ -198,19 +198,19 @@ returns-clause-not_built g c = λ tells.
     let source = c.in_ok-configured.configured.registry in
     let old : Shown = shows (F.contents c.args.folder.now) (F.failures c.args.folder.now) in
     let later = F.failures c.read_registry.new.folder in
-    let after = F.failures c.build_registered.new.folder in
+    let after = F.failures c.build_registered-answered.new.folder in
     each_fault (IsNotBegun (registry_said tables source) c.args.invocation.now later after) (λ (fault : Fault). IsNotBuilt (registers_in tables) old c.args.invocation.now fault after)
     (λ fault why. not_built (registers_in tables) (registry_said tables source) old c.args.invocation.now fault after
     (registered tables old.contents c.into_vec-given.result.items c.args.invocation.now.properties (c.into_vec-given.ensures ∙ c.in_ok-copied.ensures) source (c.in_ok-configured.ensures.said tells))
-    (begun_before (registry_said tables source) c.args.invocation.now old.failures later after c.read_registry.ensures.asks.count c.build_registered.ensures.count fault why))
-    c.build_registered.result
-    (subst (λ (given : handed.Tables _ _ _ _ _ _ _). IfErr c.build_registered.result
+    (begun_before (registry_said tables source) c.args.invocation.now old.failures later after c.read_registry.ensures.asks.count c.build_registered-answered.ensures.count fault why))
+    c.build_registered-answered.result
+    (subst (λ (given : handed.Tables _ _ _ _ _ _ _). IfErr c.build_registered-answered.result
     (IsNotBegun (registry_said (tables_of g.T.Transforms.meanings g.A.Actions.meanings given) source) c.args.invocation.now later after))
-    c.in_ok-configured.ensures.tables c.build_registered.ensures.not_begun)
+    c.in_ok-configured.ensures.tables c.build_registered-answered.ensures.not_begun)
 
 pub returns-clause-dry : goal.returns-clause-dry
 returns-clause-dry g c = λ tells dry.
-    ap g.F.Folder.contents (c.build_registered.ensures.dry dry) ∙ c.read_registry.ensures.same tells
+    ap g.F.Folder.contents (c.build_registered-answered.ensures.dry dry) ∙ c.read_registry.ensures.same tells
 
 -- ---- The promise
 
@@ -235,7 +235,7 @@ returns-clause-promise g c = λ tells kinds granted.
     let F = g.F.Folder in
     let tables = tables_of g.T.Transforms.meanings g.A.Actions.meanings c.args.tables.now in
     headline (setting_of tables kinds (F.may_leave c.args.folder.now)) (shows (F.contents c.args.folder.now) (F.failures c.args.folder.now))
-    (shows (F.contents c.build_registered.new.folder) (F.failures c.build_registered.new.folder)) (events.Invoke c.args.invocation.now ∷ []) (answer_of c.build_registered.result ∷ [])
+    (shows (F.contents c.build_registered-answered.new.folder) (F.failures c.build_registered-answered.new.folder)) (events.Invoke c.args.invocation.now ∷ []) (answer_of c.build_registered-answered.result ∷ [])
     (returns-clause-holds g c tells kinds granted)
 
 -- ---- What it asks
@@ -252,8 +252,8 @@ returns-in_err-configured-clause-asks g c =
 
 pub returns-clause-asks : goal.returns-clause-asks
 returns-clause-asks g c =
-    scripts_before g.F.Folder.failures g.F.Folder.may_leave g.F.Folder.asked g.A.Actions.meanings c.args.tables.now.actions c.args.invocation.now c.build_registered.result c.args.folder.now c.read_registry.new.folder c.build_registered.new.folder
+    scripts_before g.F.Folder.failures g.F.Folder.may_leave g.F.Folder.asked g.A.Actions.meanings c.args.tables.now.actions c.args.invocation.now c.build_registered-answered.result c.args.folder.now c.read_registry.new.folder c.build_registered-answered.new.folder
     c.read_registry.ensures.asks
     (subst (λ (given : handed.Tables _ _ _ _ _ _ _). InvocationAsks g.F.Folder.failures g.F.Folder.may_leave g.F.Folder.asked g.A.Actions.meanings given.actions c.args.invocation.now
-    c.build_registered.result c.read_registry.new.folder c.build_registered.new.folder)
-    c.in_ok-configured.ensures.tables c.build_registered.ensures.asks)
+    c.build_registered-answered.result c.read_registry.new.folder c.build_registered-answered.new.folder)
+    c.in_ok-configured.ensures.tables c.build_registered-answered.ensures.asks)

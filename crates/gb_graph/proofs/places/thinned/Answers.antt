@@ -10,6 +10,11 @@ loop-at-preserved c =
     so_far_left c.args.row.items c.loop-at.thinned.items (into_iter_items c.next.new.self) (into_iter_items c.loop-at.at-iterator) c.in-Some.at c.in-Some.ensures.steps.0
     (subst (λ row. StandsTwice row c.in-Some.at) c.as_slice.ensures.value c.if-not-ends_in_two.ensures) c.loop-at.invariant
 
+pub loop-at-preserved-else-not-ends_in_two : goal.loop-at-preserved-else-not-ends_in_two
+loop-at-preserved-else-not-ends_in_two c =
+    so_far_left c.args.row.items c.loop-at.thinned.items (into_iter_items c.next.new.self) (into_iter_items c.loop-at.at-iterator) c.in-Some.at c.in-Some.ensures.steps.0
+    (subst (λ row. StandsTwice row c.in-Some.at) c.as_slice.ensures.value c.if-not-ends_in_two.ensures) c.loop-at.invariant
+
 pub loop-at-preserved-in-Continue-1 : goal.loop-at-preserved-in-Continue-1
 loop-at-preserved-in-Continue-1 c =
     subst (λ kept. IsSoFar c.args.row.items kept (into_iter_items c.next.new.self)) (sym c.in_ok-push.ensures.items)
