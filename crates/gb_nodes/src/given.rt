@@ -18,7 +18,8 @@ pub fn by_name(alloc: Global, given: &[(Name, Text)]) -> Result<BTreeMap<Text, T
     let mut found = BTreeMap::new(alloc);
     for (name, text) in given {
         let name = Text::from_str(alloc, name.as_str())?;
-        found.insert(name, text.copy()?)?;
+        let before = found.insert(name, text.copy()?)?;
+        drop(before);
     }
     Ok(found)
 }
