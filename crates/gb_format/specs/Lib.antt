@@ -1,0 +1,6 @@
+pub mod Layout
+pub mod Pieces
+pub mod Kinds
+pub mod Places
+pub mod Fits
+pub mod Rules

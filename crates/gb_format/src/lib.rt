@@ -1,0 +1,8 @@
+//! Formatting scripts and settings: only the white space between comments and tokens changes.
+#![tactic(auto)]
+
+mod fits;
+mod kind;
+mod place;
+mod rule;
+mod state;
