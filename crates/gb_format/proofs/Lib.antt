@@ -1,1 +1,12 @@
 pub mod Indents
+pub mod Cut
+pub mod Computed
+pub mod Stand
+pub mod Kept
+pub mod Twice
+pub mod Same
+pub mod Real
+pub mod Whole
+pub mod Trims
+pub mod Fronts
+pub mod CutItems

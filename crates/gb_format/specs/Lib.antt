@@ -4,3 +4,5 @@ pub mod Kinds
 pub mod Places
 pub mod Fits
 pub mod Rules
+pub mod Shown
+pub mod Laws

@@ -170,7 +170,7 @@ step_as kinds.CloseBrace s before a t ts = record { rule = closing_rule s before
 step_as k s before a t ts = if begins s.place t then begin s before a t ts else inner s before t ts
 
 -- The rule of what stands so apart from the one before, and the state after it.
-abbrev pub step : State → Kind → Apart → List ℕ → List (List ℕ) → Advance
+unfoldable pub step : State → Kind → Apart → List ℕ → List (List ℕ) → Advance
 step s before a t ts = step_as (kind_of t) s before a t ts
 
 abbrev pub first_state : State

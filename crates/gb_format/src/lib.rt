@@ -1,6 +1,7 @@
 //! Formatting scripts and settings: only the white space between comments and tokens changes.
 #![tactic(auto)]
 
+mod cutting;
 mod fits;
 mod kind;
 mod place;

@@ -4,12 +4,13 @@ ghost use Rattle.gb_format.specs.Fits.{texts_of};
 ghost use Rattle.gb_format.specs.Rules.{room_at, room_after, is_broken, turn_in, turn_out, turn_of, turn_rule};
 ghost use Rattle.gb_format.specs.Rules.{resumed, is_clause_cut, turned, breaks, opened, joins, begun_rule};
 ghost use Rattle.gb_format.specs.Rules.{begun, comment_indent, closing_rule, closed, inner, begin, step};
+ghost use Rattle.gb_format.specs.Rules.{first_state};
 
 
 
 use crate::fits::{Item, Reach, fits, fits_from};
 use crate::kind::{Kind, is_open, is_tight, kind_of};
-use crate::place::{Place, after, begins, deeper, depth, shallower};
+use crate::place::{Place, after, at_start, begins, deeper, depth, shallower};
 use crate::rule::{Apart, Rule};
 
 /// The state of a layout between two tokens.
@@ -325,7 +326,8 @@ fn begin(state: State, before: Kind, apart: Apart, text: &str, rest: &[Item]) ->
     }
 }
 
-/// The step over a comment or a token, which stands so apart from the one before.
+/// The step over a comment or a token, which is separated so from the one before.
+#[tactic(auto, unfolding(crate::specs::Rules::step))]
 pub fn step(state: State, before: Kind, apart: Apart, text: &str, rest: &[Item]) -> Advance
     ensures { result ≡ step state before apart text.now (texts_of rest.now) }
 {
@@ -345,5 +347,21 @@ pub fn step(state: State, before: Kind, apart: Apart, text: &str, rest: &[Item])
                 inner(state, before, text, rest)
             }
         }
+    }
+}
+
+/// The state before the first token.
+pub fn first_state() -> State
+    ensures { result ≡ first_state }
+{
+    State {
+        place: at_start(),
+        broken: 0,
+        indent: 0,
+        base: 0,
+        room: 100,
+        in_line: false,
+        is_cut: false,
+        is_chain: false,
     }
 }
