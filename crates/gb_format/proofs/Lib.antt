@@ -10,3 +10,4 @@ pub mod Whole
 pub mod Trims
 pub mod Fronts
 pub mod CutItems
+pub mod SetItems

@@ -7,3 +7,4 @@ mod kind;
 mod place;
 mod rule;
 mod state;
+mod writing;
