@@ -11,3 +11,6 @@ pub mod Trims
 pub mod Fronts
 pub mod CutItems
 pub mod SetItems
+pub mod Showing
+pub mod Steady
+pub mod Bridge
