@@ -14,3 +14,5 @@ pub mod SetItems
 pub mod Showing
 pub mod Steady
 pub mod Bridge
+pub mod EmptyLines
+pub mod Formats

@@ -79,7 +79,7 @@ name_first b w h =
     let x = and_both (is_letter b && list_all is_name_byte w) (nat_le (length w) 63) h in
     letter_name b (and_both (is_letter b) (list_all is_name_byte w) x.0).0
 
-name_bytes : (w : List ℕ) → is_name w ≡ true → list_all is_name_byte w ≡ true
+pub name_bytes : (w : List ℕ) → is_name w ≡ true → list_all is_name_byte w ≡ true
 name_bytes [] h = refl
 name_bytes (b ∷ w) h =
     let x = and_both (is_letter b && list_all is_name_byte w) (nat_le (length w) 63) h in

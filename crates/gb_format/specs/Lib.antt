@@ -6,3 +6,4 @@ pub mod Fits
 pub mod Rules
 pub mod Shown
 pub mod Laws
+pub mod Formatted

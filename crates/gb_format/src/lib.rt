@@ -3,8 +3,11 @@
 
 mod cutting;
 mod fits;
+mod formatting;
 mod kind;
 mod place;
 mod rule;
 mod state;
 mod writing;
+
+pub use formatting::{format_script, format_settings};
