@@ -4,6 +4,7 @@
 mod counting;
 mod faults;
 mod leaving_out;
+mod links;
 mod names;
 mod offering;
 mod renaming;

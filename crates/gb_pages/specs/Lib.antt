@@ -1,3 +1,4 @@
+pub mod Addresses
 pub mod Pieces
 pub mod Inline
 pub mod Markdown

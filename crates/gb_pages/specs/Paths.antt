@@ -12,6 +12,7 @@ use Rattle.gb_action.specs.Files.{Tree, Trees, tree_at}
 use Rattle.gb_action.specs.Shapes.{source}
 use Rattle.gb_kinds.specs.Builtin.{first_text}
 use Rattle.gb_with.specs.Renamed.{onto}
+use Rattle.gb_pages.specs.Addresses.{address_of}
 use Rattle.gb_pages.specs.Pieces.{Piece, Open, Close, Link, Text, written}
 use Rattle.gb_pages.specs.declared.page.Element.TheVariants as elements
 
@@ -90,10 +91,15 @@ templated arguments trees =
 
 -- ---- The page that links all pages
 
-abbrev pub entry : Option (List ℕ) → Option (List ℕ) → List Piece
-entry (Some text) (Some path) =
-    Open elements.Item ∷ Link path ∷ Text text ∷ Close elements.Anchor ∷ Close elements.Item
+-- the link to an address, under a name
+abbrev pub linked : List ℕ → List ℕ → List Piece
+linked address name =
+    Open elements.Item ∷ Link address ∷ Text name ∷ Close elements.Anchor ∷ Close elements.Item
     ∷ Text (10 ∷ []) ∷ []
+
+-- the link to the page at a path
+abbrev pub entry : Option (List ℕ) → Option (List ℕ) → List Piece
+entry (Some text) (Some path) = linked (address_of path) text
 entry None path = []
 entry (Some text) None = []
 

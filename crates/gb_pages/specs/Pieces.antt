@@ -3,6 +3,9 @@ use Rattle.std.specs.Prelude.{ℕ, ◌==◌, List, [], ◌∷◌, ◌++◌, if�
 use Rattle.std.specs.List.{flat_map}
 use Rattle.gb_pages.specs.declared.page.Element.{Element}
 use Rattle.gb_pages.specs.declared.page.Element.TheVariants as elements
+use Rattle.gb_pages.specs.declared.page.Attribute.{Attribute}
+use Rattle.gb_pages.specs.declared.page.Attribute.TheVariants as attributes
+use Rattle.gb_pages.specs.Addresses.{is_safe}
 
 -- an element begins or ends, a link to an address begins, or there is text
 pub data Piece : Type 0 where
@@ -32,10 +35,34 @@ escaped_byte b =
 abbrev pub escaped : List ℕ → List ℕ
 escaped text = flat_map escaped_byte text
 
+-- ---- Attributes
+
+abbrev pub attribute_begun : Attribute → List ℕ
+attribute_begun attributes.Href = codes " href=\""
+
+abbrev pub attribute_text : Attribute × List ℕ → List ℕ
+attribute_text attribute = attribute_begun attribute.0 ++ (escaped attribute.1 ++ 34 ∷ [])
+
+abbrev pub attributes_text : List (Attribute × List ℕ) → List ℕ
+attributes_text attributes = flat_map attribute_text attributes
+
+-- only a safe address is one
+abbrev pub address_in : Attribute → List ℕ → List (Attribute × List ℕ)
+address_in name address = if is_safe address then (name, address) ∷ [] else []
+
+-- the attributes of the tag of a piece
+abbrev pub attributes_of : Piece → List (Attribute × List ℕ)
+attributes_of (Open element) = []
+attributes_of (Close element) = []
+attributes_of (Link address) = address_in attributes.Href address
+attributes_of (Text text) = []
+
+-- ---- The page
+
 abbrev pub piece_text : Piece → List ℕ
 piece_text (Open element) = 60 ∷ name_of element ++ 62 ∷ []
 piece_text (Close element) = 60 ∷ 47 ∷ name_of element ++ 62 ∷ []
-piece_text (Link address) = codes "<a href=" ++ 34 ∷ escaped address ++ 34 ∷ 62 ∷ []
+piece_text (Link address) = codes "<a" ++ attributes_text (attributes_of (Link address)) ++ 62 ∷ []
 piece_text (Text text) = escaped text
 
 abbrev pub written : List Piece → List ℕ

@@ -7,6 +7,7 @@
 #![tactic(auto)]
 
 pub mod actions;
+mod address;
 mod checked;
 mod inline;
 pub mod kinds;

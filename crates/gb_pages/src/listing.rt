@@ -1,9 +1,10 @@
 //! The page that links all pages: the kind `index`.
-ghost use Rattle.std.specs.Prelude.{◌≡◌, ◌++◌, OnOk, IfOk, Some};
+ghost use Rattle.std.specs.Prelude.{◌≡◌, ◌++◌, OnOk, IfOk};
 ghost use Rattle.std.specs.Option.{option_copied};
-ghost use Rattle.gb_pages.specs.Paths.{begun, ended_list, entry, entries, index_page, page_path, stem};
+ghost use Rattle.gb_pages.specs.Paths.{begun, ended_list, entry, entries, index_page, linked, page_path, stem};
 ghost use Rattle.gb_pages.specs.Pieces.{written};
 
+use crate::address::address_of;
 use crate::page::{Element, close, link, open, text};
 use crate::paths::{page_path, stem};
 use gb_action::reply::ActionFault;
@@ -102,16 +103,18 @@ fn entry(alloc: Global, page: &mut Vec<u8>, front: Option<&[u8]>) -> Result<(), 
     let (Some(front), Some(path)) = (front, page_path(alloc, front)?) else {
         return Ok(());
     };
-    linked(page, path.as_str().as_bytes(), front)
+    let address = address_of(alloc, path.as_str().as_bytes())?;
+    let done = linked(page, address.as_slice(), front);
+    drop(address);
+    done
 }
 
-/// The link to a page at a path, under its name.
-fn linked(page: &mut Vec<u8>, path: &[u8], name: &[u8]) -> Result<(), AllocError>
-    ensures { OnOk result
-        (page.new.items ≡ page.old.items ++ written (entry (Some name.now) (Some path.now))) }
+/// The link to a page at an address, under its name.
+fn linked(page: &mut Vec<u8>, address: &[u8], name: &[u8]) -> Result<(), AllocError>
+    ensures { OnOk result (page.new.items ≡ page.old.items ++ written (linked address.now name.now)) }
 {
     open(page, Element::Item)?;
-    link(page, path)?;
+    link(page, address)?;
     text(page, name)?;
     close(page, Element::Anchor)?;
     close(page, Element::Item)?;

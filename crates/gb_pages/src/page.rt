@@ -1,7 +1,9 @@
 //! The pieces of a page, written one behind the other.
 ghost use Rattle.std.specs.Prelude.{◌≡◌, ◌++◌, ◌∷◌, [], OnOk};
 ghost use Rattle.gb_pages.specs.Pieces.{name_of, escaped, escaped_byte, piece_text, Open, Close, Link, Text};
+ghost use Rattle.gb_pages.specs.Pieces.{attribute_begun, attribute_text, attributes_text, address_in};
 
+use crate::address::is_safe;
 use std::alloc::AllocError;
 
 /// What has a beginning and an end.
@@ -49,6 +51,24 @@ impl Element {
     }
 }
 
+/// What a tag says of its element.
+#[derive(Clone, Copy, PartialEq, Eq)]
+pub enum Attribute {
+    /// The address that a link leads to.
+    Href,
+}
+
+impl Attribute {
+    /// What is before its value in a tag.
+    fn begun(self) -> &'static [u8]
+        ensures { result.now ≡ attribute_begun self }
+    {
+        match self {
+            Attribute::Href => b" href=\"",
+        }
+    }
+}
+
 /// Begins an element.
 pub fn open(page: &mut Vec<u8>, element: Element) -> Result<(), AllocError>
     ensures { OnOk result (page.new.items ≡ page.old.items ++ piece_text (Open element)) }
@@ -69,13 +89,34 @@ pub fn close(page: &mut Vec<u8>, element: Element) -> Result<(), AllocError>
     Ok(())
 }
 
-/// Begins a link to an address; [`Element::Anchor`] ends it.
+/// Begins a link to an address, if that is safe; [`Element::Anchor`] ends it.
 pub fn link(page: &mut Vec<u8>, address: &[u8]) -> Result<(), AllocError>
     ensures { OnOk result (page.new.items ≡ page.old.items ++ piece_text (Link address.now)) }
 {
-    page.extend_from_slice(b"<a href=\"")?;
-    text(page, address)?;
-    page.extend_from_slice(b"\">")?;
+    page.extend_from_slice(b"<a")?;
+    address_in(page, Attribute::Href, address)?;
+    page.push(b'>')?;
+    Ok(())
+}
+
+/// Writes an attribute that holds an address, if that is safe.
+fn address_in(page: &mut Vec<u8>, name: Attribute, address: &[u8]) -> Result<(), AllocError>
+    ensures { OnOk result
+        (page.new.items ≡ page.old.items ++ attributes_text (address_in name address.now)) }
+{
+    if is_safe(address) {
+        write_attribute(page, name, address)?;
+    }
+    Ok(())
+}
+
+/// Writes an attribute of a tag.
+fn write_attribute(page: &mut Vec<u8>, name: Attribute, value: &[u8]) -> Result<(), AllocError>
+    ensures { OnOk result (page.new.items ≡ page.old.items ++ attribute_text (name, value.now)) }
+{
+    page.extend_from_slice(name.begun())?;
+    text(page, value)?;
+    page.push(b'"')?;
     Ok(())
 }
 
