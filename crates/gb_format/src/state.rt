@@ -6,8 +6,6 @@ ghost use Rattle.gb_format.specs.Rules.{resumed, is_clause_cut, turned, breaks, 
 ghost use Rattle.gb_format.specs.Rules.{begun, comment_indent, closing_rule, closed, inner, begin, step};
 ghost use Rattle.gb_format.specs.Rules.{first_state};
 
-
-
 use crate::fits::{Item, Reach, fits, fits_from};
 use crate::kind::{Kind, is_open, is_tight, kind_of};
 use crate::place::{Place, after, at_start, begins, deeper, depth, shallower};
@@ -110,13 +108,7 @@ fn turn_rule(state: State, turn: Turn, tight: bool) -> Rule
     ensures { result ≡ turn_rule state turn tight }
 {
     match turn {
-        Turn::Flat => {
-            if tight {
-                Rule::Close
-            } else {
-                Rule::Space
-            }
-        }
+        Turn::Flat => { if tight { Rule::Close } else { Rule::Space } }
         Turn::Inside => Rule::Line(state.indent),
         Turn::Closing => Rule::Line(shallower(state.indent)),
         Turn::Resumed | Turn::Element => Rule::Line(depth(state.place) + 1),

@@ -370,7 +370,10 @@ const CHANGES: [Row<'static>; 30] = [
     // Where `.gb` is no folder, a file is written at its place at once.
     ("!put .gb 1;write b;read b;read .gb", "ok;hello;1;"),
     ("!link .gb nowhere;write b;read b", "ok;hello;"),
-    ("!make .gb;!link .gb/new d;write b;read b;list d", "ok;hello;d/e/a d/e/z ;"),
+    (
+        "!make .gb;!link .gb/new d;write b;read b;list d",
+        "ok;hello;d/e/a d/e/z ;",
+    ),
 ];
 
 #[test]
