@@ -21,28 +21,28 @@ type AtOnce = Both<OfTrees<Template>, Both<OfTrees<Index>, Checks<CheckPages>>>;
 /// All kinds of pages.
 pub type Pages = Both<ByFile<Markdown>, Both<OfTrees<Renamed<Markdown>>, AtOnce>>;
 
-/// The table of all kinds of pages, each in its first version.
+/// The table of all kinds of pages, each in its version.
 pub fn page_actions(alloc: Global) -> Result<ActionTable<<Pages as Actions>::Stored>, TableFault>
-    ensures { IfOk result (λ table. table ≡ (codes "markdown", First 1)
-        ∷ (codes "htmlPages", Second (First 1))
+    ensures { IfOk result (λ table. table ≡ (codes "markdown", First 2)
+        ∷ (codes "htmlPages", Second (First 2))
         ∷ (codes "template", Second (Second (First 1)))
-        ∷ (codes "index", Second (Second (Second (First 1))))
+        ∷ (codes "index", Second (Second (Second (First 2))))
         ∷ (codes "checkPages", Second (Second (Second (Second 1)))) ∷ []) }
 {
     let others = at_once(alloc)?;
-    let pages = only::<OfTrees<Renamed<Markdown>>>(alloc, "htmlPages", 1)?;
+    let pages = only::<OfTrees<Renamed<Markdown>>>(alloc, "htmlPages", 2)?;
     let others = beside(alloc, pages, others)?;
-    let markdown = only::<ByFile<Markdown>>(alloc, "markdown", 1)?;
+    let markdown = only::<ByFile<Markdown>>(alloc, "markdown", 2)?;
     beside(alloc, markdown, others)
 }
 
 /// The table of those that work on all pages at once.
 fn at_once(alloc: Global) -> Result<ActionTable<<AtOnce as Actions>::Stored>, TableFault>
     ensures { IfOk result (λ table. table ≡ (codes "template", First 1)
-        ∷ (codes "index", Second (First 1)) ∷ (codes "checkPages", Second (Second 1)) ∷ []) }
+        ∷ (codes "index", Second (First 2)) ∷ (codes "checkPages", Second (Second 1)) ∷ []) }
 {
     let check = only::<Checks<CheckPages>>(alloc, "checkPages", 1)?;
-    let index = only::<OfTrees<Index>>(alloc, "index", 1)?;
+    let index = only::<OfTrees<Index>>(alloc, "index", 2)?;
     let others = beside(alloc, index, check)?;
     let template = only::<OfTrees<Template>>(alloc, "template", 1)?;
     beside(alloc, template, others)
