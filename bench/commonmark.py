@@ -1,10 +1,10 @@
 #!/usr/bin/env python3
-"""Says how many examples of CommonMark the kind `markdown` answers as CommonMark does, by section.
+"""Says of how many examples of CommonMark the kind `markdown` makes the same page, by section.
 
-    bench/commonmark.py PROGRAM SPEC        PROGRAM: a built `gb_site`; SPEC: test/spec.txt of the source of `cmark`
+    bench/commonmark.py PROGRAM SPEC    PROGRAM: a built `gb_site`; SPEC: test/spec.txt of the source of `cmark`
 
-`markdown` reads a part of CommonMark and shows the rest as text, so that not all can agree. The ids of headings,
-the `/` of `<br />` and the white space between tags are not compared.
+`markdown` reads a part of CommonMark and shows the rest as text, so not all agree. The script does not compare
+the ids of headings, the `/` of `<br />`, and the white space next to tags.
 """
 import os
 import re
@@ -12,8 +12,8 @@ import subprocess
 import sys
 import tempfile
 
-SECTIONS = ["ATX headings", "Thematic breaks", "Fenced code blocks", "Paragraphs", "Blank lines", "Block quotes",
-            "List items", "Lists", "Backslash escapes", "Code spans", "Emphasis and strong emphasis", "Links",
+SECTIONS = ["ATX headings", "Thematic breaks", "Fenced code blocks", "Paragraphs", "Blank lines",
+            "Block quotes", "List items", "Lists", "Backslash escapes", "Code spans", "Emphasis and strong emphasis", "Links",
             "Images", "Hard line breaks", "Soft line breaks", "Textual content"]
 FENCE = "`" * 32
 SCRIPT = """register html : markdown {

@@ -1,5 +1,6 @@
 -- Addresses that are written are safe.
-use Rattle.std.proofs.Common.{◌≡◌, ℕ, ◌==◌, ◌<◌, ◌≤◌, arith, Bool, true, false, not, ◌&&◌, ◌||◌, cond, if◌then◌else◌}
+use Rattle.std.proofs.Common.{◌≡◌, ℕ, ◌==◌, ◌<◌, ◌≤◌, arith, Bool, true, false, not, ◌&&◌, ◌||◌, cond}
+use Rattle.std.proofs.Common.{if◌then◌else◌}
 use Rattle.std.proofs.Common.{List, [], ◌∷◌, ◌++◌, All, refl, ap, sym, subst, ◌∙◌, inl, inr, ◌⊎◌, nat_le}
 use Rattle.std.specs.List.{flat_map}
 use Rattle.std.proofs.lemmas.Bool.{cases_Bool}
@@ -48,7 +49,8 @@ byte_is_written b = by (is_plain b) refl
     by : (t : Bool) → is_plain b ≡ t → All IsWritten (if t then b ∷ [] else percent_encode_byte b)
     by true e = All-cons IsWritten b [] (plain_is_written b e) (All-nil IsWritten)
     by false e =
-        All-weaker IsEscapeByte IsWritten escape_is_written (percent_encode_byte b) (All-percent_encode_byte b)
+        All-weaker IsEscapeByte IsWritten escape_is_written (percent_encode_byte b)
+        (All-percent_encode_byte b)
 
 all_written : (path : List ℕ) → All IsWritten (address_of path)
 all_written [] = All-nil IsWritten

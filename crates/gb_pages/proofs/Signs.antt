@@ -1,5 +1,6 @@
 -- How often a sign is on a page.
-use Rattle.std.proofs.Common.{◌≡◌, ℕ, ◌+◌, ◌*◌, ◌==◌, arith, Bool, true, false, not, cond, if◌then◌else◌, List}
+use Rattle.std.proofs.Common.{◌≡◌, ℕ, ◌+◌, ◌*◌, ◌==◌, arith, Bool, true, false, not, cond, if◌then◌else◌}
+use Rattle.std.proofs.Common.{List}
 use Rattle.std.proofs.Common.{[], ◌∷◌, ◌++◌, codes, length, suc, refl, ap, sym, ◌∙◌}
 use Rattle.std.specs.List.{count_by, flat_map, sum_by}
 use Rattle.std.proofs.lemmas.List.Sums.{sum_by-append}
@@ -95,7 +96,8 @@ module _ (sign : ℕ) (free : (b : ℕ) → count sign (escaped_byte b) ≡ 0)
 
   -- attributes in a tag
   described : (front : List ℕ) → count sign front ≡ count sign (60 ∷ [])
-      → (attributes : List (Attribute × List ℕ)) → count sign (front ++ (attributes_text attributes ++ 62 ∷ []))
+      → (attributes : List (Attribute × List ℕ))
+      → count sign (front ++ (attributes_text attributes ++ 62 ∷ []))
       ≡ in_tag + sum_by (λ attribute. in_attribute) attributes
   described front is attributes =
       let last = attributes_text attributes ++ 62 ∷ [] in

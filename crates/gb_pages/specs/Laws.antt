@@ -1,5 +1,6 @@
 -- What holds of every page, whatever is written on it.
-use Rattle.std.specs.Prelude.{◌≡◌, ℕ, ◌*◌, ◌==◌, ⊤, Bool, true, false, List, cond, count_by, length, sum_by, All}
+use Rattle.std.specs.Prelude.{◌≡◌, ℕ, ◌*◌, ◌==◌, ⊤, Bool, true, false, List, cond, count_by, length, sum_by}
+use Rattle.std.specs.Prelude.{All}
 use Rattle.gb_pages.specs.declared.page.Attribute.{Attribute}
 use Rattle.gb_pages.specs.declared.page.Attribute.TheVariants as attributes
 use Rattle.gb_pages.specs.Addresses.{address_of, is_safe}

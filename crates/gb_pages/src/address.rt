@@ -6,8 +6,8 @@ ghost use Rattle.gb_pages.specs.Addresses.{address_of, encoded_byte, is_plain};
 use percent_encoding::percent_encode_byte;
 use std::alloc::{AllocError, Global};
 
-/// Whether a link may have the address: it has no control character, no white space, and no scheme but `http`,
-/// `https` and `mailto`.
+/// Whether a link may have the address: it has no control character, no white space, and no scheme but
+/// `http`, `https` and `mailto`.
 pub(crate) fn is_safe(address: &[u8]) -> bool
     ensures { result ≡ is_safe address.now }
 {

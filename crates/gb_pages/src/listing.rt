@@ -1,7 +1,8 @@
 //! The page that links all pages: the kind `index`.
 ghost use Rattle.std.specs.Prelude.{◌≡◌, ◌++◌, OnOk, IfOk};
 ghost use Rattle.std.specs.Option.{option_copied};
-ghost use Rattle.gb_pages.specs.Paths.{begun, ended_list, entry, entries, index_page, linked, page_path, stem};
+ghost use Rattle.gb_pages.specs.Paths.{begun, ended_list, entry, entries, index_page, linked, page_path};
+ghost use Rattle.gb_pages.specs.Paths.{stem};
 ghost use Rattle.gb_pages.specs.Pieces.{written};
 
 use crate::address::address_of;

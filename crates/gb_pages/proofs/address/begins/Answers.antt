@@ -1,4 +1,5 @@
-use Rattle.std.proofs.Common.{◌≡◌, ℕ, ◌<◌, false, List, [], ◌∷◌, length, drop, drop-cons, arith, refl, sym, ◌∙◌}
+use Rattle.std.proofs.Common.{◌≡◌, ℕ, ◌<◌, false, List, [], ◌∷◌, length, drop, drop-cons, arith, refl, sym}
+use Rattle.std.proofs.Common.{◌∙◌}
 use Rattle.gb_pages.specs.Addresses.{begins}
 use Rattle.gb_pages.proofs.address.begins.Goals as goal
 
