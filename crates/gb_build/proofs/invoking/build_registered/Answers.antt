@@ -35,8 +35,8 @@ returns-in_err-tasks-clause-leads g c = λ tells kinds granted.
     out_of_memory (setting_with kinds (λ files given. Ok (registry_said tables c.args.configured.now.registry)) (F.may_leave c.args.folder.now)) old old c.args.invocation.now p.0 p.2
     refl c.from_residual.result p.1
 
-pub build_requested-requires : goal.build_requested-requires
-build_requested-requires g c =
+pub build_requested-answered-requires : goal.build_requested-answered-requires
+build_requested-answered-requires g c =
     let tables = tables_of g.T.Transforms.meanings g.A.Actions.meanings c.args.configured.now.tables.now in
     let same : registry_in g.T.Transforms.meanings g.A.Actions.meanings c.in_ok-tasks.tasks.workspace ≡ registry_said tables c.args.configured.now.registry = c.in_ok-tasks.ensures.registry in
     subst (AreBuildable g.A.Actions.meanings c.args.configured.now.tables.now.actions) (sym same)
