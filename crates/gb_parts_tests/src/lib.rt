@@ -15,8 +15,6 @@ mod explaining;
 #[cfg(test)]
 mod folders;
 #[cfg(test)]
-mod formats;
-#[cfg(test)]
 mod histories;
 #[cfg(test)]
 mod kinds;

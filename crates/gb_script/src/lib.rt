@@ -18,14 +18,14 @@ pub mod expression;
 pub mod fault;
 pub mod function;
 pub mod laws;
-pub mod lexing;
+mod lexing;
 mod lines;
 mod reading;
 pub mod script;
 mod source;
 mod statements;
 mod stop;
-pub mod token;
+mod token;
 mod values;
 mod words;
 
