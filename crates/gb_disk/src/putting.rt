@@ -21,8 +21,8 @@ const OWN: &str = ".gb";
 const ASIDE: &str = ".gb/new";
 
 /// Makes the path that of the file beneath `.gb/new` in which the bytes of a place are written first. Its
-/// name is a hash of the place, so that two builds that no lock keeps apart, as on NFS, never rename each
-/// other's bytes to the wrong place.
+/// name is a hash of the place, so that two builds without a lock, as on NFS, never rename each other's bytes
+/// to the wrong place.
 fn lead_aside(path: &mut String, base: &str, place: &Place) -> Result<(), AllocError>
     ensures { OnOk result
         ((name : List ℕ) × (string_bytes path.new ≡ path_in (path_in base.now aside) name)) }

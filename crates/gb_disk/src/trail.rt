@@ -42,7 +42,7 @@ pub(crate) struct Trail {
     listed: Option<Listed>,
 }
 
-/// A file where it stood, and what was told of it.
+/// A file at its place, and what its folder listed of it.
 #[derive(Drop)]
 struct Listed {
     place: Place,
@@ -111,7 +111,7 @@ impl Trail {
         Ok(self.known.push(copy)?)
     }
 
-    /// Lists a file by its own place, and takes up what was told of it.
+    /// Lists a file by its own place, and keeps what was listed.
     pub fn list_file(
         &mut self,
         alloc: Global,
@@ -139,7 +139,7 @@ impl Trail {
         Ok(())
     }
 
-    /// What was told of the file at the place, if the call before listed it; once.
+    /// What the call before listed of the file at the place, if it did; once.
     pub fn take_listed(&mut self, place: &Place) -> Option<FileInfo>
         ensures { self.new.path ≡ self.old.path }
     {

@@ -1,4 +1,4 @@
--- Calls one after another, and what follows from them: of any folder, and of one that tells what it holds.
+-- Calls one after another, and what follows from them: of any folder, and of one with known contents.
 use Rattle.std.specs.Prelude.{◌≡◌, ◌≤◌, ◌++◌, List, [], ◌∷◌, Option, Some, None, Ok, Err, IsTrue}
 use Rattle.std.specs.List.{AllByRecursion}
 use Rattle.std.proofs.Common.{refl, sym, subst, arith}
@@ -58,7 +58,7 @@ answers_before first second same old new (Removes place (Err folders.Blocked)) i
 answers_before first second same old new (Removes place (Err folders.TooLarge)) is = is
 answers_before first second same old new (Removes place (Err folders.BadFileName)) is = is
 
--- ---- over a folder that tells
+-- ---- over a folder with known contents
 
 module _ {F : Type 0} (device : Device F) (tells : IsTrue device.tells) (sound : (f : F) → IsFolder (device.contents f).files) where
   answered_from : (first : Tearing) (old new : F) (calls : List Call) → SameTearing first (device.may_leave old) → Leads device old calls new → AnswersAll first (device.contents old) calls (device.contents new)

@@ -1,5 +1,6 @@
 -- What folders of one type say of their calls, and calls one after another as a value.
-use Rattle.std.specs.Prelude.{ℕ, ◌≡◌, ◌≢◌, ◌<◌, ◌≤◌, Bool, List, [], ◌∷◌, Some, Result, Ok, Err, IsTrue, length, ⊤}
+use Rattle.std.specs.Prelude.{ℕ, ◌≡◌, ◌≢◌, ◌<◌, ◌≤◌, Bool, List, [], ◌∷◌, Some, Result, Ok, Err, IsTrue, length}
+use Rattle.std.specs.Prelude.{⊤}
 use Rattle.std.specs.List.{AllPass}
 use Rattle.std.specs.List.Sorted.{IsStrictlySortedBy}
 use Rattle.gb_core.specs.Lists.{byte_order}
@@ -18,8 +19,8 @@ pub record Device (F : Type 0) : Type 1 where
   pub tells : Bool
   pub contents : F → Contents
 
-abbrev pub device_of : {F : Type 0} → (F → ℕ) → (F → Tearing) → (F → Call → F → Type 0) → Bool → (F → Contents)
-    → Device F
+abbrev pub device_of : {F : Type 0} → (F → ℕ) → (F → Tearing) → (F → Call → F → Type 0) → Bool
+    → (F → Contents) → Device F
 device_of failures may_leave asked tells contents = record {
   failures = failures;
   may_leave = may_leave;
@@ -63,7 +64,7 @@ IsWell (Removes place answer) = RemovesWell answer
 -- ---- Calls
 
 -- One call: the folder was asked and answered. The count of failures does not fall, and it rises where the
--- device failed. Where folders of the type tell what they hold, the answer is exact.
+-- device failed. Where the contents of a folder are known, the answer is exact.
 pub record IsCalled {F : Type 0} (device : Device F) (old : F) (call : Call) (new : F) : Type 0 where
   pub asked : device.asked old call new
   pub well : IsWell call

@@ -13,8 +13,8 @@ OrStops (Err fault) next later more result = (later ≡ []) × (more ≡ []) × 
 
 -- Something was done with each item by these calls, and yielded these things, up to the first item that failed.
 -- `One` says of an item which calls it takes, what it yields, and how it ended.
-abbrev pub Each : {E X Y : Type 0} → (X → List Call → List Y → Ended E → Type 0) → List X → List Call → List Y
-    → Ended E → Type 0
+abbrev pub Each : {E X Y : Type 0} → (X → List Call → List Y → Ended E → Type 0) → List X → List Call
+    → List Y → Ended E → Type 0
 Each One [] calls made result = (calls ≡ []) × (made ≡ []) × (result ≡ Ok tt)
 Each {E = E} {Y = Y} One (x ∷ xs) calls made result =
     (first : List Call) × (later : List Call) × (some : List Y) × (more : List Y) × (mid : Ended E)

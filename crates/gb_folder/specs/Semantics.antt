@@ -24,9 +24,11 @@ Listed old root (Err folders.TooLarge) = ⊥
 abbrev pub Unread : Contents → Place → (Bytes → Type 0) → FolderFault → Type 0
 Unread old place large folders.OutOfMemory = Unit {0}
 Unread old place large folders.Device = Unit {0}
-Unread old place large folders.Missing = (file_at old.files place ≡ None) × (is_blocked old.files place ≡ false)
+Unread old place large folders.Missing =
+    (file_at old.files place ≡ None) × (is_blocked old.files place ≡ false)
 Unread old place large folders.Blocked = IsTrue (is_blocked old.files place)
-Unread old place large folders.TooLarge = (bytes : Bytes) × (file_at old.files place ≡ Some bytes) × large bytes
+Unread old place large folders.TooLarge =
+    (bytes : Bytes) × (file_at old.files place ≡ Some bytes) × large bytes
 Unread old place large folders.BadFileName = ⊥
 
 abbrev pub Read : Contents → Place → ℕ → Result Bytes FolderFault → Type 0
@@ -73,4 +75,5 @@ Answers may_leave old (Removes place answer) new = Removed may_leave old place a
 abbrev pub AnswersAll : Tearing → Contents → List Call → Contents → Type 0
 AnswersAll may_leave old [] new = new ≡ old
 AnswersAll may_leave old (call ∷ calls) new =
-    IsFolder old.files × ((mid : Contents) × Answers may_leave old call mid × AnswersAll may_leave mid calls new)
+    IsFolder old.files
+    × ((mid : Contents) × Answers may_leave old call mid × AnswersAll may_leave mid calls new)

@@ -8,7 +8,7 @@ ghost use Rattle.gb_folder.specs.Semantics.{AnswersAll};
 
 use crate::folder::Folder;
 
-/// A folder that tells what it holds answers each call by its contents, as the calls before left them.
+/// A folder whose contents are known answers each call by them, as the calls before it left them.
 pub fn calls_are_exact<F: Folder>()
     ensures { (old new : F) (calls : List Call) → IsTrue F.tells → Leads F.device old calls new
         → AnswersAll (F.may_leave old) (F.contents old) calls (F.contents new) }

@@ -1,22 +1,22 @@
 //! The only way in which the build reaches files.
 //!
-//! [`Folder`](folder::Folder) is five calls over places. Code over a folder is proved once, for
-//! every type of folder: where folders of the type tell what they hold, each answer is exact, and
-//! elsewhere, as on a disk, only what holds whatever a device does is promised.
-//! [`MemoryFolder`](memory::MemoryFolder) tells; `proofs/Changes.antt` has lemmas for callers.
+//! [`Folder`](folder::Folder) is five calls over places. Code over a folder is proved once, for every type of
+//! folder. Where the contents of a folder are known, as those of a [`MemoryFolder`](memory::MemoryFolder),
+//! each answer is exact. Elsewhere, as on a disk, contracts promise what holds whatever the device does.
+//! `proofs/Changes.antt` has lemmas for callers.
 //!
-//! What was done to a folder is a value, too: a list of calls with their answers. `specs/Device.antt` says when
-//! such a list leads from one folder to another, over any folder. `specs/Semantics.antt` says what each call
-//! answers over known contents, and [`calls`] has the five calls with this one clause each.
-//! A function that goes over a list says its calls by `specs/Each.antt`.
+//! A list of calls with their answers is a value too. `specs/Device.antt` defines when such a list leads from
+//! one folder to another, over any folder. `specs/Semantics.antt` defines the answer of each call over known
+//! contents, and [`calls`] has the five calls with one clause each. `specs/Each.antt` has the calls of a
+//! function that goes over a list.
 //!
 //! [`FaultyFolder`](faulty::FaultyFolder) fails at a chosen call of the folder that it holds, and
-//! [`NotedFolder`](noted::NotedFolder) notes which changes are asked of it.
+//! [`NotedFolder`](noted::NotedFolder) records which changes it was asked for.
 //!
 //! [`FileMap`](file_map::FileMap) holds files without being a folder: one may be in the way of another.
 //!
-//! Set aside: handles, streams, folders as things of their own, permissions and times. A folder
-//! exists where a file stands beneath it, and a large file is read in parts.
+//! Set aside: handles, streams, folders as objects of their own, permissions and times. A folder exists where
+//! a file exists under it, and a large file is read in parts.
 #![tactic(auto)]
 
 pub mod calls;

@@ -13,8 +13,8 @@ use Rattle.gb_meaning.specs.Events.{HasPlan, Setting, State, has_failure, world_
 use Rattle.gb_meaning.specs.Headline.{Stands, WentThrough, is_of_device}
 use Rattle.gb_meaning.specs.Every.{AllApart}
 
--- What such an answer leaves is settled by what stood before: no task failed, no device hindered an edit, and
--- no loss was cut short.
+-- What such an answer leaves is determined by what existed before: no task failed, no device hindered an
+-- edit, and no loss was cut short.
 abbrev pub IsSettled : Event → Answer → Type 0
 IsSettled event answers.Edited = ⊤
 IsSettled events.Lost (answers.Refused fault) = ⊥

@@ -118,7 +118,7 @@ module _ (sign : ℕ) (free : (b : ℕ) → count sign (escaped_byte b) ≡ 0)
   pub on_page : (pieces : List Piece) → count sign (written pieces) ≡ sum_by weight pieces
   on_page pieces = counted sign piece_text weight each pieces
 
--- a weight may be put in another way
+-- two functions with the same values have the same sum
 same : {A : Type 0} (f g : A → ℕ) → ((x : A) → f x ≡ g x) → (xs : List A) → sum_by f xs ≡ sum_by g xs
 same f g agree [] = refl
 same f g agree (x ∷ xs) =

@@ -215,7 +215,7 @@ fn mark(text: &str) -> (Part, &str)
 
 /// What stands at the front of a text that is not empty, and the text behind it.
 #[tactic(auto, unfolding(crate::specs::Scanning::part_at))]
-fn first_part(alloc: Global, text: &str) -> Result<(Part, &str), AllocError>
+pub fn first_part(alloc: Global, text: &str) -> Result<(Part, &str), AllocError>
     requires { 0 < length text.now }
     ensures exact { IfOk result (λ x. (x.0, x.1.now) ≡ part_at text.now) }
     ensures shorter { IfOk result (λ x. length x.1.now < length text.now) }

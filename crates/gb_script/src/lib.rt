@@ -18,14 +18,14 @@ pub mod expression;
 pub mod fault;
 pub mod function;
 pub mod laws;
-mod lexing;
+pub mod lexing;
 mod lines;
 mod reading;
 pub mod script;
 mod source;
 mod statements;
 mod stop;
-mod token;
+pub mod token;
 mod values;
 mod words;
 

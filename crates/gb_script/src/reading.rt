@@ -232,8 +232,22 @@ pub fn said<'t>(tokens: &'t [Token], word: &str) -> (bool, &'t [Token])
     }
 }
 
+/// The texts behind this word, which has to be the first.
+#[tactic(auto, unfolding(crate::specs::Reading::past_at))]
+pub fn texts_after<'t>(
+    alloc: Global,
+    tokens: &'t [Token],
+    word: &str,
+) -> Result<(Texts, &'t [Token]), Stop>
+    ensures exact { Gives (λ x. (x.0, x.1.now))
+        result (past_at (is_word word.now) (list_at text_at) tokens.now) }
+    ensures shorter { IfOk result (λ x. length x.1.now < length tokens.now) }
+{
+    texts(alloc, skip_word(tokens, word)?)
+}
+
 /// Texts behind the word, or none where it is not said.
-#[tactic(auto, unfolding(crate::specs::Reading::maybe_at, crate::specs::Reading::past_at, crate::specs::Readers::patterns_at))]
+#[tactic(auto, unfolding(crate::specs::Reading::maybe_at, crate::specs::Readers::patterns_at))]
 pub fn patterns<'t>(
     alloc: Global,
     tokens: &'t [Token],
@@ -243,7 +257,7 @@ pub fn patterns<'t>(
     ensures shorter { IfOk result (λ x. length x.1.now ≤ length tokens.now) }
 {
     if begins_word(tokens, word) {
-        texts(alloc, skip_word(tokens, word)?)
+        texts_after(alloc, tokens, word)
     } else {
         Ok((Texts::new(alloc), tokens))
     }

@@ -1,13 +1,14 @@
 //! Tokens to what a script or settings say.
-ghost use Rattle.std.specs.Prelude.{◌≡◌, ◌<◌, ◌≤◌, length, IfOk, None};
+ghost use Rattle.std.specs.Prelude.{◌≡◌, ◌<◌, ◌≤◌, length, IfOk, None, Some};
 ghost use Rattle.gb_script.specs.Lexing.{begins};
 ghost use Rattle.gb_script.specs.Words.{statement_words};
-ghost use Rattle.gb_script.specs.Reading.{Gives, is_any, meaning_at, all_at};
-ghost use Rattle.gb_script.specs.Readers.{action_at, registration_at, configuration_at, property_of_at};
-ghost use Rattle.gb_script.specs.Readers.{statement_of_at, statement_at, script_at, include_at, settings_at};
+ghost use Rattle.gb_script.specs.Reading.{Gives, is_any, is_sign, made_at, past_at, meaning_at, all_at};
+ghost use Rattle.gb_script.specs.Readers.{call_at, action_at, registration_at, configuration_at};
+ghost use Rattle.gb_script.specs.Readers.{property_of_at, statement_of_at, statement_at, script_at};
+ghost use Rattle.gb_script.specs.Readers.{include_at, settings_at};
 
 use crate::clauses::{block, call, property_assignment};
-use crate::reading::{begins, name, property, skip, skip_word, stray, texts};
+use crate::reading::{begins, name, property, skip, stray, texts, texts_after};
 use crate::script::{Call, Configuration, Registration, Script, Settings, Statement};
 use crate::stop::Stop;
 use crate::token::{Sign, Token};
@@ -18,15 +19,24 @@ use std::alloc::Global;
 /// How many brackets may be open at once.
 pub const MAX_OPEN: u32 = 64;
 
+/// The call behind a colon, which has to be the first token.
+#[tactic(auto, unfolding(crate::specs::Reading::past_at))]
+fn call_after_colon(alloc: Global, tokens: &[Token], room: u32) -> Result<(Call, &[Token]), Stop>
+    ensures exact { Gives (λ x. (Some x.0, x.1.now))
+        result (past_at (is_sign Sign.Colon) (made_at Some (call_at room)) tokens.now) }
+    ensures shorter { IfOk result (λ x. length x.1.now < length tokens.now) }
+{
+    call(alloc, skip(tokens, Sign::Colon)?, room)
+}
+
 /// A call behind a colon, or none where no colon is.
-#[tactic(auto, unfolding(crate::specs::Reading::maybe_at, crate::specs::Reading::past_at, crate::specs::Readers::action_at))]
+#[tactic(auto, unfolding(crate::specs::Reading::maybe_at, crate::specs::Readers::action_at))]
 pub fn action(alloc: Global, tokens: &[Token], room: u32) -> Result<(Option<Call>, &[Token]), Stop>
     ensures exact { Gives (λ x. (x.0, x.1.now)) result (action_at room tokens.now) }
     ensures shorter { IfOk result (λ x. length x.1.now ≤ length tokens.now) }
 {
     if begins(tokens, Sign::Colon) {
-        let rest = skip(tokens, Sign::Colon)?;
-        let (call, rest) = call(alloc, rest, room)?;
+        let (call, rest) = call_after_colon(alloc, tokens, room)?;
         Ok((Some(call), rest))
     } else {
         Ok((None, tokens))
@@ -188,12 +198,12 @@ pub fn whole_script(alloc: Global, tokens: &[Token]) -> Result<Script, Stop>
 }
 
 /// The project paths behind the word.
-#[tactic(auto, unfolding(crate::specs::Reading::past_at, crate::specs::Readers::include_at))]
+#[tactic(auto, unfolding(crate::specs::Readers::include_at))]
 fn include(alloc: Global, tokens: &[Token]) -> Result<(Texts, &[Token]), Stop>
     ensures exact { Gives (λ x. (x.0, x.1.now)) result (include_at tokens.now) }
     ensures shorter { IfOk result (λ x. length x.1.now < length tokens.now) }
 {
-    texts(alloc, skip_word(tokens, "include")?)
+    texts_after(alloc, tokens, "include")
 }
 
 /// The includes up to the end.

@@ -1,4 +1,4 @@
--- Over every list of events, each build in which no task failed is from scratch.
+-- What a step says of a build in which no task failed, and which contents are among those of a run.
 use Rattle.std.specs.Prelude.{List, [], ◌∷◌, ◌++◌, ⊤}
 use Rattle.std.proofs.Common.{inl, inr}
 use Rattle.gb_meaning.specs.declared.events.Event.{Event}
@@ -6,12 +6,10 @@ use Rattle.gb_meaning.specs.declared.events.Event.TheVariants as events
 use Rattle.gb_meaning.specs.declared.events.Answer.{Answer}
 use Rattle.gb_meaning.specs.declared.events.Answer.TheVariants as answers
 use Rattle.gb_folder.specs.Files.{Bytes}
-use Rattle.gb_meaning.specs.TrueRecord.{AreApart}
 use Rattle.gb_meaning.specs.Turn.{Guard}
-use Rattle.gb_meaning.specs.Edits.{Shown}
 use Rattle.gb_meaning.specs.Events.{Setting, State, Step}
-use Rattle.gb_meaning.specs.Headline.{GoesThrough, IsClear, StillClear, contents_outside, seen_with}
-use Rattle.gb_meaning.specs.Every.{Succeeds, AllSucceed, EverySuccessIsFromScratch, contents_of_all}
+use Rattle.gb_meaning.specs.Headline.{seen_with}
+use Rattle.gb_meaning.specs.Every.{Succeeds}
 use Rattle.gb_meaning.proofs.Lemmas.Clear.{Among, apart_of_fewer, in_left, in_right, in_one}
 
 -- what was seen, and stands before and after an event, is among all
@@ -45,27 +43,3 @@ module _ (setting : Setting) where
   step_succeeds granted seen old new (events.Invoke invocation) answers.Edited given s = tt
   step_succeeds granted seen old new (events.Invoke invocation) (answers.Refused fault) given s = tt
   step_succeeds granted seen old new (events.Invoke invocation) (answers.NotBuilt fault) given s = tt
-
-  run_succeeds : (clear : Type 0) (seen : List Bytes) (old : State) (states : List State) (all : List Event) (told : List Answer) (end : Shown)
-      → GoesThrough setting clear seen old states all told end
-      → clear → AreApart setting.digest (seen ++ contents_of_all (old ∷ states)) → AllSucceed setting old states all told end
-  run_succeeds clear seen old [] [] [] end run is_clear apart = run.1
-  run_succeeds clear seen old (next ∷ states) (event ∷ rest) (answer ∷ others) end run is_clear apart =
-      let here_seen : List Bytes = contents_outside old.contents in
-      let here : IsClear setting old.remembered (seen_with seen old next) =
-      inr (apart_of_fewer setting.digest (seen ++ contents_of_all (old ∷ next ∷ states)) (seen_with seen old next)
-      (up_to_here seen here_seen (contents_outside next.contents) (contents_of_all states)) apart) in (
-        step_succeeds (StillClear setting clear old) seen old next event answer (is_clear, here) run.1,
-        run_succeeds (StillClear setting clear old (seen_with seen old next)) (seen ++ here_seen) next states rest others end run.3 (is_clear, here)
-            (apart_of_fewer setting.digest (seen ++ contents_of_all (old ∷ next ∷ states)) ((seen ++ here_seen) ++ contents_of_all (next ∷ states))
-            (joined seen here_seen (contents_of_all (next ∷ states))) apart),
-      )
-  run_succeeds clear seen old [] [] (answer ∷ others) end run is_clear apart = absurd run
-  run_succeeds clear seen old [] (event ∷ rest) [] end run is_clear apart = absurd run
-  run_succeeds clear seen old [] (event ∷ rest) (answer ∷ others) end run is_clear apart = absurd run
-  run_succeeds clear seen old (next ∷ states) [] [] end run is_clear apart = absurd run
-  run_succeeds clear seen old (next ∷ states) [] (answer ∷ others) end run is_clear apart = absurd run
-  run_succeeds clear seen old (next ∷ states) (event ∷ rest) [] end run is_clear apart = absurd run
-
-pub every : (setting : Setting) → EverySuccessIsFromScratch setting
-every setting start states all told end run apart = run_succeeds setting ⊤ _ start states all told end run tt apart

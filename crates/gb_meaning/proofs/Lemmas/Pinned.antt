@@ -148,7 +148,7 @@ worlds_same one other contents remembered =
     ap (λ (folder : Contents). let world : World = record { folder = folder; memory = one.remembered } in world) contents
     ∙ ap (λ (memory : Memory). let world : World = record { folder = outside other.contents; memory = memory } in world) remembered
 
--- two folders with the same files and odd things outside
+-- two folders with the same files and special files outside the own places
 outsides_same : (one other : Contents) → files_where not_own one.files ≡ files_where not_own other.files → one.odd ≡ other.odd → outside one ≡ outside other
 outsides_same one other files odd =
     ap (λ (fs : Files). let folder : Contents = record { files = fs; odd = one.odd } in folder) files

@@ -20,7 +20,8 @@ use Rattle.gb_meaning.specs.Turn.{May, Guard, Turns, Builds, moment_after}
 use Rattle.gb_meaning.specs.Edits.{Shown}
 use Rattle.gb_meaning.specs.Events.{Setting, State, Step, may_come, own_files, world_in}
 use Rattle.gb_meaning.specs.Headline.{GoesThrough, IsClear, StillClear, contents_outside, seen_with, state_of}
-use Rattle.gb_meaning.specs.Every.{PlainRun, ClearRunIsPlain, AllSucceed, Headline, contents_of_all, always}
+use Rattle.gb_meaning.specs.Every.{PlainRun, ClearRunIsPlain, AllSucceed, EverySuccessIsFromScratch, Headline}
+use Rattle.gb_meaning.specs.Every.{contents_of_all, always}
 use Rattle.gb_meaning.proofs.Lemmas.Clear.{Among, apart_of_fewer, all_hold}
 use Rattle.gb_meaning.proofs.Lemmas.Every.{up_to_here, joined, step_succeeds}
 
@@ -115,6 +116,10 @@ plain_succeeds setting old [] (event ∷ rest) (answer ∷ others) end run = abs
 plain_succeeds setting old (next ∷ states) [] [] end run = absurd run
 plain_succeeds setting old (next ∷ states) [] (answer ∷ others) end run = absurd run
 plain_succeeds setting old (next ∷ states) (event ∷ rest) [] end run = absurd run
+
+pub every : (setting : Setting) → EverySuccessIsFromScratch setting
+every setting start states all told end run apart =
+    plain_succeeds setting start states all told end (plain setting start states all told end run apart)
 
 pub headline : (setting : Setting) → Headline setting
 headline setting old end all told holds remembered stands =
