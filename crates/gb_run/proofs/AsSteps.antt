@@ -1,17 +1,14 @@
 -- Files that are put, as steps.
-use Rattle.std.specs.Prelude.{ℕ, ◌≡◌, ◌<◌, ◌+◌, ◌++◌, ◌||◌, List, [], ◌∷◌, Some, take, length, get_or}
+use Rattle.std.specs.Prelude.{◌≡◌, ◌++◌, ◌||◌, List, [], ◌∷◌, Some}
 use Rattle.std.specs.List.{AllByRecursion, list_any}
-use Rattle.std.specs.Borrow.{Bor}
-use Rattle.std.proofs.Common.{refl, sym, ap, ap₂, ◌∙◌}
+use Rattle.std.proofs.Common.{refl, ap, ap₂, ◌∙◌}
 use Rattle.gb_folder.specs.Files.{Place, Bytes, Files, is_blocked, with_file}
-use Rattle.gb_store.specs.Changes.{shown}
 use Rattle.gb_meaning.specs.Made.{put_over}
 use Rattle.gb_meaning.specs.Run.{has_room}
 use Rattle.gb_run.specs.Named.{put}
 use Rattle.gb_run.specs.Stepping.{HasRoom}
 use Rattle.gb_run.specs.Steps.{Step, after_steps}
 use Rattle.gb_run.proofs.Room.{fewer_room}
-use Rattle.gb_run.proofs.SteppedOn.{after_more}
 use Rattle.gb_run.proofs.Writer.{heads, tails}
 
 -- what they leave
@@ -30,10 +27,6 @@ room_of old (file ∷ files) room =
 pub all_put : (P : Place → Type 0) (files : List (Place × Bytes)) → AllByRecursion (λ (f : Place × Bytes). P f.0) files → AllByRecursion (λ (s : Step). P s.0) (put files)
 all_put P [] all = tt
 all_put P (file ∷ files) all = (all.0, all_put P files all.1)
-
-pub put_shown-append : (xs ys : List (Place × Bor Bytes)) → put (shown (xs ++ ys)) ≡ put (shown xs) ++ put (shown ys)
-put_shown-append [] ys = refl
-put_shown-append (x ∷ xs) ys = ap (λ ss. (x.0, Some x.1.now) ∷ ss) (put_shown-append xs ys)
 
 -- some first steps and the others are some first files and the others
 pub record IsParted (files : List (Place × Bytes)) (front behind : List Step) : Type 0 where
@@ -55,11 +48,3 @@ parted (file ∷ files) (step ∷ front) behind is =
       front_is = ap₂ (λ (s : Step) (ss : List Step). s ∷ ss) (heads step (file.0, Some file.1) (front ++ behind) (put files) is) rest.front_is;
       behind_is = rest.behind_is;
     }
-
--- one file more is put
-pub over_more : (files : List (Place × Bor Bytes)) (i : ℕ) (file : Place × Bor Bytes) → i < length files → file ≡ get_or files i file → (held : Files)
-    → put_over (put_over held (shown (take i files))) ((file.0, file.1.now) ∷ []) ≡ put_over held (shown (take (i + 1) files))
-over_more files i file within is held =
-    ap (λ (fs : Files). after_steps fs ((file.0, Some file.1.now) ∷ [])) (sym (after_put held (shown (take i files))))
-    ∙ after_more (λ (fs : List (Place × Bor Bytes)). put (shown fs)) put_shown-append files i file (file.0, Some file.1.now) refl within is held
-    ∙ after_put held (shown (take (i + 1) files))

@@ -89,11 +89,6 @@ module _ (kinds : Kinds) (task : Task) (trees : Trees) (changes : List Changes) 
           printed = going.printed ∙ ap (lines_by course) (sym same);
         }
 
-    -- memory ran out behind the last action
-    pub fails_late : IsGoing [] folder lines → (may_leave : Tearing) (before : ℕ) (fault : Fault) (after : ℕ) → fault ≡ faults.OutOfMemory → Fails course (ByChanges old) may_leave before fault lines after folder
-    fails_late going may_leave before fault after is =
-        fails_between (course_of kinds task trees changes (rest_of task old)) (ByChanges old) going.done [] going.all going.no_fault may_leave before after fault lines folder is going.printed going.stands
-
     module _ (action : Action) (left : List Action) (going : IsGoing (action ∷ left) folder lines) where
       all_more : task.actions ≡ (going.done ++ action ∷ []) ++ left
       all_more = going.all ∙ sym (append_assoc going.done (action ∷ []) left)

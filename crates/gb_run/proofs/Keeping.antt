@@ -1,5 +1,5 @@
 -- What the actions of a task make, one action more at a time, whatever the folder is.
-use Rattle.std.proofs.Common.{◌≡◌, List, [], ◌∷◌, ◌++◌, Result, Ok, Err, refl, sym, ap, ◌∙◌, append_assoc}
+use Rattle.std.proofs.Common.{◌≡◌, List, [], ◌∷◌, ◌++◌, Result, Ok, Err, refl, sym, ap, ◌∙◌}
 use Rattle.std.specs.Prelude.{if◌then◌else◌}
 use Rattle.std.specs.List.{fold}
 use Rattle.gb_report.specs.declared.fault.Fault.{Fault}
@@ -17,7 +17,6 @@ use Rattle.gb_meaning.proofs.Lemmas.Files.{sorted-put_over}
 use Rattle.gb_run.specs.Placing.{blank, faults_beside}
 use Rattle.gb_run.specs.Step.{IsKept}
 use Rattle.gb_run.proofs.Beside.{beside_held, over_by_place, taken_then}
-use Rattle.gb_run.proofs.Endings.{with_none}
 
 -- files that hinder nothing are put over those so far
 pub put_freely : (outputs : List Output) (held : Files) (made : Result (List Written) Text) (written : List Written) → made ≡ Ok written
@@ -62,30 +61,3 @@ pub record IsMaking (kinds : Kinds) (task : Task) (trees : Trees) (left : List A
   pub held : Files
   pub made : made_of kinds done task.values trees task.outputs ≡ Ok held
   pub kept : IsKept held taken digests
-
-module _ (kinds : Kinds) (task : Task) (trees : Trees) where
-  pub makes_none : IsMaking kinds task trees task.actions [] []
-  makes_none = record { done = []; all = refl; held = []; made = refl; kept = record { in_order = refl; places = refl; prints = refl } }
-
-  pub makes_more : (action : Action) (left : List Action) (taken digests taken_now digests_now : Files) → IsMaking kinds task trees (action ∷ left) taken digests
-      → ((held : Files) → IsKept held taken digests
-      → (more : Files) × (put_result task.outputs held (kinds.makes (kind_of action) action.args task.values trees) ≡ Ok more) × IsKept more taken_now digests_now)
-      → IsMaking kinds task trees left taken_now digests_now
-  makes_more action left taken digests taken_now digests_now making step =
-      let went = step making.held making.kept in
-      record {
-        done = making.done ++ action ∷ [];
-        all = making.all ∙ sym (append_assoc making.done (action ∷ []) left);
-        held = went.0;
-        made = made_more kinds task trees making.done action making.held went.0 making.made went.1;
-        kept = went.2;
-      }
-
-  -- all have ended
-  pub makes_all : (taken digests : Files) → IsMaking kinds task trees [] taken digests
-      → (held : Files) × (made_of kinds task.actions task.values trees task.outputs ≡ Ok held) × (digests ≡ digests_of held)
-  makes_all taken digests making = (
-    making.held,
-    ap (λ (actions : List Action). made_of kinds actions task.values trees task.outputs) (making.all ∙ with_none making.done) ∙ making.made,
-    making.kept.prints,
-  )

@@ -9,6 +9,15 @@ pub mod Stepped
 pub mod AsSteps
 pub mod Moments
 pub mod Running
+pub mod Changed
+pub mod Done
+pub mod Follows
+pub mod Composed
+pub mod Working
+pub mod PartByPart
+pub mod Ran
+pub mod WorkingBy
+pub mod RanBy
 pub mod Invented
 pub mod FailedRuns
 pub mod CutEmptying
@@ -16,7 +25,6 @@ pub mod Digested
 pub mod ByPlace
 pub mod Keeping
 pub mod Stood
-pub mod Asked
 pub mod Counted
 pub mod Looks
 pub mod AtPaths
@@ -38,4 +46,3 @@ pub mod Further
 pub mod Failing
 pub mod OneWriter
 pub mod Telling
-pub mod AskedChanges

@@ -3,6 +3,10 @@ pub mod Placing
 pub mod Asking
 pub mod Course
 pub mod Step
+pub mod Doing
+pub mod Work
+pub mod Worked
+pub mod WorkByChanges
 pub mod Emptying
 pub mod Laws
 pub mod Digests

@@ -8,12 +8,11 @@ ghost use Rattle.std.specs.FinMap.Entries.{is_sorted};
 ghost use Rattle.sha2.specs.Sha256.{sha256};
 ghost use Rattle.gb_core.specs.Lists.{byte_order};
 ghost use Rattle.gb_core.specs.Place.{is_place};
-ghost use Rattle.gb_folder.specs.Files.{Files, are_placed, files_under, with_file, without};
+ghost use Rattle.gb_folder.specs.Files.{Files, are_placed, files_under, with_file, with_left, without};
 ghost use Rattle.gb_tree.specs.Prints.{digests_of};
 ghost use Rattle.gb_tree.specs.Tree.{files_from, path_from};
-ghost use Rattle.gb_store.specs.Changes.{shown};
-ghost use Rattle.gb_meaning.specs.Made.{put_over};
 ghost use Rattle.gb_run.specs.Digests.{digests_in, prints_at};
+ghost use Rattle.gb_run.specs.Steps.{after_steps};
 
 use crate::path::path_from;
 use gb_core::bytes::Bytes;
@@ -75,15 +74,29 @@ impl Digests {
         self.hold(place, Sha256::digest(bytes.as_slice()))
     }
 
-    /// Puts the digests of files, one after another.
-    pub fn put_all(&mut self, files: &[(Place, &Bytes)]) -> Result<(), AllocError>
-        ensures { OnOk result ((held : Files) → self.old ≡ digests_of held
-            → self.new ≡ digests_of (put_over held (shown files.now))) }
+    /// Follows these steps, one after another: the digest of what is written is put, and that of what is
+    /// removed is taken out.
+    pub fn follow(&mut self, steps: &[(Place, Option<Bytes>)]) -> Result<(), AllocError>
+        ensures { OnOk result ((files : Files) → self.old ≡ digests_of files
+            → self.new ≡ digests_of (after_steps files steps.now)) }
     {
-        for file in files.iter() {
-            self.put(&file.0, file.1)?;
+        for step in steps.iter() {
+            self.follow_one(step)?;
         }
         Ok(())
+    }
+
+    fn follow_one(&mut self, step: &(Place, Option<Bytes>)) -> Result<(), AllocError>
+        ensures { OnOk result ((files : Files) → self.old ≡ digests_of files
+            → self.new ≡ digests_of (with_left files step.now.0 step.now.1)) }
+    {
+        match &step.1 {
+            Some(bytes) => self.put(&step.0, bytes),
+            None => {
+                self.remove(&step.0);
+                Ok(())
+            }
+        }
     }
 
     /// Takes the digest at a place out, if there is one.

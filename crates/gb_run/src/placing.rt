@@ -10,12 +10,12 @@ ghost use Rattle.std.specs.Option.{option_copied};
 ghost use Rattle.gb_core.specs.Lists.{first_of};
 ghost use Rattle.gb_core.specs.Place.{is_place, beneath};
 ghost use Rattle.gb_folder.specs.Files.{are_placed, with_file};
-ghost use Rattle.gb_store.specs.Changes.{shown};
 ghost use Rattle.gb_meaning.specs.Made.{file_faults, output_named, placed, put_over};
+ghost use Rattle.gb_run.specs.Named.{put};
 ghost use Rattle.gb_run.specs.Placing.{blank, count_faults, faults_beside};
 ghost use Rattle.gb_run.specs.Texts.{files_in};
 
-use gb_action::reply::Written;
+use gb_action::reply::{Writes, Written};
 use gb_core::bytes::Bytes;
 use gb_core::name::Name;
 use gb_core::place::{Place, PlaceFault, RelPath};
@@ -27,43 +27,43 @@ use gb_report::fault::Fault;
 use std::alloc::{AllocError, Global};
 use std::collections::BTreeMap;
 
-/// Takes the places of the files that an action writes, beside those taken before. The files come by
-/// place. An error is the first of what hinders them, or want of memory (3).
-pub fn take_places<'a>(
+/// Takes the places of the files that an action writes, beside those taken before, and returns the steps that
+/// write them, by place. An error is the first of what hinders them, or want of memory (3).
+pub fn take_places(
     alloc: Global,
     taken: &mut FileMap,
     outputs: &[Output],
-    writes: &'a [Written],
-) -> Result<Vec<(Place, &'a Bytes)>, Fault>
+    writes: Writes,
+) -> Result<Vec<(Place, Option<Bytes>)>, Fault>
     requires placed { IsTrue (are_placed taken.old) }
-    ensures files { IfOk result (λ files. shown files.items ≡ put_over [] (placed outputs.now writes.now)) }
+    ensures steps { IfOk result (λ steps. steps.items ≡ put (put_over [] (placed outputs.now writes))) }
     ensures placed { OnOk result (IsTrue (are_placed taken.new)) }
     ensures taken { OnOk result
-        (taken.new ≡ put_over taken.old (blank (put_over [] (placed outputs.now writes.now)))) }
+        (taken.new ≡ put_over taken.old (blank (put_over [] (placed outputs.now writes)))) }
     ensures ok { OnOk result
-        (faults_beside outputs.now taken.old (put_over [] (placed outputs.now writes.now)) ≡ []) }
+        (faults_beside outputs.now taken.old (put_over [] (placed outputs.now writes)) ≡ []) }
     ensures err { IfErr result (λ fault. (fault ≡ Fault.OutOfMemory)
-        ⊎ (first_of (faults_beside outputs.now taken.old (put_over [] (placed outputs.now writes.now)))
+        ⊎ (first_of (faults_beside outputs.now taken.old (put_over [] (placed outputs.now writes)))
         ≡ Some fault)) }
 {
     let files = by_place(alloc, outputs, writes)?;
     hold_all(taken, &files)?;
-    let places = check_all(alloc, taken, &files)?;
+    let steps = check_all(alloc, taken, files)?;
     check_counts(alloc, taken, outputs)?;
-    Ok(places)
+    Ok(steps)
 }
 
 /// The files that an action writes, by place: of two at one place the later counts. A reply names
 /// outputs of its task only.
-fn by_place<'a>(
+fn by_place(
     alloc: Global,
     outputs: &[Output],
-    writes: &'a [Written],
-) -> Result<BTreeMap<String, &'a Bytes>, AllocError>
-    ensures { IfOk result (λ files. files_in files ≡ put_over [] (placed outputs.now writes.now)) }
+    writes: Writes,
+) -> Result<BTreeMap<String, Bytes>, AllocError>
+    ensures { IfOk result (λ files. files_in files ≡ put_over [] (placed outputs.now writes)) }
 {
     let mut files = BTreeMap::new(alloc);
-    for file in writes.iter() {
+    for file in writes.into_vec() {
         if let Some(output) = output_named(outputs, &file.output) {
             put_file(alloc, &mut files, output, file)?;
         }
@@ -84,17 +84,17 @@ pub fn output_named<'a>(outputs: &'a [Output], name: &Name) -> Option<&'a Output
 }
 
 /// Puts a file beneath the place of its output.
-fn put_file<'a>(
+fn put_file(
     alloc: Global,
-    files: &mut BTreeMap<String, &'a Bytes>,
+    files: &mut BTreeMap<String, Bytes>,
     output: &Output,
-    file: &'a Written,
+    file: Written,
 ) -> Result<(), AllocError>
     ensures { OnOk result (files_in files.new
-        ≡ with_file (files_in files.old) (beneath output.now.place file.now.path) file.now.bytes) }
+        ≡ with_file (files_in files.old) (beneath output.now.place file.path) file.bytes) }
 {
     let text = text_beneath(alloc, &output.place, &file.path)?;
-    files.insert(text, &file.bytes)?;
+    files.insert(text, file.bytes)?;
     Ok(())
 }
 
@@ -111,7 +111,7 @@ pub fn text_beneath(alloc: Global, root: &Place, path: &RelPath) -> Result<Strin
 }
 
 /// Takes the places of all these files.
-fn hold_all(taken: &mut FileMap, files: &BTreeMap<String, &Bytes>) -> Result<(), AllocError>
+fn hold_all(taken: &mut FileMap, files: &BTreeMap<String, Bytes>) -> Result<(), AllocError>
     ensures { OnOk result (taken.new ≡ put_over taken.old (blank (files_in files.now))) }
 {
     for (text, _) in files.iter() {
@@ -120,23 +120,23 @@ fn hold_all(taken: &mut FileMap, files: &BTreeMap<String, &Bytes>) -> Result<(),
     Ok(())
 }
 
-/// Checks each of these files beside all.
-fn check_all<'a>(
+/// Checks each of these files beside all: the steps that write them.
+fn check_all(
     alloc: Global,
     all: &FileMap,
-    files: &BTreeMap<String, &'a Bytes>,
-) -> Result<Vec<(Place, &'a Bytes)>, Fault>
-    ensures files { IfOk result (λ places. shown places.items ≡ files_in files.now) }
-    ensures ok { OnOk result (flat_map (file_faults all.now) (files_in files.now) ≡ []) }
+    files: BTreeMap<String, Bytes>,
+) -> Result<Vec<(Place, Option<Bytes>)>, Fault>
+    ensures steps { IfOk result (λ steps. steps.items ≡ put (files_in files)) }
+    ensures ok { OnOk result (flat_map (file_faults all.now) (files_in files) ≡ []) }
     ensures err { IfErr result (λ fault. (fault ≡ Fault.OutOfMemory)
-        ⊎ (first_of (flat_map (file_faults all.now) (files_in files.now)) ≡ Some fault)) }
+        ⊎ (first_of (flat_map (file_faults all.now) (files_in files)) ≡ Some fault)) }
 {
-    let mut places = Vec::new(alloc);
-    for (text, bytes) in files.iter() {
-        let place = check_file(alloc, all, text.as_str(), bytes)?;
-        places.push((place, *bytes))?;
+    let mut steps = Vec::new(alloc);
+    for (text, bytes) in files {
+        let place = check_file(alloc, all, text.as_str(), &bytes)?;
+        steps.push((place, Some(bytes)))?;
     }
-    Ok(places)
+    Ok(steps)
 }
 
 /// Checks one file beside all.

@@ -1,10 +1,9 @@
 //! What a reply comes to: all that the task then holds is checked, and the steps stand in their turn.
 ghost use Rattle.std.specs.Prelude.{◌≡◌, ◌⊎◌, [], Some, IfOk, IfErr, OnOk};
-ghost use Rattle.std.specs.List.{AllByRecursion};
+ghost use Rattle.std.specs.Option.{option_copied};
 ghost use Rattle.gb_core.specs.Lists.{first_of};
 ghost use Rattle.gb_run.specs.Placing.{faults_beside};
 ghost use Rattle.gb_run.specs.Named.{held_after, steps_of};
-ghost use Rattle.gb_run.specs.Stepping.{IsSmall};
 ghost use Rattle.gb_run.specs.Steps.{in_turn};
 ghost use Rattle.gb_run.specs.ChangeTexts.{shown_steps, steps_in};
 
@@ -20,18 +19,17 @@ use gb_report::fault::Fault;
 use std::alloc::{AllocError, Global};
 use std::collections::BTreeMap;
 
-/// The steps of a reply over the files that are seen. An error is the first of what hinders all that the
-/// task then holds, or want of memory (3).
-pub fn planned<'a>(
+/// The steps of a reply over the files that are seen, with bytes of their own. An error is the first of what
+/// hinders all that the task then holds, or want of memory (3).
+pub fn planned(
     alloc: Global,
     outputs: &[Output],
     seen: &[OutputFiles],
     removes: &[OutputPath],
-    writes: &'a [Written],
-) -> Result<Vec<(Place, Option<&'a Bytes>)>, Fault>
+    writes: &[Written],
+) -> Result<Vec<(Place, Option<Bytes>)>, Fault>
     ensures steps { IfOk result (λ ordered.
-        shown_steps ordered.items ≡ in_turn (steps_of outputs.now removes.now writes.now)) }
-    ensures small { IfOk result (λ ordered. AllByRecursion IsSmall (shown_steps ordered.items)) }
+        ordered.items ≡ in_turn (steps_of outputs.now removes.now writes.now)) }
     ensures ok { OnOk result
         (faults_beside outputs.now [] (held_after outputs.now seen.now removes.now writes.now) ≡ []) }
     ensures err { IfErr result (λ fault. (fault ≡ Fault.OutOfMemory)
@@ -41,7 +39,31 @@ pub fn planned<'a>(
     check_planned(alloc, outputs, seen, removes, writes)?;
     let steps = named_steps(alloc, outputs, removes, writes)?;
     let ordered = in_turn(alloc, &steps)?;
-    Ok(ordered)
+    Ok(owned(alloc, ordered.as_slice())?)
+}
+
+/// The same steps, with bytes of their own.
+fn owned(
+    alloc: Global,
+    steps: &[(Place, Option<&Bytes>)],
+) -> Result<Vec<(Place, Option<Bytes>)>, AllocError>
+    ensures { IfOk result (λ owned. owned.items ≡ shown_steps steps.now) }
+{
+    let mut owned = Vec::new(alloc);
+    for step in steps.iter() {
+        owned.push(owned_one(&step.0, step.1)?)?;
+    }
+    Ok(owned)
+}
+
+fn owned_one(place: &Place, bytes: Option<&Bytes>) -> Result<(Place, Option<Bytes>), AllocError>
+    ensures { IfOk result (λ step. step ≡ (place.now, option_copied bytes.entry)) }
+{
+    let at = place.copy()?;
+    match bytes {
+        Some(bytes) => Ok((at, Some(bytes.copy()?))),
+        None => Ok((at, None)),
+    }
 }
 
 /// Checks all that the task holds once a reply is done.

@@ -1,17 +1,10 @@
-//! The digests of what stands at a task's outputs, and of what stands there once the steps of a reply are
-//! done.
+//! The digests of what a task's outputs held before its run.
 ghost use Rattle.std.specs.Prelude.{◌≡◌, ◌∷◌, [], IfOk, OnOk, map};
-ghost use Rattle.std.specs.Option.{option_copied};
 ghost use Rattle.gb_core.specs.Place.{beneath};
-ghost use Rattle.gb_folder.specs.Files.{Files, with_left};
-ghost use Rattle.gb_tree.specs.Prints.{digests_of};
 ghost use Rattle.gb_meaning.specs.Made.{put_over};
 ghost use Rattle.gb_run.specs.ChangeDigests.{at_places, digests_at};
-ghost use Rattle.gb_run.specs.Steps.{after_steps};
-ghost use Rattle.gb_run.specs.ChangeTexts.{shown_steps};
 
 use crate::digests::Digests;
-use gb_core::bytes::Bytes;
 use gb_core::place::{Place, PlaceFault, RelPath};
 use gb_plan::task::Output;
 use gb_tree::prints::Prints;
@@ -64,36 +57,5 @@ fn hold_file(
         Ok(place) => digests.hold(&place, *digest),
         Err(PlaceFault::OutOfMemory) => Err(AllocError),
         Err(PlaceFault::BadPlace) => Ok(()),
-    }
-}
-
-/// Follows these steps, one after another: what comes is digested, what goes is forgotten.
-pub fn follow_steps(
-    digests: &mut Digests,
-    steps: &[(Place, Option<&Bytes>)],
-) -> Result<(), AllocError>
-    ensures { OnOk result ((files : Files) → digests.old ≡ digests_of files
-        → digests.new ≡ digests_of (after_steps files (shown_steps steps.now))) }
-{
-    for step in steps.iter() {
-        follow_step(digests, &step.0, step.1)?;
-    }
-    Ok(())
-}
-
-fn follow_step(
-    digests: &mut Digests,
-    place: &Place,
-    bytes: Option<&Bytes>,
-) -> Result<(), AllocError>
-    ensures { OnOk result ((files : Files) → digests.old ≡ digests_of files
-        → digests.new ≡ digests_of (with_left files place.now (option_copied bytes.entry))) }
-{
-    match bytes {
-        Some(bytes) => digests.put(place, bytes),
-        None => {
-            digests.remove(place);
-            Ok(())
-        }
     }
 }

@@ -1,6 +1,5 @@
 use Rattle.std.proofs.Common.{◌≡◌, ◌⊎◌, ℕ, List, Some, IfErr, map, sym, ap, ◌∙◌, inl, inr, string_bytes}
 use Rattle.std.proofs.lemmas.Result.{err_from_is_err_and}
-use Rattle.std.specs.Borrow.{Bor}
 use Rattle.std.specs.Global.{Global}
 use Rattle.std.specs.List.{flat_map}
 use Rattle.std.specs.declared.string.String.{String}
@@ -18,11 +17,11 @@ pub returns-in_err-place-clause-err : goal.returns-in_err-place-clause-err
 returns-in_err-place-clause-err c =
     let all = c.args.all.now in
     let p = err_from_is_err_and c.from_residual.result c.from_residual.ensures.1 in
-    let IsFault : Fault → Type 0 = λ fault. (fault ≡ faults.OutOfMemory) ⊎ (first_of (flat_map (file_faults all) (files_in c.args.files.now)) ≡ Some fault) in
+    let IsFault : Fault → Type 0 = λ fault. (fault ≡ faults.OutOfMemory) ⊎ (first_of (flat_map (file_faults all) (files_in c.args.files)) ≡ Some fault) in
     at_err (λ r. IfErr r IsFault) c.from_residual.result p.0 c.in_err-place.field-0.0 p.1 p.2 (elim c.in_err-place.ensures.err [
       | inl memory ↦ inl memory
       | inr first ↦ inr (
           ap first_of (sym c.loop-text.invariant.left
-          ∙ ap (λ (es : List (String Global × Bor Bytes)). flat_map (file_faults all) (map (λ e. (string_bytes e.0, e.1.now)) es)) c.in-Some.ensures.steps)
-          ∙ first_more _ _ _ (ap (λ (text : List ℕ). first_of (file_faults all (text, c.in-Some.bytes.now.now))) (sym c.as_str.ensures.value) ∙ first))
+          ∙ ap (λ (es : List (String Global × Bytes)). flat_map (file_faults all) (map (λ e. (string_bytes e.0, e.1)) es)) c.in-Some.ensures.steps)
+          ∙ first_more _ _ _ (ap (λ (text : List ℕ). first_of (file_faults all (text, c.in-Some.bytes))) (sym c.as_str.ensures.value) ∙ first))
     ])

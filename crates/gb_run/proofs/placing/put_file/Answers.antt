@@ -7,4 +7,4 @@ use Rattle.gb_run.proofs.placing.put_file.Goals as goal
 pub returns : goal.returns
 returns c =
     put_by_text c.args.files.now c.insert.new.self c.in_ok-text.text _ c.in_ok-insert.ensures.entries
-    ∙ ap (λ (text : List ℕ). with_file (files_in c.args.files.now) text c.args.file.now.bytes) c.in_ok-text.ensures
+    ∙ ap (λ (text : List ℕ). with_file (files_in c.args.files.now) text c.args.file.bytes) c.in_ok-text.ensures

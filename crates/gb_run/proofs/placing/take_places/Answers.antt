@@ -11,13 +11,13 @@ use Rattle.gb_run.specs.Texts.{files_in}
 use Rattle.gb_run.proofs.Placed.{beside_is, first_more, placed_over}
 use Rattle.gb_run.proofs.placing.take_places.Goals as goal
 
-pub returns-in_err-places-clause-err : goal.returns-in_err-places-clause-err
-returns-in_err-places-clause-err c =
+pub returns-in_err-steps-clause-err : goal.returns-in_err-steps-clause-err
+returns-in_err-steps-clause-err c =
     let outputs = c.args.outputs.now in
-    let files = put_over [] (placed outputs c.args.writes.now) in
-    let p = err_from_is_err_and c.from_residual-in_err-places.result c.from_residual-in_err-places.ensures.1 in
+    let files = put_over [] (placed outputs c.args.writes) in
+    let p = err_from_is_err_and c.from_residual-in_err-steps.result c.from_residual-in_err-steps.ensures.1 in
     let IsFault : Fault → Type 0 = λ fault. (fault ≡ faults.OutOfMemory) ⊎ (first_of (faults_beside outputs c.args.taken.now files) ≡ Some fault) in
-    at_err (λ r. IfErr r IsFault) c.from_residual-in_err-places.result p.0 c.in_err-places.field-0.0 p.1 p.2 (elim c.in_err-places.ensures.err [
+    at_err (λ r. IfErr r IsFault) c.from_residual-in_err-steps.result p.0 c.in_err-steps.field-0.0 p.1 p.2 (elim c.in_err-steps.ensures.err [
       | inl memory ↦ inl memory
       | inr first ↦ inr (
           ap first_of (beside_is outputs c.args.taken.now c.hold_all.new.taken files (files_in c.in_ok-files.files) c.in_ok-files.ensures c.in_ok-hold_all.ensures)
@@ -25,12 +25,12 @@ returns-in_err-places-clause-err c =
     ])
 
 pub check_counts-requires : goal.check_counts-requires
-check_counts-requires c = ap are_placed c.in_ok-hold_all.ensures ∙ placed_over c.hold_all.new.taken (files_in c.in_ok-files.files) c.args.taken.now c.in_ok-places.ensures.ok c.requires.placed
+check_counts-requires c = ap are_placed c.in_ok-hold_all.ensures ∙ placed_over c.hold_all.new.taken (files_in c.in_ok-files.files) c.args.taken.now c.in_ok-steps.ensures.ok c.requires.placed
 
 pub returns-in_err-check_counts-clause-err : goal.returns-in_err-check_counts-clause-err
 returns-in_err-check_counts-clause-err c =
     let outputs = c.args.outputs.now in
-    let files = put_over [] (placed outputs c.args.writes.now) in
+    let files = put_over [] (placed outputs c.args.writes) in
     let all = c.hold_all.new.taken in
     let p = err_from_is_err_and c.from_residual-in_err-check_counts.result c.from_residual-in_err-check_counts.ensures.1 in
     let IsFault : Fault → Type 0 = λ fault. (fault ≡ faults.OutOfMemory) ⊎ (first_of (faults_beside outputs c.args.taken.now files) ≡ Some fault) in
@@ -38,20 +38,20 @@ returns-in_err-check_counts-clause-err c =
       | inl memory ↦ inl memory
       | inr first ↦ inr (
           ap first_of (beside_is outputs c.args.taken.now all files (files_in c.in_ok-files.files) c.in_ok-files.ensures c.in_ok-hold_all.ensures
-          ∙ ap (λ fs. fs ++ count_faults outputs all) c.in_ok-places.ensures.ok)
+          ∙ ap (λ fs. fs ++ count_faults outputs all) c.in_ok-steps.ensures.ok)
           ∙ first)
     ])
 
 pub returns-clause-ok : goal.returns-clause-ok
 returns-clause-ok c =
     let outputs = c.args.outputs.now in
-    let files = put_over [] (placed outputs c.args.writes.now) in
+    let files = put_over [] (placed outputs c.args.writes) in
     let all = c.hold_all.new.taken in
     beside_is outputs c.args.taken.now all files (files_in c.in_ok-files.files) c.in_ok-files.ensures c.in_ok-hold_all.ensures
-    ∙ ap (λ fs. fs ++ count_faults outputs all) c.in_ok-places.ensures.ok ∙ c.in_ok-check_counts.ensures.ok
+    ∙ ap (λ fs. fs ++ count_faults outputs all) c.in_ok-steps.ensures.ok ∙ c.in_ok-check_counts.ensures.ok
 
 pub returns-clause-taken : goal.returns-clause-taken
 returns-clause-taken c = c.in_ok-hold_all.ensures ∙ ap (λ (files : Files). put_over c.args.taken.now (blank files)) c.in_ok-files.ensures
 
 pub returns-clause-placed : goal.returns-clause-placed
-returns-clause-placed c = ap are_placed c.in_ok-hold_all.ensures ∙ placed_over c.hold_all.new.taken (files_in c.in_ok-files.files) c.args.taken.now c.in_ok-places.ensures.ok c.requires.placed
+returns-clause-placed c = ap are_placed c.in_ok-hold_all.ensures ∙ placed_over c.hold_all.new.taken (files_in c.in_ok-files.files) c.args.taken.now c.in_ok-steps.ensures.ok c.requires.placed

@@ -1,34 +1,60 @@
-use Rattle.std.proofs.Common.{◌≡◌, ◌++◌, ◌∷◌, List, Ok, IfErr, map, refl, sym, ap, subst, ◌∙◌}
+use Rattle.std.proofs.Common.{◌≡◌, ℕ, [], List, Ok, Err, Result, IfErr, IfOk, OnOk, map, refl, sym, subst, ◌∙◌, inl}
 use Rattle.std.proofs.lemmas.Result.{err_from_is_err_and}
+use Rattle.std.specs.Global.{Global}
 use Rattle.std.specs.List.{AllByRecursion}
-use Rattle.std.specs.VecDeque.Iter.{deque_iter_rest}
-use Rattle.gb_action.specs.Changes.{Changes}
-use Rattle.gb_action.specs.Files.{Trees}
+use Rattle.std.specs.declared.vec.Vec.{Vec}
+use Rattle.std.specs.Result.{result_err}
+use Rattle.gb_folder.specs.Calls.{Call, changes_at}
+use Rattle.gb_folder.specs.Device.{Leads, device_of}
 use Rattle.gb_folder.specs.Files.{Files}
-use Rattle.gb_plan.specs.Ready.{IsReadyAction}
-use Rattle.gb_plan.specs.Task.{Text, is_output_of}
-use Rattle.gb_plan.specs.declared.task.Action.{Action}
-use Rattle.gb_plan.specs.declared.task.Output.{Output}
+use Rattle.gb_folder.proofs.Leading.{answered_all, asks_of, count_of, leads_as}
 use Rattle.gb_report.specs.declared.fault.Fault.{Fault}
 use Rattle.gb_report.specs.declared.fault.Fault.TheVariants as faults
-use Rattle.gb_store.proofs.Machine.{at_err, changes_chain}
+use Rattle.gb_plan.specs.Task.{Text, is_output_of}
+use Rattle.gb_plan.specs.declared.task.Output.{Output}
+use Rattle.gb_store.proofs.Machine.{at_err}
 use Rattle.gb_meaning.specs.Headline.{Agrees}
-use Rattle.gb_meaning.specs.Kinds.{Kinds, kind_of}
-use Rattle.gb_meaning.specs.Made.{put_result}
-use Rattle.gb_meaning.specs.Run.{step_by}
-use Rattle.gb_run.specs.Asking.{IsFullRequest}
-use Rattle.gb_run.specs.Course.{course_of}
+use Rattle.gb_meaning.specs.Kinds.{Kinds}
+use Rattle.gb_meaning.specs.Made.{made_of}
+use Rattle.gb_run.specs.Course.{EndsWell, course_of}
 use Rattle.gb_run.specs.Digests.{prints_at}
 use Rattle.gb_run.specs.Failing.{Fails, InFull}
-use Rattle.gb_run.specs.Step.{IsHeld, IsKept, StopsIn}
-use Rattle.gb_run.proofs.Endings.{none_left}
-use Rattle.gb_run.proofs.Keeping.{IsMaking, makes_all, makes_more}
-use Rattle.gb_run.proofs.Running.{IsRunning, ends_well, fails, fails_early, fails_late, goes_further}
-use Rattle.gb_folder.proofs.Asked.{asks_then}
+use Rattle.gb_run.specs.Work.{RunsInFull, ending, or_made}
+use Rattle.gb_run.specs.Worked.{AreStepsAt}
+use Rattle.gb_run.specs.declared.work.Part.{Part}
+use Rattle.gb_run.proofs.Changed.{changes_of}
+use Rattle.gb_run.proofs.Ran.{blamed_parts_at, blamed_parts_for, device_alone, ended_badly, ended_well, if_made, permitted_parts, ran, runs_so}
+use Rattle.gb_run.proofs.Running.{fails_early}
 use Rattle.gb_run.proofs.run.run_in_full.Goals as goal
 
-pub returns-in_err-full_request-clause-err : goal.returns-in_err-full_request-clause-err
-returns-in_err-full_request-clause-err g c = λ tells.
+-- what holds of a result holds of one that is the same
+on_ok : {Y : Type 0} (X : Type 0) (r s : Result Y Fault) → r ≡ s → OnOk s X → OnOk r X
+on_ok X r s same is = subst (λ t. OnOk t X) (sym same) is
+
+if_err : {Y : Type 0} (P : Fault → Type 0) (r s : Result Y Fault) → r ≡ s → IfErr s P → IfErr r P
+if_err P r s same is = subst (λ t. IfErr t P) (sym same) is
+
+-- what holds of a result for all kinds of actions
+for_all : {Y : Type 0} (Given : Kinds → Type 0) (P : Kinds → Type 0) (r : Result Y Fault) → ((kinds : Kinds) → Given kinds → OnOk r (P kinds)) → OnOk r ((kinds : Kinds) → Given kinds → P kinds)
+for_all Given P (Ok y) is = is
+for_all Given P (Err fault) is = tt
+
+for_each : {Y : Type 0} (Given : Kinds → Type 0) (P : Kinds → Fault → Type 0) (r : Result Y Fault) → ((kinds : Kinds) → Given kinds → IfErr r (P kinds)) → IfErr r (λ fault. (kinds : Kinds) → Given kinds → P kinds fault)
+for_each Given P (Ok y) is = tt
+for_each Given P (Err fault) is = is
+
+pub returns-in_err-parts-clause-calls : goal.returns-in_err-parts-clause-calls
+returns-in_err-parts-clause-calls g c =
+    let F = g.F.Folder in
+    let folder = c.args.folder.now in
+    let p = err_from_is_err_and c.from_residual.result c.from_residual.ensures.1 in
+    let Made : Type 0 = Vec (List ℕ × List (List ℕ × List ℕ)) Global in
+    let IsDone : Result Made Fault → Type 0 = λ result. (calls : List Call) × Leads F.device folder calls folder
+    × ((kinds : Kinds) → Agrees g.A.Actions.meanings c.args.table.now kinds → RunsInFull (course_of kinds c.args.task.now c.args.files c.args.changes []) calls c.args.lines.now (ending result)) in
+    at_err IsDone c.from_residual.result p.0 faults.OutOfMemory p.1 p.2 ([], refl, λ kinds agrees. inl (refl, c.requires.no_lines, refl))
+
+pub returns-in_err-parts-clause-err : goal.returns-in_err-parts-clause-err
+returns-in_err-parts-clause-err g c = λ tells.
     let F = g.F.Folder in
     let folder = c.args.folder.now in
     let p = err_from_is_err_and c.from_residual.result c.from_residual.ensures.1 in
@@ -39,100 +65,100 @@ returns-in_err-full_request-clause-err g c = λ tells.
     subst (λ (lines : List Text). Fails course InFull (F.may_leave folder) (F.failures folder) faults.OutOfMemory lines (F.failures folder) (F.contents folder).files) (sym c.requires.no_lines)
     (fails_early course (F.may_leave folder) (F.failures folder) faults.OutOfMemory (F.failures folder) refl))
 
-pub loop-action-preserved : goal.loop-action-preserved
-loop-action-preserved g c =
-    let F = g.F.Folder in
-    let task = c.args.task.now in
-    let old = c.loop-action in
-    let action = c.in-Some.action.now in
-    let left = deque_iter_rest c.next.new.self in
-    let next : deque_iter_rest old.action-iterator ≡ action ∷ left = c.in-Some.ensures.steps in
-    let now = c.run_one.new in
-    record {
-      asks = asks_then old.invariant.asks c.run_one.ensures.asks;
-      full =
-          subst (λ (files : Trees). IsFullRequest task files c.args.changes now.running.request) old.invariant.full.files
-          (subst (λ (lists : List Changes). IsFullRequest task old.running.request.files lists now.running.request) old.invariant.full.lists c.in-Ok.ensures.full);
-      placed = c.in-Ok.ensures.placed;
-      ready = (subst (λ (actions : List Action). AllByRecursion (IsReadyAction g.A.Actions.meanings c.args.table.now task) actions) next old.invariant.ready).1;
-      changes = λ tells. changes_chain (is_output_of task) _ _ _ (old.invariant.changes tells) (c.run_one.ensures.changes tells);
-      makes = λ kinds agrees.
-          makes_more kinds task c.args.files action left old.running.taken old.running.digests now.running.taken now.running.digests
-          (subst (λ (actions : List Action). IsMaking kinds task c.args.files actions old.running.taken old.running.digests) next (old.invariant.makes kinds agrees))
-          (λ held kept.
-          subst (λ (trees : Trees). (more : Files) × (put_result task.outputs held (kinds.makes (kind_of action) action.args task.values trees) ≡ Ok more) × IsKept more now.running.taken now.running.digests)
-          old.invariant.full.files (c.in-Ok.ensures.kept kinds agrees held kept));
-      ran = λ tells kinds agrees.
-          let course = course_of kinds task c.args.files c.args.changes (F.contents c.args.folder.now).files in
-          let folder = (F.contents old.folder).files in
-          let new = (F.contents now.folder).files in
-          goes_further course old.running.taken folder old.lines action left
-          (subst (λ (actions : List Action). IsRunning course actions old.running.taken folder old.lines) next (old.invariant.ran tells kinds agrees))
-          now.running.taken new now.lines
-          (λ rest held is_held. subst (λ (trees : Trees). (more : Files) × (step_by task.outputs rest held (kinds.makes (kind_of action) action.args task.values trees) ≡ Ok more) × IsHeld rest more now.running.taken new)
-          old.invariant.full.files (c.in-Ok.ensures.ok tells kinds agrees rest held is_held))
-          (c.in-Ok.ensures.printed kinds agrees
-          ∙ ap (λ (trees : Trees). old.lines ++ kinds.prints (kind_of action) action.args task.values trees old.running.request.changes.lists) old.invariant.full.files
-          ∙ ap (λ (lists : List Changes). old.lines ++ kinds.prints (kind_of action) action.args task.values c.args.files lists) old.invariant.full.lists);
-    }
-
-pub returns-in-Err-clause-err : goal.returns-in-Err-clause-err
-returns-in-Err-clause-err g c = λ tells.
-    let F = g.F.Folder in
-    let task = c.args.task.now in
-    let old = c.loop-action in
-    let action = c.in-Some.action.now in
-    let left = deque_iter_rest c.next.new.self in
-    let next : deque_iter_rest old.action-iterator ≡ action ∷ left = c.in-Some.ensures.steps in
-    let now = c.run_one.new in
-    let start = c.args.folder.now in
-    λ kinds agrees.
-    let course = course_of kinds task c.args.files c.args.changes (F.contents start).files in
-    let folder = (F.contents old.folder).files in
-    let new = (F.contents now.folder).files in
-    fails course old.running.taken folder old.lines action left
-    (subst (λ (actions : List Action). IsRunning course actions old.running.taken folder old.lines) next (old.invariant.ran tells kinds agrees))
-    (F.may_leave start) (F.may_leave old.folder) (F.failures start) (F.failures old.folder) (F.failures now.folder) c.in-Err.fault new now.lines
-    old.invariant.asks.tearing old.invariant.asks.count c.run_one.ensures.asks.count
-    (λ rest held is_held.
-    subst (λ (trees : Trees). StopsIn task.outputs rest held (kinds.makes (kind_of action) action.args task.values trees) (F.may_leave old.folder) (F.failures old.folder) c.in-Err.fault (F.failures now.folder) new)
-    old.invariant.full.files (c.in-Err.ensures.err tells kinds agrees rest held is_held))
-    c.in-Err.ensures.lines
-
-pub returns-in_err-made-clause-err : goal.returns-in_err-made-clause-err
-returns-in_err-made-clause-err g c = λ tells.
-    let F = g.F.Folder in
-    let old = c.loop-action in
-    let start = c.args.folder.now in
-    let folder = (F.contents old.folder).files in
-    let p = err_from_is_err_and c.from_residual-in_err-made.result c.from_residual-in_err-made.ensures.1 in
-    let IsFault : Fault → Type 0 = λ fault. (kinds : Kinds) → Agrees g.A.Actions.meanings c.args.table.now kinds
-    → Fails (course_of kinds c.args.task.now c.args.files c.args.changes (F.contents start).files) InFull (F.may_leave start) (F.failures start) fault old.lines (F.failures old.folder) folder in
-    at_err (λ r. IfErr r IsFault) c.from_residual-in_err-made.result p.0 faults.OutOfMemory p.1 p.2 (λ kinds agrees.
-    let course = course_of kinds c.args.task.now c.args.files c.args.changes (F.contents start).files in
-    let nothing = none_left (deque_iter_rest old.action-iterator) c.in-None.ensures.steps.0 in
-    fails_late course old.running.taken folder old.lines
-    (subst (λ (actions : List Action). IsRunning course actions old.running.taken folder old.lines) nothing (old.invariant.ran tells kinds agrees))
-    (F.may_leave start) (F.failures start) faults.OutOfMemory (F.failures old.folder) refl)
-
 pub returns-clause-named : goal.returns-clause-named
-returns-clause-named g c = c.in_ok-made.ensures.named ∙ ap (λ (outputs : List Output). map (λ (output : Output). output.name) outputs) c.as_slice.ensures
+returns-clause-named g c = subst (λ r. IfOk r (λ made. map (λ prints. prints.0) made.items ≡ map (λ (output : Output). output.name) c.args.task.now.outputs)) (sym c.ended.ensures)
+    (if_made _ c.do_parts-done.result c.in_ok-parts.field-0.made c.in_ok-parts.ensures.named)
 
 pub returns-clause-made : goal.returns-clause-made
-returns-clause-made g c = λ kinds agrees.
-    let old = c.loop-action in
-    let task = c.args.task.now in
-    let nothing = none_left (deque_iter_rest old.action-iterator) c.in-None.ensures.steps.0 in
-    let all = makes_all kinds task c.args.files old.running.taken old.running.digests
-    (subst (λ (actions : List Action). IsMaking kinds task c.args.files actions old.running.taken old.running.digests) nothing (old.invariant.makes kinds agrees)) in
-    (all.0, all.1, c.in_ok-made.ensures.prints all.0 all.2 ∙ ap (λ (outputs : List Output). prints_at outputs all.0) c.as_slice.ensures)
+returns-clause-made g c =
+    let Made : Type 0 = Vec (List ℕ × List (List ℕ × List ℕ)) Global in
+    subst (λ (r : Result Made Fault). IfOk r (λ made. (kinds : Kinds) → Agrees g.A.Actions.meanings c.args.table.now kinds → (held : Files)
+    × (made_of kinds c.args.task.now.actions c.args.task.now.values c.args.files c.args.task.now.outputs ≡ Ok held) × (made.items ≡ prints_at c.args.task.now.outputs held))) (sym c.ended.ensures)
+    (if_made _ c.do_parts-done.result c.in_ok-parts.field-0.made c.in_ok-parts.ensures.made)
+
+pub returns-clause-calls : goal.returns-clause-calls
+returns-clause-calls g c =
+    let F = g.F.Folder in
+    let led = c.do_parts-done.ensures in
+    (led.0, led.2, λ kinds agrees.
+    let course = course_of kinds c.args.task.now c.args.files c.args.changes [] in
+    let Made : Type 0 = Vec (List ℕ × List (List ℕ × List ℕ)) Global in
+    subst (λ (r : Result Made Fault). RunsInFull course led.0 c.do_parts-done.new.lines (ending r)) (sym c.ended.ensures)
+    (runs_so course led.0 c.in_ok-parts.field-0.parts.items c.as_slice.result.now c.in_ok-parts.field-0.made c.args.lines.now led.1 c.do_parts-done.new.lines c.do_parts-done.result
+    c.as_slice.ensures.value (c.in_ok-parts.ensures.work kinds agrees) led.3 c.requires.no_lines led.4))
+
+pub returns-clause-asks : goal.returns-clause-asks
+unfolding changes_at
+returns-clause-asks g c =
+    let F = g.F.Folder in
+    let device = device_of F.failures F.may_leave F.asked F.tells F.contents in
+    let led = c.do_parts-done.ensures in
+    let at = is_output_of c.args.task.now in
+    let places = subst (λ (parts : List Part). AllByRecursion (AreStepsAt at) parts) (sym c.as_slice.ensures.value) c.in_ok-parts.ensures.places in
+    asks_of device (changes_at at) _ _ led.0 (permitted_parts (changes_at at) c.as_slice.result.now led.0 led.1 c.do_parts-done.result places led.3)
+    (leads_as F.device device g.met.F.Folder.said c.args.folder.now c.do_parts-done.new.folder led.0 led.2)
+
+pub returns-clause-blame : goal.returns-clause-blame
+returns-clause-blame g c = λ place is.
+    let F = g.F.Folder in
+    let device = device_of F.failures F.may_leave F.asked F.tells F.contents in
+    let led = c.do_parts-done.ensures in
+    blamed_parts_for device c.as_slice.result.now led.0 led.1 c.do_parts-done.result _ _ led.3
+    (leads_as F.device device g.met.F.Folder.said c.args.folder.now c.do_parts-done.new.folder led.0 led.2) place
+    (device_alone c.do_parts-done.result c.in_ok-parts.field-0.made place c.in_ok-parts.ensures.blames (sym c.ended.ensures ∙ is))
+
+pub returns-clause-blamed : goal.returns-clause-blamed
+returns-clause-blamed g c = λ place is.
+    let led = c.do_parts-done.ensures in
+    let at = is_output_of c.args.task.now in
+    let places = subst (λ (parts : List Part). AllByRecursion (AreStepsAt at) parts) (sym c.as_slice.ensures.value) c.in_ok-parts.ensures.places in
+    blamed_parts_at at c.as_slice.result.now led.0 led.1 c.do_parts-done.result places led.3 place
+    (device_alone c.do_parts-done.result c.in_ok-parts.field-0.made place c.in_ok-parts.ensures.blames (sym c.ended.ensures ∙ is))
+
+pub returns-clause-changes : goal.returns-clause-changes
+unfolding changes_at
+returns-clause-changes g c = λ tells.
+    let F = g.F.Folder in
+    let device = device_of F.failures F.may_leave F.asked F.tells F.contents in
+    let led = c.do_parts-done.ensures in
+    let at = is_output_of c.args.task.now in
+    let places = subst (λ (parts : List Part). AllByRecursion (AreStepsAt at) parts) (sym c.as_slice.ensures.value) c.in_ok-parts.ensures.places in
+    changes_of at (F.may_leave c.args.folder.now) _ _ led.0 (permitted_parts (changes_at at) c.as_slice.result.now led.0 led.1 c.do_parts-done.result places led.3)
+    (answered_all device tells g.met.F.Folder.sound c.args.folder.now c.do_parts-done.new.folder led.0
+    (leads_as F.device device g.met.F.Folder.said c.args.folder.now c.do_parts-done.new.folder led.0 led.2))
 
 pub returns-clause-ok : goal.returns-clause-ok
-returns-clause-ok g c = λ tells kinds agrees.
+returns-clause-ok g c = λ tells.
     let F = g.F.Folder in
-    let old = c.loop-action in
-    let course = course_of kinds c.args.task.now c.args.files c.args.changes (F.contents c.args.folder.now).files in
-    let folder = (F.contents old.folder).files in
-    let nothing = none_left (deque_iter_rest old.action-iterator) c.in-None.ensures.steps.0 in
-    ends_well course old.running.taken folder old.lines
-    (subst (λ (actions : List Action). IsRunning course actions old.running.taken folder old.lines) nothing (old.invariant.ran tells kinds agrees))
+    let device = device_of F.failures F.may_leave F.asked F.tells F.contents in
+    let old = c.args.folder.now in
+    let new = c.do_parts-done.new.folder in
+    let lines = c.do_parts-done.new.lines in
+    let done = c.do_parts-done.result in
+    let led = c.do_parts-done.ensures in
+    let leads = leads_as F.device device g.met.F.Folder.said old new led.0 led.2 in
+    let made = c.in_ok-parts.field-0.made in
+    on_ok _ c.ended.result (or_made done made) c.ended.ensures (for_all (λ kinds. Agrees g.A.Actions.meanings c.args.table.now kinds) (λ kinds. EndsWell (course_of kinds c.args.task.now c.args.files c.args.changes (F.contents old).files) lines (F.contents new).files)
+    (or_made done made) (λ kinds agrees.
+    ended_well (course_of kinds c.args.task.now c.args.files c.args.changes (F.contents old).files) InFull (F.may_leave old) (F.failures old) (F.failures new) lines (F.contents new).files done made
+    (ran kinds c.args.task.now c.args.files c.args.changes (F.may_leave old) (F.failures old) (F.failures new) (F.contents old) (F.contents new) led.0 c.in_ok-parts.field-0.parts.items c.as_slice.result.now (result_err made)
+    c.args.lines.now led.1 lines done c.as_slice.ensures.value (c.in_ok-parts.ensures.work kinds agrees) (g.met.F.Folder.sound old).in_order (count_of device old new led.0 leads)
+    (λ place is. blamed_parts_for device c.as_slice.result.now led.0 led.1 done _ _ led.3 leads place is) led.3 (answered_all device tells g.met.F.Folder.sound old new led.0 leads) c.requires.no_lines led.4)))
+
+pub returns-clause-err : goal.returns-clause-err
+returns-clause-err g c = λ tells.
+    let F = g.F.Folder in
+    let device = device_of F.failures F.may_leave F.asked F.tells F.contents in
+    let old = c.args.folder.now in
+    let new = c.do_parts-done.new.folder in
+    let lines = c.do_parts-done.new.lines in
+    let done = c.do_parts-done.result in
+    let led = c.do_parts-done.ensures in
+    let leads = leads_as F.device device g.met.F.Folder.said old new led.0 led.2 in
+    let made = c.in_ok-parts.field-0.made in
+    if_err _ c.ended.result (or_made done made) c.ended.ensures (for_each (λ kinds. Agrees g.A.Actions.meanings c.args.table.now kinds)
+    (λ kinds fault. Fails (course_of kinds c.args.task.now c.args.files c.args.changes (F.contents old).files) InFull (F.may_leave old) (F.failures old) fault lines (F.failures new) (F.contents new).files) (or_made done made) (λ kinds agrees.
+    ended_badly (course_of kinds c.args.task.now c.args.files c.args.changes (F.contents old).files) InFull (F.may_leave old) (F.failures old) (F.failures new) lines (F.contents new).files done made
+    (ran kinds c.args.task.now c.args.files c.args.changes (F.may_leave old) (F.failures old) (F.failures new) (F.contents old) (F.contents new) led.0 c.in_ok-parts.field-0.parts.items c.as_slice.result.now (result_err made)
+    c.args.lines.now led.1 lines done c.as_slice.ensures.value (c.in_ok-parts.ensures.work kinds agrees) (g.met.F.Folder.sound old).in_order (count_of device old new led.0 leads)
+    (λ place is. blamed_parts_for device c.as_slice.result.now led.0 led.1 done _ _ led.3 leads place is) led.3 (answered_all device tells g.met.F.Folder.sound old new led.0 leads) c.requires.no_lines led.4)))

@@ -1,9 +1,0 @@
-use Rattle.std.proofs.Common.{◌≡◌, take}
-use Rattle.gb_folder.specs.Files.{Files}
-use Rattle.gb_tree.specs.Prints.{digests_of}
-use Rattle.gb_run.specs.Steps.{after_steps}
-use Rattle.gb_run.specs.ChangeTexts.{shown_steps}
-use Rattle.gb_run.proofs.standing.follow_steps.Given as goal
-
-abbrev pub invariant-loop-step : goal.invariant-loop-step
-invariant-loop-step l = (files : Files) → l.fn.digests ≡ digests_of files → l.digests ≡ digests_of (after_steps files (shown_steps (take l.step-index l.steps)))

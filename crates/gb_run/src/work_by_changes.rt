@@ -1,0 +1,269 @@
+//! What a run by changes comes to, worked out before anything is changed. Nothing here knows a folder.
+ghost use Rattle.std.specs.Prelude.{◌≡◌, ◌≢◌, ◌⊎◌, ◌++◌, ℕ, List, [], Ok, Err, Some, IsTrue, IfOk, IfErr, OnOk};
+ghost use Rattle.std.specs.Prelude.{map, true, false};
+ghost use Rattle.std.specs.FinMap.Entries.{is_sorted};
+ghost use Rattle.std.specs.List.{AllByRecursion};
+ghost use Rattle.gb_core.specs.Lists.{byte_order};
+ghost use Rattle.gb_action.specs.Files.{Trees};
+ghost use Rattle.gb_action.specs.Replies.{Answers};
+ghost use Rattle.gb_folder.specs.Files.{Files, are_placed};
+ghost use Rattle.gb_tree.specs.Prints.{digests_of};
+ghost use Rattle.gb_plan.specs.Ready.{IsReady, IsReadyAction};
+ghost use Rattle.gb_plan.specs.Task.{is_output_of, seen_files, seen_outputs};
+ghost use Rattle.gb_meaning.specs.Headline.{Agrees};
+ghost use Rattle.gb_meaning.specs.Kinds.{Kinds, kind_of};
+ghost use Rattle.gb_meaning.specs.Made.{made_of};
+ghost use Rattle.gb_meaning.specs.Memory.{output_files};
+ghost use Rattle.gb_run.specs.Asking.{IsFullLike, made_by, printed_by};
+ghost use Rattle.gb_run.specs.AskingChanges.{AnswersChanges, CanGoOn, GoesOn, IsFitting, request_of};
+ghost use Rattle.gb_run.specs.Digests.{prints_at};
+ghost use Rattle.gb_run.specs.Turn.{IsItsTurn, Makes};
+ghost use Rattle.gb_run.specs.WorkByChanges.{FailsWith, IsPart, IsWorkByChanges, increment_of};
+ghost use Rattle.gb_run.specs.Worked.{AreStepsAt, part_held, work_held};
+
+use crate::asking::full_request;
+use crate::asking_changes::{ask, is_writer};
+use crate::digests::Digests;
+use crate::planning::planned;
+use crate::standing::digests_stood;
+use crate::work::{Part, Work, stopped};
+use gb_action::actions::Actions;
+use gb_action::change::ChangeLists;
+use gb_action::output::OutputSnapshots;
+use gb_action::reply::Reply;
+use gb_action::request::Request;
+use gb_action::snapshot::Snapshots;
+use gb_action::table::ActionTable;
+use gb_plan::task::{Action, TaskDeclaration};
+use gb_report::fault::Fault;
+use gb_tree::prints::Prints;
+use std::alloc::{AllocError, Global};
+use std::mem;
+
+/// What is at hand as a run is worked out: the request, in which outputs have no files, the outputs as they
+/// were seen, for the one action that is asked by changes, and the digests of what they come to hold.
+#[derive(Drop)]
+struct Working {
+    request: Request,
+    seen: OutputSnapshots,
+    digests: Digests,
+}
+
+/// The part of an action that writes no file: it is asked in full.
+fn part_of_reader<A: Actions>(
+    alloc: Global,
+    task: &TaskDeclaration,
+    table: &ActionTable<A::Stored>,
+    action: &Action,
+    request: &mut Request,
+) -> Result<Part, Fault>
+    requires ready { IsReadyAction A.meanings table.now task.now action.now }
+    requires named { map (λ tree. tree.0) request.old.files ≡ seen_files task.now.files }
+    requires full { IsFullLike task.now request.old request.old }
+    ensures full { OnOk result (IsFullLike task.now request.old request.new) }
+    ensures steps { IfOk result (λ part. part.steps.items ≡ []) }
+    ensures made { OnOk result ((kinds : Kinds) → Agrees A.meanings table.now kinds
+        → IsFitting kinds task.now action.now → kinds.writes (kind_of action.now) ≡ false
+        → made_by kinds task.now action.now request.old.files ≡ Ok []) }
+    ensures printed { IfOk result (λ part. (kinds : Kinds) → Agrees A.meanings table.now kinds → part.lines
+        ≡ printed_by kinds task.now action.now request.old.files request.old.changes.lists) }
+    ensures err { IfErr result (λ fault. (fault ≡ Fault.OutOfMemory)
+        ⊎ ((text : List ℕ) × (fault ≡ Fault.ActionFailed text)
+        × ((kinds : Kinds) → Agrees A.meanings table.now kinds
+        → made_by kinds task.now action.now request.old.files ≡ Err text))) }
+{
+    let reply = ask::<A>(alloc, task, table, action, request)?;
+    Ok(Part {
+        steps: Vec::new(alloc),
+        lines: reply.lines,
+    })
+}
+
+/// Asks the action that writes, by changes, over the outputs as they were seen.
+fn ask_by_changes<A: Actions>(
+    alloc: Global,
+    task: &TaskDeclaration,
+    table: &ActionTable<A::Stored>,
+    action: &Action,
+    working: &mut Working,
+) -> Result<Reply, Fault>
+    requires ready { IsReadyAction A.meanings table.now task.now action.now }
+    requires named { map (λ tree. tree.0) working.old.request.files ≡ seen_files task.now.files }
+    requires full { IsFullLike task.now working.old.request working.old.request }
+    requires formed { map (λ output. (output.name, output.form)) working.old.seen
+        ≡ seen_outputs task.now.outputs }
+    requires able { AnswersChanges A.meanings table.now action.now }
+    ensures request { OnOk result (working.new.request ≡ request_of task.now working.old.request.files
+        working.old.request.changes.lists working.old.seen action.now.args) }
+    ensures seen { OnOk result (working.new.seen ≡ working.old.request.outputs) }
+    ensures digests { working.new.digests ≡ working.old.digests }
+    ensures answered { IfOk result (λ reply. (kinds : Kinds) → Agrees A.meanings table.now kinds
+        → Answers (kinds.makes (kind_of action.now)) (kinds.prints (kind_of action.now))
+        (request_of task.now working.old.request.files working.old.request.changes.lists working.old.seen
+        action.now.args) (Ok reply)) }
+    ensures err { IfErr result (λ fault. (fault ≡ Fault.OutOfMemory)
+        ⊎ ((text : List ℕ) × (fault ≡ Fault.ActionFailed text)
+        × ((kinds : Kinds) → Agrees A.meanings table.now kinds
+        → made_by kinds task.now action.now working.old.request.files ≡ Err text))) }
+{
+    mem::swap(&mut working.request.outputs, &mut working.seen);
+    working.request.changes.incremental = true;
+    ask::<A>(alloc, task, table, action, &mut working.request)
+}
+
+/// Makes the request one in full again.
+fn go_back(working: &mut Working)
+    ensures request { working.new.request ≡ record working.old.request {
+      outputs = working.old.seen;
+      changes = record { incremental = false; lists = working.old.request.changes.lists };
+    } }
+    ensures seen { working.new.seen ≡ working.old.request.outputs }
+    ensures digests { working.new.digests ≡ working.old.digests }
+{
+    mem::swap(&mut working.request.outputs, &mut working.seen);
+    working.request.changes.incremental = false;
+}
+
+/// The part of the action that writes: it is asked by changes, and all that the task then holds is checked.
+fn part_of_writer<A: Actions>(
+    alloc: Global,
+    task: &TaskDeclaration,
+    table: &ActionTable<A::Stored>,
+    action: &Action,
+    working: &mut Working,
+) -> Result<Part, Fault>
+    requires ready { IsReadyAction A.meanings table.now task.now action.now }
+    requires named { map (λ tree. tree.0) working.old.request.files ≡ seen_files task.now.files }
+    requires full { IsFullLike task.now working.old.request working.old.request }
+    requires formed { map (λ output. (output.name, output.form)) working.old.seen
+        ≡ seen_outputs task.now.outputs }
+    requires able { AnswersChanges A.meanings table.now action.now }
+    ensures full { OnOk result (IsFullLike task.now working.old.request working.new.request) }
+    ensures seen { OnOk result (working.new.seen ≡ working.old.seen) }
+    ensures ok { IfOk result (λ part. (kinds : Kinds) → Agrees A.meanings table.now kinds
+        → kinds.writes (kind_of action.now) ≡ true → IsPart (increment_of kinds task.now
+        working.old.request.files working.old.request.changes.lists working.old.seen) action.now
+        (part_held part)) }
+    ensures makes { OnOk result ((kinds : Kinds) → Agrees A.meanings table.now kinds
+        → (standing : Files) → IsTrue (is_sorted byte_order standing) → IsTrue (are_placed standing)
+        → IsItsTurn kinds task.now action.now working.old.request.files working.old.request.changes.lists
+        working.old.seen standing → working.old.digests ≡ digests_of (output_files task.now standing)
+        → Makes kinds task.now action.now working.old.request.files working.new.digests) }
+    ensures places { IfOk result (AreStepsAt (is_output_of task.now)) }
+    ensures err { IfErr result (λ fault. (fault ≡ Fault.OutOfMemory)
+        ⊎ ((kinds : Kinds) → Agrees A.meanings table.now kinds → kinds.writes (kind_of action.now) ≡ true
+        → FailsWith (increment_of kinds task.now working.old.request.files
+        working.old.request.changes.lists working.old.seen) action.now fault)) }
+    ensures blames { IfErr result (λ fault. (place : List ℕ) → fault ≢ Fault.Device place) }
+{
+    let reply = ask_by_changes::<A>(alloc, task, table, action, working)?;
+    let lines = reply.lines;
+    let steps = planned(
+        alloc,
+        task.outputs.as_slice(),
+        working.request.outputs.as_slice(),
+        reply.removes.as_slice(),
+        reply.writes.as_slice(),
+    )?;
+    working.digests.follow(steps.as_slice())?;
+    go_back(working);
+    Ok(Part { steps, lines })
+}
+
+/// The part of one action: the one that writes is asked by changes, any other in full.
+fn part_of<A: Actions>(
+    alloc: Global,
+    task: &TaskDeclaration,
+    table: &ActionTable<A::Stored>,
+    action: &Action,
+    working: &mut Working,
+) -> Result<Part, Fault>
+    requires ready { IsReadyAction A.meanings table.now task.now action.now }
+    requires named { map (λ tree. tree.0) working.old.request.files ≡ seen_files task.now.files }
+    requires full { IsFullLike task.now working.old.request working.old.request }
+    requires formed { map (λ output. (output.name, output.form)) working.old.seen
+        ≡ seen_outputs task.now.outputs }
+    requires able { CanGoOn A.meanings table.now action.now }
+    ensures full { OnOk result (IsFullLike task.now working.old.request working.new.request) }
+    ensures seen { OnOk result (working.new.seen ≡ working.old.seen) }
+    ensures ok { IfOk result (λ part. (kinds : Kinds) → Agrees A.meanings table.now kinds
+        → IsPart (increment_of kinds task.now working.old.request.files working.old.request.changes.lists
+        working.old.seen) action.now (part_held part)) }
+    ensures kept { OnOk result ((kinds : Kinds) → Agrees A.meanings table.now kinds
+        → IsFitting kinds task.now action.now → kinds.writes (kind_of action.now) ≡ false
+        → (made_by kinds task.now action.now working.old.request.files ≡ Ok [])
+        × (working.new.digests ≡ working.old.digests)) }
+    ensures makes { OnOk result ((kinds : Kinds) → Agrees A.meanings table.now kinds
+        → (standing : Files) → IsTrue (is_sorted byte_order standing) → IsTrue (are_placed standing)
+        → IsItsTurn kinds task.now action.now working.old.request.files working.old.request.changes.lists
+        working.old.seen standing → working.old.digests ≡ digests_of (output_files task.now standing)
+        → Makes kinds task.now action.now working.old.request.files working.new.digests) }
+    ensures places { IfOk result (AreStepsAt (is_output_of task.now)) }
+    ensures err { IfErr result (λ fault. (fault ≡ Fault.OutOfMemory)
+        ⊎ ((kinds : Kinds) → Agrees A.meanings table.now kinds
+        → FailsWith (increment_of kinds task.now working.old.request.files
+        working.old.request.changes.lists working.old.seen) action.now fault)) }
+    ensures blames { IfErr result (λ fault. (place : List ℕ) → fault ≢ Fault.Device place) }
+{
+    if is_writer::<A>(table, action) {
+        part_of_writer::<A>(alloc, task, table, action, working)
+    } else {
+        part_of_reader::<A>(alloc, task, table, action, &mut working.request)
+    }
+}
+
+/// Works out a run by changes, over outputs that were seen with these files and digests. An error is want of
+/// memory alone.
+pub fn work_by_changes<A: Actions>(
+    alloc: Global,
+    task: &TaskDeclaration,
+    table: &ActionTable<A::Stored>,
+    files: Snapshots,
+    outputs: OutputSnapshots,
+    stood: Vec<Prints>,
+    changes: ChangeLists,
+) -> Result<Work, AllocError>
+    requires ready { IsReady A.meanings table.now task.now }
+    requires able { AllByRecursion (CanGoOn A.meanings table.now) task.now.actions }
+    requires named { map (λ tree. tree.0) files ≡ seen_files task.now.files }
+    requires formed { map (λ output. (output.name, output.form)) outputs ≡ seen_outputs task.now.outputs }
+    requires prints { stood.items ≡ map (λ output. (output.name, digests_of output.files)) outputs }
+    ensures work { IfOk result (λ work. (kinds : Kinds) → Agrees A.meanings table.now kinds
+        → IsWorkByChanges (increment_of kinds task.now files changes outputs) (work_held work)) }
+    ensures named { IfOk result (λ work. IfOk work.made (λ made.
+        map (λ prints. prints.0) made.items ≡ map (λ output. output.name) task.now.outputs)) }
+    ensures made { IfOk result (λ work. IfOk work.made (λ made. (kinds : Kinds)
+        → Agrees A.meanings table.now kinds → (old : Trees) (standing : Files)
+        → IsTrue (is_sorted byte_order standing) → IsTrue (are_placed standing)
+        → GoesOn kinds task.now old files changes outputs standing → (held : Files)
+        × (made_of kinds task.now.actions task.now.values files task.now.outputs ≡ Ok held)
+        × (made.items ≡ prints_at task.now.outputs held))) }
+    ensures places { IfOk result (λ work.
+        AllByRecursion (AreStepsAt (is_output_of task.now)) work.parts.items) }
+    ensures blames { IfOk result (λ work. IfErr work.made
+        (λ fault. (place : List ℕ) → fault ≢ Fault.Device place)) }
+{
+    let digests = digests_stood(alloc, task.outputs.as_slice(), stood.as_slice())?;
+    drop(stood);
+    let mut working = Working {
+        request: full_request(alloc, task, files, changes)?,
+        seen: outputs,
+        digests,
+    };
+    let mut parts = Vec::new(alloc);
+    for action in task.actions.iter() {
+        match part_of::<A>(alloc, task, table, action, &mut working) {
+            Ok(part) => parts.push(part)?,
+            Err(fault) => {
+                drop(working);
+                return stopped(parts, fault);
+            }
+        }
+    }
+    let made = working.digests.prints(alloc, task.outputs.as_slice());
+    drop(working);
+    Ok(Work {
+        parts,
+        made: Ok(made?),
+    })
+}
