@@ -84,8 +84,8 @@ abbrev pub ending : {X : Type 0} → Result X Fault → Ending
 ending (Ok made) = Ok tt
 ending (Err fault) = Err fault
 
--- The actions ran in full by these calls: memory ran out before the first of them, or what the actions come to
--- was done, and it ends with its own fault where it has one.
+-- The actions ran in full by these calls: memory ran out before the first of them, or what the actions come
+-- to was done, and it ends with its own fault where it has one.
 abbrev pub RunsInFull : Course → List Call → List Text → Ending → Type 0
 RunsInFull course calls lines result =
     let work = work_of course [] course.task.actions in

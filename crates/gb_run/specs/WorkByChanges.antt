@@ -82,8 +82,8 @@ pub record IsWorkByChanges (run : Increment) (work : Work) : Type 0 where
   pub parts : AllZip (IsPart run) done work.parts
   pub ends : EndsSo run left work.fault
 
--- The actions ran by changes by these calls: memory ran out before the first of them, or what the actions come
--- to was done, and it ends with its own fault where it has one.
+-- The actions ran by changes by these calls: memory ran out before the first of them, or what the actions
+-- come to was done, and it ends with its own fault where it has one.
 abbrev pub RunsByChanges : Increment → List Call → List Text → Ending → Type 0
 RunsByChanges run calls lines result =
     ((calls ≡ []) × (lines ≡ []) × (result ≡ Err faults.OutOfMemory))

@@ -38,11 +38,11 @@ use gb_report::fault::Fault;
 use gb_tree::prints::Prints;
 use std::alloc::Global;
 
-/// Runs the actions of a task over the files at its outputs: the one that writes by changes, the others in full
-/// with the same change lists. All is worked out before anything is changed. What is left is what a run in full
-/// leaves, and no place is touched whose file is right. Returns the digests of what the actions make: those of
-/// the files before, with the reply put over them. After an error the lines are those of the actions that had
-/// ended.
+/// Runs the actions of a task over the files at its outputs: the one that writes by changes, the others in
+/// full with the same change lists. All is worked out before anything is changed. What is left is what a run
+/// in full leaves, and no place is touched whose file is right. Returns the digests of what the actions make:
+/// those of the files before, with the reply put over them. After an error the lines are those of the actions
+/// that had ended.
 pub fn run_by_changes<A: Actions, F: Folder>(
     alloc: Global,
     folder: &mut F,
@@ -88,8 +88,9 @@ pub fn run_by_changes<A: Actions, F: Folder>(
         (ByChanges (F.contents folder.old).files) (F.may_leave folder.old) (F.failures folder.old) fault
         lines.new (F.failures folder.new) (F.contents folder.new).files) }
 {
-    let Work { parts, made } =
-        work_by_changes::<A>(alloc, task, table, files, outputs, stood, changes)?;
+    let Work { parts, made } = work_by_changes::<A>(
+        alloc, task, table, files, outputs, stood, changes,
+    )?;
     let done = do_parts(alloc, folder, parts.as_slice(), lines);
     drop(parts);
     ended(done, made)

@@ -29,9 +29,9 @@ use gb_tree::prints::Prints;
 use std::alloc::Global;
 
 /// Runs the actions of a task, each asked in full, over a folder without its files: works out what they make,
-/// before anything is changed, and then writes it, action by action. The lines of an action follow those of the
-/// others once its files are written. Returns the digests of what the actions made, whatever has become of it
-/// in the folder since.
+/// before anything is changed, and then writes it, action by action. The lines of an action follow those of
+/// the others once its files are written. Returns the digests of what the actions made, whatever has become of
+/// it in the folder since.
 pub fn run_in_full<A: Actions, F: Folder>(
     alloc: Global,
     folder: &mut F,
@@ -73,7 +73,10 @@ pub fn run_in_full<A: Actions, F: Folder>(
 }
 
 /// How a run ends: as its work was done, or with the work's own fault.
-pub fn ended(done: Result<(), Fault>, made: Result<Vec<Prints>, Fault>) -> Result<Vec<Prints>, Fault>
+pub fn ended(
+    done: Result<(), Fault>,
+    made: Result<Vec<Prints>, Fault>,
+) -> Result<Vec<Prints>, Fault>
     ensures { result ≡ or_made done made }
 {
     match done {

@@ -1,6 +1,6 @@
 //! What a run in full comes to, worked out before anything is changed. Nothing here knows a folder.
-ghost use Rattle.std.specs.Prelude.{◌≡◌, ◌≢◌, ◌⊎◌, ◌++◌, ℕ, List, [], Ok, Err, Some, IsTrue, IfOk, IfErr, OnOk};
-ghost use Rattle.std.specs.Prelude.{map};
+ghost use Rattle.std.specs.Prelude.{◌≡◌, ◌≢◌, ◌⊎◌, ◌++◌, ℕ, List, [], Ok, Err, Some, IsTrue, IfOk, IfErr};
+ghost use Rattle.std.specs.Prelude.{OnOk, map};
 ghost use Rattle.std.specs.List.{AllByRecursion};
 ghost use Rattle.gb_core.specs.Lists.{first_of};
 ghost use Rattle.gb_folder.specs.Files.{Files, are_placed};

@@ -1,6 +1,6 @@
 //! What a run by changes comes to, worked out before anything is changed. Nothing here knows a folder.
-ghost use Rattle.std.specs.Prelude.{◌≡◌, ◌≢◌, ◌⊎◌, ◌++◌, ℕ, List, [], Ok, Err, Some, IsTrue, IfOk, IfErr, OnOk};
-ghost use Rattle.std.specs.Prelude.{map, true, false};
+ghost use Rattle.std.specs.Prelude.{◌≡◌, ◌≢◌, ◌⊎◌, ◌++◌, ℕ, List, [], Ok, Err, Some, IsTrue, IfOk, IfErr};
+ghost use Rattle.std.specs.Prelude.{OnOk, map, true, false};
 ghost use Rattle.std.specs.FinMap.Entries.{is_sorted};
 ghost use Rattle.std.specs.List.{AllByRecursion};
 ghost use Rattle.gb_core.specs.Lists.{byte_order};

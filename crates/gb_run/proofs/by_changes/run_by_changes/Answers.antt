@@ -98,13 +98,16 @@ returns-clause-made g c =
 pub returns-clause-calls : goal.returns-clause-calls
 returns-clause-calls g c =
     let F = g.F.Folder in
-    let led = c.do_parts-done.ensures in
-    (led.0, led.2, λ kinds agrees.
-    let run = increment_of kinds c.args.task.now c.args.files c.args.changes c.args.outputs in
-    let Made : Type 0 = Vec (List ℕ × List (List ℕ × List ℕ)) Global in
-    subst (λ (r : Result Made Fault). RunsByChanges run led.0 c.do_parts-done.new.lines (ending r)) (sym c.ended.ensures)
-    (runs_by run led.0 c.in_ok-parts.field-0.parts.items c.as_slice.result.now c.in_ok-parts.field-0.made c.args.lines.now led.1 c.do_parts-done.new.lines c.do_parts-done.result
-    c.as_slice.ensures.value (c.in_ok-parts.ensures.work kinds agrees) led.3 c.requires.no_lines led.4))
+    let led = c.do_parts-done.ensures in (
+      led.0,
+      led.2,
+      λ kinds agrees.
+          let run = increment_of kinds c.args.task.now c.args.files c.args.changes c.args.outputs in
+          let Made : Type 0 = Vec (List ℕ × List (List ℕ × List ℕ)) Global in
+          subst (λ (r : Result Made Fault). RunsByChanges run led.0 c.do_parts-done.new.lines (ending r)) (sym c.ended.ensures)
+          (runs_by run led.0 c.in_ok-parts.field-0.parts.items c.as_slice.result.now c.in_ok-parts.field-0.made c.args.lines.now led.1 c.do_parts-done.new.lines c.do_parts-done.result
+          c.as_slice.ensures.value (c.in_ok-parts.ensures.work kinds agrees) led.3 c.requires.no_lines led.4),
+    )
 
 pub returns-clause-asks : goal.returns-clause-asks
 unfolding changes_at

@@ -51,12 +51,14 @@ together P R T Q (Err fault) steps made printed so = tt
 pub returns-else-is_writer-clause-ok : goal.returns-else-is_writer-clause-ok
 returns-else-is_writer-clause-ok g c =
     let ready = c.requires.ready in
-    together _ _ _ _ c.part_of_reader.result c.part_of_reader.ensures.steps c.part_of_reader.ensures.made c.part_of_reader.ensures.printed (λ part steps made printed. λ kinds agrees.
-    (inl (record {
-      quiet = found_writes g.A.Actions.meanings kinds c.args.table.now c.args.task.now c.args.action.now ready c.is_writer.result agrees (c.is_writer.ensures ready.stored ready.found) ∙ c.if-is_writer.false;
-      made = λ fits. made kinds agrees fits (found_writes g.A.Actions.meanings kinds c.args.table.now c.args.task.now c.args.action.now ready c.is_writer.result agrees (c.is_writer.ensures ready.stored ready.found) ∙ c.if-is_writer.false);
-      steps = steps;
-    }), printed kinds agrees))
+    together _ _ _ _ c.part_of_reader.result c.part_of_reader.ensures.steps c.part_of_reader.ensures.made c.part_of_reader.ensures.printed (λ part steps made printed. λ kinds agrees. (
+      inl (record {
+        quiet = found_writes g.A.Actions.meanings kinds c.args.table.now c.args.task.now c.args.action.now ready c.is_writer.result agrees (c.is_writer.ensures ready.stored ready.found) ∙ c.if-is_writer.false;
+        made = λ fits. made kinds agrees fits (found_writes g.A.Actions.meanings kinds c.args.table.now c.args.task.now c.args.action.now ready c.is_writer.result agrees (c.is_writer.ensures ready.stored ready.found) ∙ c.if-is_writer.false);
+        steps = steps;
+      }),
+      printed kinds agrees,
+    ))
 
 pub returns-else-is_writer-clause-err : goal.returns-else-is_writer-clause-err
 returns-else-is_writer-clause-err g c =

@@ -73,9 +73,10 @@ returns-clause-ok g c = λ kinds agrees writes.
     let reply = c.in_ok-reply.reply in
     let held = same_held c.as_slice.result.now task.outputs c.as_slice-2.result.now seen c.as_slice-3.result.now reply.removes c.as_slice-4.result.now reply.writes
     c.as_slice.ensures (c.as_slice-2.ensures ∙ ap (λ (r : Request). r.outputs) c.in_ok-reply.ensures.request) c.as_slice-3.ensures c.as_slice-4.ensures in
-    let steps = same_steps c.as_slice.result.now task.outputs c.as_slice-3.result.now reply.removes c.as_slice-4.result.now reply.writes c.as_slice.ensures c.as_slice-3.ensures c.as_slice-4.ensures in
-    (inr (record { writes = writes; reply = reply; answers = c.in_ok-reply.ensures.answered kinds agrees; free = sym held ∙ c.in_ok-steps.ensures.ok; steps = c.in_ok-steps.ensures.steps ∙ steps }),
-    (c.in_ok-reply.ensures.answered kinds agrees).prints_lines reply refl)
+    let steps = same_steps c.as_slice.result.now task.outputs c.as_slice-3.result.now reply.removes c.as_slice-4.result.now reply.writes c.as_slice.ensures c.as_slice-3.ensures c.as_slice-4.ensures in (
+      inr (record { writes = writes; reply = reply; answers = c.in_ok-reply.ensures.answered kinds agrees; free = sym held ∙ c.in_ok-steps.ensures.ok; steps = c.in_ok-steps.ensures.steps ∙ steps }),
+      (c.in_ok-reply.ensures.answered kinds agrees).prints_lines reply refl,
+    )
 
 pub returns-clause-makes : goal.returns-clause-makes
 returns-clause-makes g c = λ kinds agrees standing sorted good turn is.
