@@ -50,13 +50,13 @@ is_indented (Words text) = false
 -- words go on with a quote whose last line is open to them
 abbrev pub is_quoted : Bool → Said → Bool
 is_quoted more (Quote text) = true
-is_quoted more Nothing = more && is_words Nothing
-is_quoted more (Code fence language) = more && is_words (Code fence language)
-is_quoted more (Heading element text) = more && is_words (Heading element text)
-is_quoted more Rule = more && is_words Rule
-is_quoted more (Item marker first text) = more && is_words (Item marker first text)
-is_quoted more (Indented text) = more && is_words (Indented text)
-is_quoted more (Words text) = more && is_words (Words text)
+is_quoted more (Words text) = more
+is_quoted more (Indented text) = more
+is_quoted more Nothing = false
+is_quoted more (Code fence language) = false
+is_quoted more (Heading element text) = false
+is_quoted more Rule = false
+is_quoted more (Item marker first text) = false
 
 -- an empty line goes on with a list, words behind a line that is not empty, and an item with the same sign
 abbrev pub is_listed : OpenList → Said → Bool

@@ -153,13 +153,12 @@ fn is_quoted(more: bool, says: Line<'_>) -> bool
 {
     match says {
         Line::Quote(_) => true,
+        Line::Words(_) | Line::Indented(_) => more,
         Line::Nothing
         | Line::Fence(_, _)
         | Line::Heading(_, _)
         | Line::Rule
-        | Line::Item(_, _, _)
-        | Line::Indented(_)
-        | Line::Words(_) => more && is_words(says),
+        | Line::Item(_, _, _) => false,
     }
 }
 
