@@ -1,3 +1,1 @@
-pub mod Safety
-pub mod Signs
 pub mod Texts

@@ -12,9 +12,9 @@ use Rattle.gb_action.specs.Files.{Tree, Trees, tree_at}
 use Rattle.gb_action.specs.Shapes.{source}
 use Rattle.gb_kinds.specs.Builtin.{first_text}
 use Rattle.gb_with.specs.Renamed.{onto}
-use Rattle.gb_pages.specs.Addresses.{address_of}
-use Rattle.gb_pages.specs.Pieces.{Piece, Open, Close, Link, Text, written}
-use Rattle.gb_pages.specs.declared.page.Element.TheVariants as elements
+use Rattle.gb_markdown.specs.Addresses.{address_of}
+use Rattle.gb_markdown.specs.Pieces.{Piece, Open, Close, Link, Text, written}
+use Rattle.gb_markdown.specs.declared.page.Element.TheVariants as elements
 
 -- the path that these bytes are, if they are one
 abbrev pub as_path : List ℕ → Option (List ℕ)
@@ -94,7 +94,7 @@ templated arguments trees =
 -- the link to an address, under a name
 abbrev pub linked : List ℕ → List ℕ → List Piece
 linked address name =
-    Open elements.Item ∷ Link address ∷ Text name ∷ Close elements.Anchor ∷ Close elements.Item
+    Open elements.Item ∷ Link address [] ∷ Text name ∷ Close elements.Anchor ∷ Close elements.Item
     ∷ Text (10 ∷ []) ∷ []
 
 -- the link to the page at a path

@@ -23,16 +23,16 @@ pub type Pages = Both<ByFile<Markdown>, Both<OfTrees<Renamed<Markdown>>, AtOnce>
 
 /// The table of all kinds of pages, each in its version.
 pub fn page_actions(alloc: Global) -> Result<ActionTable<<Pages as Actions>::Stored>, TableFault>
-    ensures { IfOk result (λ table. table ≡ (codes "markdown", First 2)
-        ∷ (codes "htmlPages", Second (First 2))
+    ensures { IfOk result (λ table. table ≡ (codes "markdown", First 3)
+        ∷ (codes "htmlPages", Second (First 3))
         ∷ (codes "template", Second (Second (First 1)))
         ∷ (codes "index", Second (Second (Second (First 2))))
         ∷ (codes "checkPages", Second (Second (Second (Second 1)))) ∷ []) }
 {
     let others = at_once(alloc)?;
-    let pages = only::<OfTrees<Renamed<Markdown>>>(alloc, "htmlPages", 2)?;
+    let pages = only::<OfTrees<Renamed<Markdown>>>(alloc, "htmlPages", 3)?;
     let others = beside(alloc, pages, others)?;
-    let markdown = only::<ByFile<Markdown>>(alloc, "markdown", 2)?;
+    let markdown = only::<ByFile<Markdown>>(alloc, "markdown", 3)?;
     beside(alloc, markdown, others)
 }
 

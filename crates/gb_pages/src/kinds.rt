@@ -1,12 +1,12 @@
 //! The kinds of actions that make pages.
 
-use crate::markdown::html;
 use crate::paths::{front, page_path};
 use gb_action::shape::ArgList;
 use gb_action::values::Arguments;
 use gb_core::bytes::Bytes;
 use gb_core::place::RelPath;
 use gb_kinds::edit::FileMaker;
+use gb_markdown::blocks::html;
 use gb_with::file_kind::{FileKind, Renaming};
 use std::alloc::{AllocError, Global};
 
@@ -16,7 +16,7 @@ use std::alloc::{AllocError, Global};
 pub struct Markdown;
 
 impl FileMaker for Markdown {
-    ghost use Rattle.gb_pages.specs.Markdown.{html as page_of};
+    ghost use Rattle.gb_markdown.specs.Blocks.{html as page_of};
 
     ghost edited = { λ maker. page_of };
 
@@ -27,7 +27,7 @@ impl FileMaker for Markdown {
 
 impl FileKind for Markdown {
     ghost use Rattle.std.specs.Prelude.{[]};
-    ghost use Rattle.gb_pages.specs.Markdown.{html as page_of};
+    ghost use Rattle.gb_markdown.specs.Blocks.{html as page_of};
 
     ghost takes = { [] };
 

@@ -1,19 +1,9 @@
-//! Pages of a site, of text in a small part of Markdown.
-//!
-//! A page is read line by line: `# `, `## ` and `### ` begin a heading, `- ` an item of a list, three
-//! backquotes alone begin and end a block of code, an empty line ends a block, and other lines are a
-//! paragraph. In all of these but a block of code, a backquote begins and ends code, `[label](address)` is a
-//! link, and `*` begins and ends emphasis. Any bytes are a page; what they are in is up to who reads them.
+//! Kinds of actions that make pages of a site, of texts in Markdown.
 #![tactic(auto)]
 
 pub mod actions;
-mod address;
 mod checked;
-mod inline;
 pub mod kinds;
-pub mod laws;
 mod listing;
-mod markdown;
-mod page;
 mod paths;
 mod template;

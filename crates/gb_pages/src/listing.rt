@@ -3,10 +3,8 @@ ghost use Rattle.std.specs.Prelude.{◌≡◌, ◌++◌, OnOk, IfOk};
 ghost use Rattle.std.specs.Option.{option_copied};
 ghost use Rattle.gb_pages.specs.Paths.{begun, ended_list, entry, entries, index_page, linked, page_path};
 ghost use Rattle.gb_pages.specs.Paths.{stem};
-ghost use Rattle.gb_pages.specs.Pieces.{written};
+ghost use Rattle.gb_markdown.specs.Pieces.{written};
 
-use crate::address::address_of;
-use crate::page::{Element, close, link, open, text};
 use crate::paths::{page_path, stem};
 use gb_action::reply::ActionFault;
 use gb_action::shape::{Arg, ArgList};
@@ -16,6 +14,8 @@ use gb_core::bytes::Bytes;
 use gb_core::place::RelPath;
 use gb_kinds::arguments::first_text;
 use gb_kinds::names::{rel_path, source_name};
+use gb_markdown::address::address_of;
+use gb_markdown::page::{Element, close, link, open, text};
 use gb_with::tree_kind::{TreeKind, files_of};
 use std::alloc::{AllocError, Global};
 
@@ -115,7 +115,7 @@ fn linked(page: &mut Vec<u8>, address: &[u8], name: &[u8]) -> Result<(), AllocEr
     ensures { OnOk result (page.new.items ≡ page.old.items ++ written (linked address.now name.now)) }
 {
     open(page, Element::Item)?;
-    link(page, address)?;
+    link(page, address, b"")?;
     text(page, name)?;
     close(page, Element::Anchor)?;
     close(page, Element::Item)?;

@@ -47,7 +47,7 @@ const LINKS: &[u8] = b"[a](javascript:1)
 
 const LINKED: &str = "<p><a>a</a>
 <a>b</a>
-<a>c</a>
+[c](java\tscript:1)
 <a>d</a>
 <a>e</a>
 <a>f</a>

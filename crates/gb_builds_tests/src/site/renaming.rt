@@ -76,7 +76,7 @@ fn are_renamed_in<A: Actions, T: Transforms>(
         "build/p",
         "build/p/a.html\nbuild/p/d/b.html\n",
     )?;
-    stands(alloc, folder, "build/p/a.html", "<h1>A</h1>\n")?;
+    stands(alloc, folder, "build/p/a.html", "<h1 id=\"a\">A</h1>\n")?;
     go_on(alloc, folder, tables, &MET)?;
     go_on(alloc, folder, tables, &OTHERS)?;
     stand(alloc, folder, "build/p", "build/p/d/b.html\n")

@@ -98,7 +98,7 @@ fn is_first<A: Actions, T: Transforms>(
         alloc,
         folder,
         "build/site/a.html",
-        "<body><h1>A</h1>\n<p>1 &lt; 2</p>\n</body>\n",
+        "<body><h1 id=\"a\">A</h1>\n<p>1 &lt; 2</p>\n</body>\n",
     )?;
     stands(
         alloc,
@@ -119,7 +119,7 @@ fn follows<A: Actions, T: Transforms>(
         alloc,
         folder,
         "build/site/b.html",
-        "<body><h1>B</h1>\n<p><em>new</em></p>\n</body>\n",
+        "<body><h1 id=\"b\">B</h1>\n<p><em>new</em></p>\n</body>\n",
     )?;
     go_on(alloc, folder, tables, &REMOVAL)?;
     stand(

@@ -1,7 +1,7 @@
 use Rattle.std.proofs.Common.{◌++◌, ap, sym, ◌∙◌, append_assoc}
 use Rattle.std.proofs.lemmas.Grind.{flat_map-append}
 use Rattle.gb_pages.specs.Paths.{begun, ended_list, entries}
-use Rattle.gb_pages.specs.Pieces.{piece_text, written}
+use Rattle.gb_markdown.specs.Pieces.{piece_text, written}
 use Rattle.gb_pages.proofs.listing.index_page.Goals as goal
 
 pub returns : goal.returns

@@ -1,0 +1,49 @@
+-- Addresses of links.
+use Rattle.std.specs.Prelude.{ℕ, ◌==◌, nat_le, Bool, true, false, not, ◌&&◌, ◌||◌, List, [], ◌∷◌, codes}
+use Rattle.std.specs.Prelude.{if◌then◌else◌}
+use Rattle.std.specs.List.{flat_map}
+use Rattle.std.specs.Char.{eq_ignore_ascii_case, is_ascii_alphanumeric}
+use Rattle.percent_encoding.specs.Percent.{percent_encode_byte}
+
+-- ---- Which addresses a link may have
+
+-- neither a control character nor white space
+abbrev pub is_visible_byte : ℕ → Bool
+is_visible_byte b = not (nat_le b 32 || b == 127)
+
+abbrev pub is_visible : List ℕ → Bool
+is_visible [] = true
+is_visible (b ∷ others) = is_visible_byte b && is_visible others
+
+-- a `:` comes before each `/`, `?` and `#`
+abbrev pub has_scheme : List ℕ → Bool
+has_scheme [] = false
+has_scheme (b ∷ others) =
+    if b == 58 then true else if b == 47 || b == 63 || b == 35 then false else has_scheme others
+
+-- the address begins with these letters, in either case
+abbrev pub begins : List ℕ → List ℕ → Bool
+begins [] address = true
+begins (c ∷ scheme) [] = false
+begins (c ∷ scheme) (b ∷ others) = eq_ignore_ascii_case b c && begins scheme others
+
+abbrev pub has_safe_scheme : List ℕ → Bool
+has_safe_scheme address =
+    not (has_scheme address) || begins (codes "http:") address || begins (codes "https:") address
+    || begins (codes "mailto:") address
+
+abbrev pub is_safe : List ℕ → Bool
+is_safe address = is_visible address && has_safe_scheme address
+
+-- ---- The address of a file
+
+-- a letter, a digit, or one of `-._~/`
+abbrev pub is_plain : ℕ → Bool
+is_plain b = is_ascii_alphanumeric b || b == 45 || b == 46 || b == 95 || b == 126 || b == 47
+
+-- another byte is written as `%XX`
+abbrev pub encoded_byte : ℕ → List ℕ
+encoded_byte b = if is_plain b then b ∷ [] else percent_encode_byte b
+
+abbrev pub address_of : List ℕ → List ℕ
+address_of path = flat_map encoded_byte path

@@ -1,0 +1,296 @@
+-- What a text comes to within a block.
+use Rattle.std.specs.Prelude.{ℕ, zero, suc, ◌+◌, ◌-◌, ◌==◌, nat_le, nat_lt, Bool, true, false, not, ◌&&◌}
+use Rattle.std.specs.Prelude.{◌||◌}
+use Rattle.std.specs.Prelude.{List, [], ◌∷◌, ◌++◌, if◌then◌else◌, length, take, drop, slice_index}
+use Rattle.std.specs.Prelude.{Option, None, Some}
+use Rattle.std.specs.List.{prefix_len}
+use Rattle.std.specs.Char.{is_ascii_punctuation}
+use Rattle.gb_markdown.specs.Runs.{run, is_space, is_blank}
+use Rattle.gb_markdown.specs.Targets.{target, unescaped}
+use Rattle.gb_markdown.specs.Pieces.{Piece, Open, Close, Link, Picture, Text}
+use Rattle.gb_markdown.specs.declared.page.Element.{Element}
+use Rattle.gb_markdown.specs.declared.page.Element.TheVariants as elements
+use Rattle.gb_markdown.specs.declared.inline.Token.{Token}
+use Rattle.gb_markdown.specs.declared.inline.Token.TheVariants as tokens
+use Rattle.gb_markdown.specs.declared.inline.Nested.{Nested}
+use Rattle.gb_markdown.specs.declared.inline.Nested.TheVariants as nested
+use Rattle.gb_markdown.specs.declared.inline.Side.{Side}
+use Rattle.gb_markdown.specs.declared.inline.Side.TheVariants as sides
+
+-- what is at the begin of a text: words; the end of a line; code; words that are stressed; a link with a
+-- label, an address and a title; or a picture with these
+pub data Meant : Type 0 where
+  Words : List ℕ → Meant
+  Break : Meant
+  Code : List ℕ → Meant
+  Stressed : Element → List ℕ → Meant
+  Linked : List ℕ → List ℕ → List ℕ → Meant
+  Pictured : List ℕ → List ℕ → List ℕ → Meant
+
+abbrev pub meant_by : Token → Meant
+meant_by (tokens.Words text) = Words text.now
+meant_by tokens.Break = Break
+meant_by (tokens.Code text) = Code text.now
+meant_by (tokens.Stressed element text) = Stressed element text.now
+meant_by (tokens.Linked label target) = Linked label.now target.address.now target.title.now
+meant_by (tokens.Pictured label target) = Pictured label.now target.address.now target.title.now
+
+-- ---- Bytes
+
+abbrev pub first_is : ℕ → List ℕ → Bool
+first_is sign [] = false
+first_is sign (b ∷ rest) = b == sign
+
+-- the byte behind so many, or the end of a line
+abbrev pub byte_behind : List ℕ → ℕ
+byte_behind [] = 10
+byte_behind (b ∷ rest) = b
+
+-- so many bytes, as they are; each token is told with how many bytes behind its first belong to it
+abbrev pub plain : ℕ → List ℕ → Meant × ℕ
+plain length line = (Words (take length line), length - 1)
+
+-- ---- Backslashes and spaces
+
+-- a backslash makes a sign of ASCII mean itself, and breaks a line
+abbrev pub escaped_in : List ℕ → Meant × ℕ
+escaped_in [] = (Words (92 ∷ []), 0)
+escaped_in (b ∷ rest) =
+    if b == 10 then (Break, 1) else if is_ascii_punctuation b then (Words (b ∷ []), 1)
+    else (Words (92 ∷ []), 0)
+
+-- two spaces or more before the end of a line break it
+abbrev pub spaced : List ℕ → Meant × ℕ
+spaced line =
+    if first_is 10 (drop (run 32 line) line)
+    then if run 32 line == 1 then (Words (10 ∷ []), 1) else (Break, run 32 line)
+    else plain (run 32 line) line
+
+-- ---- Code
+
+-- where the first run of so many backquotes begins, if so many of them were seen just before
+abbrev pub code_end : ℕ → ℕ → ℕ → List ℕ → Option ℕ
+code_end length seen at [] = if seen == length then Some (at - seen) else None
+code_end length seen at (b ∷ rest) =
+    if b == 96 then code_end length (seen + 1) (at + 1) rest
+    else if seen == length then Some (at - seen) else code_end length 0 (at + 1) rest
+
+-- a space or the end of a line on both sides is left out, unless there is nothing else
+abbrev pub is_edge : ℕ → Bool
+is_edge b = b == 32 || b == 10
+
+abbrev pub stripped : List ℕ → List ℕ
+stripped code =
+    if nat_le 2 (length code) && (is_edge (slice_index code 0)
+    && (is_edge (slice_index code (length code - 1)) && not (is_blank code)))
+    then take (length code - 2) (drop 1 code) else code
+
+abbrev pub code_of : ℕ → List ℕ → Option ℕ → Meant × ℕ
+code_of length line None = plain length line
+code_of length line (Some end) =
+    (Code (stripped (take end (drop length line))), length + end + length - 1)
+
+-- one to eight backquotes begin code, which as many end
+abbrev pub coded : List ℕ → Meant × ℕ
+coded line =
+    let length = run 96 line in
+    if length == 0 || nat_lt 8 length then plain length line
+    else code_of length line (code_end length 0 0 (drop length line))
+
+-- how many bytes behind the first hide other signs: the one behind a backslash, or code
+abbrev pub hidden : List ℕ → ℕ
+hidden [] = 0
+hidden (b ∷ rest) = if b == 92 then 1 else if b == 96 then (coded (b ∷ rest)).1 else 0
+
+-- ---- Links and pictures
+
+-- a label ends at the first `]` that ends no brackets in it; it may have brackets in it, of words and of
+-- pictures, but no links, and no brackets in these
+abbrev pub is_nothing : Nested → Bool
+is_nothing nested.Nothing = true
+is_nothing nested.Words = false
+is_nothing nested.Picture = false
+
+abbrev pub is_words : Nested → Bool
+is_words nested.Nothing = false
+is_words nested.Words = true
+is_words nested.Picture = false
+
+abbrev pub ends_label : Nested → ℕ → Bool
+ends_label inside b = b == 93 && is_nothing inside
+
+abbrev pub is_no_label : Nested → ℕ → List ℕ → Bool
+is_no_label inside b rest =
+    (b == 91 && not (is_nothing inside)) || (b == 93 && (is_words inside && first_is 40 rest))
+
+abbrev pub brackets : Nested → ℕ → ℕ → Nested
+brackets inside before b =
+    if b == 91 then if before == 33 then nested.Picture else nested.Words
+    else if b == 93 then nested.Nothing else inside
+
+abbrev pub label_end : Nested → ℕ → ℕ → ℕ → List ℕ → Option ℕ
+label_end inside skip before at [] = None
+label_end inside skip before at (b ∷ rest) =
+    if not (skip == 0) then label_end inside (skip - 1) b (at + 1) rest
+    else if ends_label inside b then Some at
+    else if is_no_label inside b rest then None
+    else label_end (brackets inside before b) (hidden (b ∷ rest)) b (at + 1) rest
+
+-- the label, the address and the title of `label](target)`, and what is behind it
+abbrev pub aimed_at : List ℕ → Option (List ℕ × List ℕ × List ℕ) → Option (List ℕ × List ℕ × List ℕ × List ℕ)
+aimed_at label None = None
+aimed_at label (Some target) = Some (label, target.0, target.1, target.2)
+
+abbrev pub behind_label : List ℕ → List ℕ → Option (List ℕ × List ℕ × List ℕ × List ℕ)
+behind_label label [] = None
+behind_label label (b ∷ rest) = if b == 40 then aimed_at label (target rest) else None
+
+abbrev pub labelled : List ℕ → Option ℕ → Option (List ℕ × List ℕ × List ℕ × List ℕ)
+labelled rest None = None
+labelled rest (Some end) = behind_label (take end rest) (drop (end + 1) rest)
+
+abbrev pub aimed : List ℕ → Option (List ℕ × List ℕ × List ℕ × List ℕ)
+aimed rest = labelled rest (label_end nested.Nothing 0 91 0 rest)
+
+-- a link behind its bracket, or that itself
+abbrev pub link_of : List ℕ → Option (List ℕ × List ℕ × List ℕ × List ℕ) → Meant × ℕ
+link_of rest None = (Words (91 ∷ []), 0)
+link_of rest (Some link) = (Linked link.0 link.1 link.2, length rest - length link.3)
+
+abbrev pub linked : List ℕ → Meant × ℕ
+linked rest = link_of rest (aimed rest)
+
+-- a picture behind its `!`, or that itself
+abbrev pub picture_of : List ℕ → Option (List ℕ × List ℕ × List ℕ × List ℕ) → Meant × ℕ
+picture_of rest None = (Words (33 ∷ []), 0)
+picture_of rest (Some picture) = (Pictured picture.0 picture.1 picture.2, length rest - length picture.3)
+
+abbrev pub pictured : List ℕ → Meant × ℕ
+pictured [] = (Words (33 ∷ []), 0)
+pictured (b ∷ rest) = if b == 91 then picture_of (b ∷ rest) (aimed rest) else (Words (33 ∷ []), 0)
+
+-- ---- Stressed words
+
+-- signs between two bytes are at the left side of a word
+abbrev pub is_left : ℕ → ℕ → Bool
+is_left before after =
+    not (is_space after)
+    && (not (is_ascii_punctuation after) || is_space before || is_ascii_punctuation before)
+
+-- they begin stressed words there, and end them at the right side; `_` does so at the side of a word alone
+abbrev pub opens : ℕ → ℕ → ℕ → Bool
+opens sign before after =
+    is_left before after && (sign == 42 || not (is_left after before) || is_ascii_punctuation before)
+
+abbrev pub closes : ℕ → ℕ → ℕ → Bool
+closes sign before after =
+    is_left after before && (sign == 42 || not (is_left before after) || is_ascii_punctuation after)
+
+-- what as many signs, or three, do where the words are that such signs began
+abbrev pub side_at : ℕ → ℕ → ℕ → ℕ → ℕ → Side
+side_at sign wide before length after =
+    if not (length == wide || length == 3) then sides.Neither
+    else if closes sign before after then sides.Right
+    else if opens sign before after then sides.Left else sides.Neither
+
+abbrev pub side_of : ℕ → ℕ → ℕ → List ℕ → Side
+side_of sign wide before line =
+    if first_is sign line
+    then side_at sign wide before (run sign line) (byte_behind (drop (run sign line) line))
+    else sides.Neither
+
+-- stressed words that begin in others end in them, and are in at most two others
+abbrev pub ends_words : Side → ℕ → Bool
+ends_words sides.Left deep = false
+ends_words sides.Right deep = deep == 0
+ends_words sides.Neither deep = false
+
+abbrev pub is_too_deep : Side → ℕ → Bool
+is_too_deep sides.Left deep = deep == 2
+is_too_deep sides.Right deep = false
+is_too_deep sides.Neither deep = false
+
+abbrev pub deeper : Side → ℕ → ℕ
+deeper sides.Left deep = deep + 1
+deeper sides.Right deep = deep - 1
+deeper sides.Neither deep = deep
+
+-- how many bytes behind the first are passed over: those of the same sign, a link, or what hides others
+abbrev pub passed : ℕ → List ℕ → ℕ
+passed sign [] = 0
+passed sign (b ∷ rest) =
+    if b == sign then run sign (b ∷ rest) - 1 else if b == 91 then (linked rest).1 else hidden (b ∷ rest)
+
+-- where the signs begin that end stressed words, and how many they are
+abbrev pub closer : ℕ → ℕ → ℕ → ℕ → ℕ → ℕ → List ℕ → Option (ℕ × ℕ)
+closer sign wide deep skip before at [] = None
+closer sign wide deep skip before at (b ∷ rest) =
+    if not (skip == 0) then closer sign wide deep (skip - 1) b (at + 1) rest
+    else let side = side_of sign wide before (b ∷ rest) in
+    if ends_words side deep then Some (at, run sign (b ∷ rest))
+    else if is_too_deep side deep then None
+    else closer sign wide (deeper side deep) (passed sign (b ∷ rest)) b (at + 1) rest
+
+-- two signs are `strong`; one is `em`, and so is the first of three
+abbrev pub wide_of : ℕ → ℕ
+wide_of length = if length == 2 then 2 else 1
+
+abbrev pub stress_of : ℕ → Element
+stress_of wide = if wide == 2 then elements.Strong else elements.Emphasis
+
+abbrev pub stressed_to : ℕ → List ℕ → Option (ℕ × ℕ) → Meant × ℕ
+stressed_to length line None = plain length line
+stressed_to length line (Some end) =
+    let wide = wide_of length in
+    let behind = length + end.0 + end.1 in
+    (Stressed (stress_of wide) (drop wide (take (behind - wide) line)), behind - 1)
+
+abbrev pub stressed : ℕ → ℕ → List ℕ → Meant × ℕ
+stressed sign before line =
+    let length = run sign line in
+    let rest = drop length line in
+    if length == 0 || nat_lt 3 length || not (opens sign before (byte_behind rest)) then plain length line
+    else stressed_to length line (closer sign (wide_of length) 0 0 sign 0 rest)
+
+-- ---- Texts
+
+-- a byte that begins no other token
+abbrev pub is_plain : ℕ → Bool
+is_plain b =
+    not (b == 92 || b == 96 || b == 42 || b == 95 || b == 91 || b == 33 || b == 32)
+
+-- the token at the begin of a text, behind a byte
+unfoldable pub token : ℕ → List ℕ → Meant × ℕ
+token before [] = (Words [], 0)
+token before (b ∷ rest) =
+    if b == 92 then escaped_in rest
+    else if b == 96 then coded (b ∷ rest)
+    else if b == 42 || b == 95 then stressed b before (b ∷ rest)
+    else if b == 91 then linked rest
+    else if b == 33 then pictured rest
+    else if b == 32 then spaced (b ∷ rest)
+    else plain (prefix_len is_plain (b ∷ rest)) (b ∷ rest)
+
+-- the pieces of a token, by those of the texts in it
+abbrev pub shown : (List ℕ → List Piece) → Meant → List Piece
+shown inner (Words text) = Text text ∷ []
+shown inner Break = Open elements.Break ∷ Text (10 ∷ []) ∷ []
+shown inner (Code text) = Open elements.Code ∷ Text text ∷ Close elements.Code ∷ []
+shown inner (Stressed element text) = Open element ∷ inner text ++ Close element ∷ []
+shown inner (Linked label address title) =
+    Link (unescaped false address) (unescaped false title) ∷ inner label ++ Close elements.Anchor ∷ []
+shown inner (Pictured label address title) =
+    Picture (unescaped false address) label (unescaped false title) ∷ []
+
+-- one token behind the other
+abbrev pub tokens_of : (List ℕ → List Piece) → ℕ → ℕ → List ℕ → List Piece
+tokens_of inner skip before [] = []
+tokens_of inner skip before (b ∷ rest) =
+    if skip == 0
+    then shown inner (token before (b ∷ rest)).0 ++ tokens_of inner (token before (b ∷ rest)).1 b rest
+    else tokens_of inner (skip - 1) b rest
+
+-- a text whose stressed words and labels are so deep in one another, as pieces; deeper is text
+unfoldable pub inline : ℕ → List ℕ → List Piece
+inline zero text = Text text ∷ []
+inline (suc depth) text = tokens_of (inline depth) 0 10 text

@@ -1,0 +1,9 @@
+pub mod Addresses
+pub mod Pieces
+pub mod Runs
+pub mod Lines
+pub mod Targets
+pub mod Inline
+pub mod Tables
+pub mod Blocks
+pub mod Laws

@@ -1,0 +1,84 @@
+-- Tables.
+use Rattle.std.specs.Prelude.{ℕ, ◌+◌, ◌==◌, Bool, false, not, ◌&&◌, ◌||◌, List, [], ◌∷◌, ◌++◌}
+use Rattle.std.specs.Prelude.{if◌then◌else◌, map, take, drop, Option, option_and_then}
+use Rattle.std.specs.List.{flat_map}
+use Rattle.std.specs.Option.{option_map}
+use Rattle.memchr.specs.Find.{first_of, matches}
+use Rattle.bstr.specs.Text.{lines_of, without_terminator}
+use Rattle.gb_markdown.specs.Runs.{is_space, trimmed}
+use Rattle.gb_markdown.specs.Lines.{without_signs, words_of}
+use Rattle.gb_markdown.specs.Targets.{is_hidden}
+use Rattle.gb_markdown.specs.Inline.{inline}
+use Rattle.gb_markdown.specs.Pieces.{Piece, Open, Close, Text}
+use Rattle.gb_markdown.specs.declared.page.Element.{Element}
+use Rattle.gb_markdown.specs.declared.page.Element.TheVariants as elements
+
+abbrev pub line_end : Piece
+line_end = Text (10 ∷ [])
+
+-- how deep stressed words and labels may be in one another
+unfoldable pub words_depth : ℕ
+words_depth = 6
+
+abbrev pub inline_of : List ℕ → List Piece
+inline_of text = inline words_depth text
+
+abbrev pub lines_in : List ℕ → List (List ℕ)
+lines_in text = map without_terminator (lines_of text)
+
+-- ---- Which paragraphs are tables
+
+-- what is before the first end of a line, and behind it
+abbrev pub cut : List ℕ → Option (List ℕ × List ℕ)
+cut text = option_map (λ k. (take k text, drop (k + 1) text)) (first_of (matches text (10 ∷ []) 0))
+
+-- the first line, the second and the others
+abbrev pub rows_of : List ℕ → Option (List ℕ × List ℕ × List ℕ)
+rows_of text =
+    option_and_then (λ front. option_map (λ back. (front.0, back.0, back.1)) (cut front.1)) (cut text)
+
+-- a line of `-`, `:`, `|` and white space alone, with a `-` and a `|`
+abbrev pub is_divider : Bool → Bool → List ℕ → Bool
+is_divider dash bar [] = dash && bar
+is_divider dash bar (b ∷ rest) =
+    (b == 45 || b == 124 || b == 58 || is_space b) && is_divider (dash || b == 45) (bar || b == 124) rest
+
+-- ---- Rows
+
+abbrev pub cell : Element → List ℕ → List Piece
+cell element text = Open element ∷ inline_of (trimmed (words_of text)) ++ Close element ∷ []
+
+-- a `|` ends a cell, unless a backslash hides it
+abbrev pub cells : Element → Bool → List ℕ → List ℕ → List Piece
+cells element hidden taken [] = cell element taken
+cells element hidden taken (b ∷ rest) =
+    if not hidden && b == 124 then cell element taken ++ cells element false [] rest
+    else cells element (is_hidden hidden b) (taken ++ b ∷ []) rest
+
+abbrev pub without_bar : List ℕ → List ℕ
+without_bar [] = []
+without_bar (b ∷ rest) = if b == 124 then rest else b ∷ rest
+
+-- a row may have a `|` before its first cell, and behind its last
+abbrev pub within_bars : List ℕ → List ℕ
+within_bars line = without_signs 124 (without_bar (trimmed (words_of line)))
+
+unfoldable pub row : Element → List ℕ → List Piece
+row element line =
+    Open elements.Row ∷ cells element false [] (within_bars line) ++ Close elements.Row ∷ line_end ∷ []
+
+abbrev pub rows : List (List ℕ) → List Piece
+rows lines = flat_map (row elements.Cell) lines
+
+unfoldable pub table_begun : List Piece
+table_begun = Open elements.Table ∷ Open elements.Head ∷ []
+
+unfoldable pub head_ended : List Piece
+head_ended = Close elements.Head ∷ Open elements.Body ∷ []
+
+unfoldable pub table_ended : List Piece
+table_ended = Close elements.Body ∷ Close elements.Table ∷ line_end ∷ []
+
+abbrev pub table : List ℕ → List ℕ → List Piece
+table head others =
+    table_begun ++ (row elements.HeadCell head ++ (head_ended ++ (rows (lines_in others) ++ table_ended)))

@@ -1,0 +1,608 @@
+//! Texts within a block: code, stressed words, links, pictures and line breaks.
+ghost use Rattle.std.specs.Prelude.{◌≡◌, ◌++◌, ◌+◌, ◌<◌, ◌≤◌, OnOk, IfSome, length, drop, false};
+ghost use Rattle.std.specs.List.{prefix_len};
+ghost use Rattle.std.specs.Option.{option_map};
+ghost use Rattle.gb_markdown.specs.Pieces.{written, piece_text, Link, Picture};
+ghost use Rattle.gb_markdown.specs.Targets.{unescaped};
+ghost use Rattle.gb_markdown.specs.Inline.{meant_by, first_is, byte_behind, plain, escaped_in, spaced};
+ghost use Rattle.gb_markdown.specs.Inline.{code_end};
+ghost use Rattle.gb_markdown.specs.Inline.{is_edge, stripped, code_of, coded, hidden, label_end};
+ghost use Rattle.gb_markdown.specs.Inline.{ends_label, is_no_label, brackets, aimed, linked, pictured};
+ghost use Rattle.gb_markdown.specs.Inline.{is_left, opens, closes, side_at, side_of, ends_words, is_too_deep};
+ghost use Rattle.gb_markdown.specs.Inline.{deeper, passed, closer, wide_of, stress_of, stressed};
+ghost use Rattle.gb_markdown.specs.Inline.{token, tokens_of, shown, inline, behind_label, is_plain};
+ghost use Rattle.gb_markdown.specs.declared.inline.Nested.TheVariants as nested;
+
+use crate::page::{Element, close, link, open, picture, text};
+use crate::runs::{is_blank, is_space, run};
+use crate::target::{Target, read_target, unescaped};
+use std::alloc::{AllocError, Global};
+
+/// What is at the begin of a text.
+#[derive(Clone, Copy)]
+pub enum Token<'a> {
+    /// Words.
+    Words(&'a [u8]),
+    /// A line ends, and the next begins a new one on the page.
+    Break,
+    /// Code.
+    Code(&'a [u8]),
+    /// Words that are stressed, by `em` or by `strong`.
+    Stressed(Element, &'a [u8]),
+    /// A link: its label, and where it leads.
+    Linked(&'a [u8], Target<'a>),
+    /// A picture: what it shows, and where it is.
+    Pictured(&'a [u8], Target<'a>),
+}
+
+/// The brackets that are open in a label.
+#[derive(Clone, Copy, PartialEq, Eq)]
+pub enum Nested {
+    /// None.
+    Nothing,
+    /// Those of words, or of a link.
+    Words,
+    /// Those of a picture.
+    Picture,
+}
+
+/// The side of words at which signs are.
+#[derive(Clone, Copy)]
+pub enum Side {
+    /// They begin stressed words.
+    Left,
+    /// They end stressed words.
+    Right,
+    /// They are words.
+    Neither,
+}
+
+/// Writes a text, in which stressed words and labels are at most so deep in one another.
+#[cycle(texts)]
+pub fn inline(alloc: Global, page: &mut Vec<u8>, depth: u8, line: &[u8]) -> Result<(), AllocError>
+    ensures { OnOk result (page.new.items ≡ page.old.items ++ written (inline depth line.now)) }
+{
+    if depth == 0 {
+        return text(page, line);
+    }
+    tokens(alloc, page, depth - 1, line)
+}
+
+/// Writes one token behind the other.
+#[cycle(texts)]
+fn tokens(alloc: Global, page: &mut Vec<u8>, depth: u8, line: &[u8]) -> Result<(), AllocError>
+    ensures { OnOk result (page.new.items ≡ page.old.items ++ written
+        (tokens_of (inline depth) 0 10 line.now)) }
+{
+    let mut before = b'\n';
+    let mut skip: usize = 0;
+    for (index, byte) in line.iter().enumerate() {
+        if skip == 0 {
+            let (token, more) = first_token(before, &line[index..]);
+            write(alloc, page, depth, token)?;
+            skip = more;
+        } else {
+            skip -= 1;
+        }
+        before = *byte;
+    }
+    Ok(())
+}
+
+/// Writes a token.
+#[cycle(texts)]
+fn write(alloc: Global, page: &mut Vec<u8>, depth: u8, token: Token<'_>) -> Result<(), AllocError>
+    ensures { OnOk result (page.new.items ≡ page.old.items ++ written (shown (inline depth)
+        (meant_by token.entry))) }
+{
+    match token {
+        Token::Words(words) => text(page, words),
+        Token::Break => {
+            open(page, Element::Break)?;
+            text(page, b"\n")
+        }
+        Token::Code(words) => {
+            open(page, Element::Code)?;
+            text(page, words)?;
+            close(page, Element::Code)
+        }
+        Token::Stressed(element, words) => {
+            open(page, element)?;
+            inline(alloc, page, depth, words)?;
+            close(page, element)
+        }
+        Token::Linked(label, target) => {
+            link_to(alloc, page, target.address, target.title)?;
+            inline(alloc, page, depth, label)?;
+            close(page, Element::Anchor)
+        }
+        Token::Pictured(label, target) => {
+            picture_of(alloc, page, label, target.address, target.title)
+        }
+    }
+}
+
+/// Begins a link to a target.
+fn link_to(
+    alloc: Global,
+    page: &mut Vec<u8>,
+    address: &[u8],
+    title: &[u8],
+) -> Result<(), AllocError>
+    ensures { OnOk result (page.new.items ≡ page.old.items ++ piece_text (Link
+        (unescaped false address.now) (unescaped false title.now))) }
+{
+    let address = unescaped(alloc, address)?;
+    let title = unescaped(alloc, title)?;
+    link(page, address.as_slice(), title.as_slice())
+}
+
+/// Writes a picture of a target.
+fn picture_of(
+    alloc: Global,
+    page: &mut Vec<u8>,
+    label: &[u8],
+    address: &[u8],
+    title: &[u8],
+) -> Result<(), AllocError>
+    ensures { OnOk result (page.new.items ≡ page.old.items ++ piece_text (Picture
+        (unescaped false address.now) label.now (unescaped false title.now))) }
+{
+    let address = unescaped(alloc, address)?;
+    let title = unescaped(alloc, title)?;
+    picture(page, address.as_slice(), label, title.as_slice())
+}
+
+/// The token at the begin of a text behind a byte, and how many bytes behind its first belong to it.
+#[tactic(auto, unfolding(crate::specs::Inline::token))]
+fn first_token(before: u8, line: &[u8]) -> (Token<'_>, usize)
+    ensures { (meant_by result.0, result.1) ≡ token before line.now }
+{
+    let Some((first, rest)) = line.split_first() else {
+        return (Token::Words(b""), 0);
+    };
+    match first {
+        b'\\' => escaped_in(rest),
+        b'`' => coded(line),
+        b'*' | b'_' => stressed(*first, before, line),
+        b'[' => linked(rest),
+        b'!' => pictured(rest),
+        b' ' => spaced(line),
+        _ => plain(plain_length(line), line),
+    }
+}
+
+/// How many bytes at the begin begin no other token.
+fn plain_length(line: &[u8]) -> usize
+    ensures value { result ≡ prefix_len is_plain line.now }
+    ensures within { result ≤ length line.now }
+{
+    line.iter().take_while(|byte| is_plain(**byte)).count()
+}
+
+/// Whether a byte begins no other token.
+fn is_plain(byte: u8) -> bool
+    ensures { result ≡ is_plain byte }
+{
+    !matches!(byte, b'\\' | b'`' | b'*' | b'_' | b'[' | b'!' | b' ')
+}
+
+/// So many bytes, as they are.
+fn plain(count: usize, line: &[u8]) -> (Token<'_>, usize)
+    requires { count ≤ length line.now }
+    ensures { (meant_by result.0, result.1) ≡ plain count line.now }
+{
+    (Token::Words(&line[..count]), count.saturating_sub(1))
+}
+
+/// What a backslash is before a text.
+fn escaped_in(rest: &[u8]) -> (Token<'_>, usize)
+    ensures { (meant_by result.0, result.1) ≡ escaped_in rest.now }
+{
+    let Some(sign) = rest.first() else {
+        return (Token::Words(b"\\"), 0);
+    };
+    if *sign == b'\n' {
+        (Token::Break, 1)
+    } else if sign.is_ascii_punctuation() {
+        (Token::Words(&rest[..1]), 1)
+    } else {
+        (Token::Words(b"\\"), 0)
+    }
+}
+
+/// Spaces: two or more before the end of a line break it.
+fn spaced(line: &[u8]) -> (Token<'_>, usize)
+    ensures { (meant_by result.0, result.1) ≡ spaced line.now }
+{
+    let length = run(b' ', line);
+    if !first_is(b'\n', &line[length..]) {
+        plain(length, line)
+    } else if length == 1 {
+        (Token::Words(b"\n"), 1)
+    } else {
+        (Token::Break, length)
+    }
+}
+
+/// Whether a text begins with the sign.
+fn first_is(sign: u8, line: &[u8]) -> bool
+    ensures { result ≡ first_is sign line.now }
+{
+    match line.first() {
+        None => false,
+        Some(byte) => *byte == sign,
+    }
+}
+
+/// The byte at the begin of a text, or the end of a line.
+fn byte_behind(line: &[u8]) -> u8
+    ensures { result ≡ byte_behind line.now }
+{
+    match line.first() {
+        None => b'\n',
+        Some(byte) => *byte,
+    }
+}
+
+/// Code up to as many backquotes.
+fn coded(line: &[u8]) -> (Token<'_>, usize)
+    ensures { (meant_by result.0, result.1) ≡ coded line.now }
+{
+    let length = run(b'`', line);
+    if length == 0 || length > 8 {
+        return plain(length, line);
+    }
+    code_of(length, line, code_end(length, &line[length..]))
+}
+
+/// Code behind so many backquotes, or these.
+fn code_of(count: usize, line: &[u8], end: Option<usize>) -> (Token<'_>, usize)
+    requires low { count ≤ 8 }
+    requires room { count ≤ length line.now }
+    requires within { IfSome end (λ end. end ≤ length (drop count line.now)) }
+    ensures { (meant_by result.0, result.1) ≡ code_of count line.now end }
+{
+    match end {
+        None => plain(count, line),
+        Some(end) => {
+            let rest = &line[count..];
+            (
+                Token::Code(stripped(&rest[..end])),
+                (count + end + count).saturating_sub(1),
+            )
+        }
+    }
+}
+
+/// Where the first run of so many backquotes begins.
+fn code_end(count: usize, rest: &[u8]) -> Option<usize>
+    ensures value { result ≡ code_end count 0 0 rest.now }
+    ensures within { IfSome result (λ end. end ≤ length rest.now) }
+{
+    let mut seen: usize = 0;
+    for (index, byte) in rest.iter().enumerate() {
+        if *byte == b'`' {
+            seen += 1;
+        } else if seen == count {
+            return Some(index - seen);
+        } else {
+            seen = 0;
+        }
+    }
+    if seen == count {
+        Some(rest.len() - seen)
+    } else {
+        None
+    }
+}
+
+/// Code without a space or the end of a line on both sides, unless there is nothing else.
+fn stripped(code: &[u8]) -> &[u8]
+    ensures { result.now ≡ stripped code.now }
+{
+    let length = code.len();
+    if length >= 2 && is_edge(code[0]) && is_edge(code[length - 1]) && !is_blank(code) {
+        let inside = &code[1..];
+        &inside[..length - 2]
+    } else {
+        code
+    }
+}
+
+fn is_edge(byte: u8) -> bool
+    ensures { result ≡ is_edge byte }
+{
+    byte == b' ' || byte == b'\n'
+}
+
+/// How many bytes behind the first hide other signs: the one behind a backslash, or code.
+fn hidden(line: &[u8]) -> usize
+    ensures { result ≡ hidden line.now }
+{
+    match line.first() {
+        None => 0,
+        Some(b'\\') => 1,
+        Some(b'`') => coded(line).1,
+        Some(_) => 0,
+    }
+}
+
+/// A link behind its bracket, or that itself.
+fn linked(rest: &[u8]) -> (Token<'_>, usize)
+    ensures { (meant_by result.0, result.1) ≡ linked rest.now }
+{
+    match aimed(rest) {
+        None => (Token::Words(b"["), 0),
+        Some((label, target, behind)) => {
+            (
+                Token::Linked(label, target),
+                rest.len().saturating_sub(behind.len()),
+            )
+        }
+    }
+}
+
+/// A picture behind its `!`, or that itself.
+fn pictured(rest: &[u8]) -> (Token<'_>, usize)
+    ensures { (meant_by result.0, result.1) ≡ pictured rest.now }
+{
+    let Some((first, inside)) = rest.split_first() else {
+        return (Token::Words(b"!"), 0);
+    };
+    if *first != b'[' {
+        return (Token::Words(b"!"), 0);
+    }
+    match aimed(inside) {
+        None => (Token::Words(b"!"), 0),
+        Some((label, target, behind)) => {
+            (
+                Token::Pictured(label, target),
+                rest.len().saturating_sub(behind.len()),
+            )
+        }
+    }
+}
+
+/// The label and the target of `label](target)`, and what is behind it.
+fn aimed(rest: &[u8]) -> Option<(&[u8], Target<'_>, &[u8])>
+    ensures { option_map (λ found. (found.0.now, found.1.address.now, found.1.title.now, found.2.now)) result
+        ≡ aimed rest.now }
+{
+    let end = label_end(rest)?;
+    behind_label(&rest[..end], &rest[end + 1..])
+}
+
+/// A label and the target behind it.
+fn behind_label<'a>(label: &'a [u8], rest: &'a [u8]) -> Option<(&'a [u8], Target<'a>, &'a [u8])>
+    ensures { option_map (λ found. (found.0.now, found.1.address.now, found.1.title.now, found.2.now)) result
+        ≡ behind_label label.now rest.now }
+{
+    let (first, inside) = rest.split_first()?;
+    if *first != b'(' {
+        return None;
+    }
+    let (target, behind) = read_target(inside)?;
+    Some((label, target, behind))
+}
+
+/// Where a label ends.
+fn label_end(rest: &[u8]) -> Option<usize>
+    ensures value { result ≡ label_end nested.Nothing 0 91 0 rest.now }
+    ensures within { IfSome result (λ end. end < length rest.now) }
+{
+    let mut inside = Nested::Nothing;
+    let mut before = b'[';
+    let mut skip: usize = 0;
+    for (index, byte) in rest.iter().enumerate() {
+        if skip != 0 {
+            skip -= 1;
+        } else if ends_label(inside, *byte) {
+            return Some(index);
+        } else if is_no_label(inside, *byte, &rest[index + 1..]) {
+            return None;
+        } else {
+            inside = brackets(inside, before, *byte);
+            skip = hidden(&rest[index..]);
+        }
+        before = *byte;
+    }
+    None
+}
+
+fn ends_label(inside: Nested, byte: u8) -> bool
+    ensures { result ≡ ends_label inside byte }
+{
+    byte == b']' && inside == Nested::Nothing
+}
+
+fn is_no_label(inside: Nested, byte: u8, rest: &[u8]) -> bool
+    ensures { result ≡ is_no_label inside byte rest.now }
+{
+    byte == b'[' && inside != Nested::Nothing
+        || byte == b']' && inside == Nested::Words && first_is(b'(', rest)
+}
+
+/// The brackets that are open behind a byte.
+fn brackets(inside: Nested, before: u8, byte: u8) -> Nested
+    ensures { result ≡ brackets inside before byte }
+{
+    if byte == b'[' {
+        if before == b'!' {
+            Nested::Picture
+        } else {
+            Nested::Words
+        }
+    } else if byte == b']' {
+        Nested::Nothing
+    } else {
+        inside
+    }
+}
+
+/// Words between stars or underscores.
+fn stressed(sign: u8, before: u8, line: &[u8]) -> (Token<'_>, usize)
+    ensures { (meant_by result.0, result.1) ≡ stressed sign before line.now }
+{
+    let length = run(sign, line);
+    let rest = &line[length..];
+    if length == 0 || length > 3 || !opens(sign, before, byte_behind(rest)) {
+        return plain(length, line);
+    }
+    let wide = wide_of(length);
+    match closer(sign, wide, rest) {
+        None => plain(length, line),
+        Some((end, others)) => {
+            let behind = length + end + others;
+            let words = &line[..behind - wide];
+            (Token::Stressed(stress_of(wide), &words[wide..]), behind - 1)
+        }
+    }
+}
+
+fn wide_of(count: usize) -> usize
+    ensures value { result ≡ wide_of count }
+    ensures within { 0 < count → result ≤ count }
+    ensures low { result ≤ 2 }
+{
+    if count == 2 { 2 } else { 1 }
+}
+
+fn stress_of(wide: usize) -> Element
+    ensures { result ≡ stress_of wide }
+{
+    if wide == 2 {
+        Element::Strong
+    } else {
+        Element::Emphasis
+    }
+}
+
+/// Whether signs between two bytes begin stressed words.
+fn opens(sign: u8, before: u8, after: u8) -> bool
+    ensures { result ≡ opens sign before after }
+{
+    is_left(before, after)
+        && (sign == b'*' || !is_left(after, before) || before.is_ascii_punctuation())
+}
+
+/// Whether signs between two bytes end stressed words.
+fn closes(sign: u8, before: u8, after: u8) -> bool
+    ensures { result ≡ closes sign before after }
+{
+    is_left(after, before)
+        && (sign == b'*' || !is_left(before, after) || after.is_ascii_punctuation())
+}
+
+/// Whether signs between two bytes are at the left side of a word.
+fn is_left(before: u8, after: u8) -> bool
+    ensures { result ≡ is_left before after }
+{
+    !is_space(after)
+        && (!after.is_ascii_punctuation() || is_space(before) || before.is_ascii_punctuation())
+}
+
+/// Where the signs begin that end stressed words, and how many they are.
+fn closer(sign: u8, wide: usize, rest: &[u8]) -> Option<(usize, usize)>
+    requires { wide ≤ 3 }
+    ensures value { result ≡ closer sign wide 0 0 sign 0 rest.now }
+    ensures within { IfSome result (λ end. end.0 + end.1 ≤ length rest.now) }
+    ensures long { IfSome result (λ end. wide ≤ end.1) }
+{
+    let mut deep: usize = 0;
+    let mut before = sign;
+    let mut skip: usize = 0;
+    for (index, byte) in rest.iter().enumerate() {
+        if skip != 0 {
+            skip -= 1;
+        } else {
+            let line = &rest[index..];
+            let side = side_of(sign, wide, before, line);
+            if ends_words(side, deep) {
+                return Some((index, run(sign, line)));
+            }
+            if is_too_deep(side, deep) {
+                return None;
+            }
+            deep = deeper(side, deep);
+            skip = passed(sign, line);
+        }
+        before = *byte;
+    }
+    None
+}
+
+/// What signs do at the begin of a text.
+fn side_of(sign: u8, wide: usize, before: u8, line: &[u8]) -> Side
+    ensures { result ≡ side_of sign wide before line.now }
+{
+    if first_is(sign, line) {
+        let length = run(sign, line);
+        side_at(sign, wide, before, length, byte_behind(&line[length..]))
+    } else {
+        Side::Neither
+    }
+}
+
+/// What so many signs do between two bytes.
+fn side_at(sign: u8, wide: usize, before: u8, count: usize, after: u8) -> Side
+    ensures { result ≡ side_at sign wide before count after }
+{
+    if count != wide && count != 3 {
+        Side::Neither
+    } else if closes(sign, before, after) {
+        Side::Right
+    } else if opens(sign, before, after) {
+        Side::Left
+    } else {
+        Side::Neither
+    }
+}
+
+fn ends_words(side: Side, deep: usize) -> bool
+    ensures { result ≡ ends_words side deep }
+{
+    match side {
+        Side::Right => deep == 0,
+        Side::Left | Side::Neither => false,
+    }
+}
+
+fn is_too_deep(side: Side, deep: usize) -> bool
+    ensures { result ≡ is_too_deep side deep }
+{
+    match side {
+        Side::Left => deep == 2,
+        Side::Right | Side::Neither => false,
+    }
+}
+
+/// How deep words are behind signs.
+fn deeper(side: Side, deep: usize) -> usize
+    requires low { deep ≤ 2 }
+    requires room { is_too_deep side deep ≡ false }
+    ensures value { result ≡ deeper side deep }
+    ensures low { result ≤ 2 }
+{
+    match side {
+        Side::Left => deep + 1,
+        Side::Right => deep.saturating_sub(1),
+        Side::Neither => deep,
+    }
+}
+
+/// How many bytes behind the first are passed over.
+fn passed(sign: u8, line: &[u8]) -> usize
+    ensures { result ≡ passed sign line.now }
+{
+    let Some((first, rest)) = line.split_first() else {
+        return 0;
+    };
+    if *first == sign {
+        run(sign, line).saturating_sub(1)
+    } else if *first == b'[' {
+        linked(rest).1
+    } else {
+        hidden(line)
+    }
+}
