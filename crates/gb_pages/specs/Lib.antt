@@ -5,3 +5,7 @@ pub mod Markdown
 pub mod Laws
 pub mod Checked
 pub mod Paths
+pub mod FrontMatter
+pub mod Layouts
+pub mod Links
+pub mod Listing

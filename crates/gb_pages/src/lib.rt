@@ -9,11 +9,15 @@
 pub mod actions;
 mod address;
 mod checked;
+mod front_matter;
 mod inline;
 pub mod kinds;
 pub mod laws;
+mod layout;
+mod links;
 mod listing;
 mod markdown;
 mod page;
 mod paths;
+mod site_pages;
 mod template;

@@ -1,5 +1,6 @@
 -- Files of whole lines.
-use Rattle.std.specs.Prelude.{ℕ, ◌-◌, List, [], ◌∷◌, if◌then◌else◌, bytes_eq, codes, length, drop, Result, Ok, Err}
+use Rattle.std.specs.Prelude.{ℕ, ◌-◌, List, [], ◌∷◌, if◌then◌else◌, bytes_eq, codes, length, drop}
+use Rattle.std.specs.Prelude.{Result, Ok, Err}
 
 -- the same bytes where the last is a line feed
 abbrev pub whole_lines : List ℕ → Result (List ℕ) (List ℕ)

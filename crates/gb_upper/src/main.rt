@@ -1,5 +1,5 @@
-//! `gb` with three kinds of its own: `upperCase` makes of each file the same in capital letters, `headed` puts
-//! a line in front of each, and `wholeLines` fails where the last line of one has no end.
+//! `gb` with three kinds of its own: `upperCase` makes of each file the same in capital letters, `headed`
+//! puts a line in front of each, and `wholeLines` fails where the last line of one has no end.
 #![tactic(auto)]
 
 mod headed;
