@@ -3,6 +3,7 @@
 
 mod counting;
 mod faults;
+mod keys;
 mod leaving_out;
 mod links;
 mod names;

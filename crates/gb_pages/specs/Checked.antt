@@ -1,5 +1,6 @@
 -- What is wrong with pages.
-use Rattle.std.specs.Prelude.{ℕ, ◌+◌, ◌==◌, List, [], ◌∷◌, ◌++◌, if◌then◌else◌, codes, decimal, nat_eq, take}
+use Rattle.std.specs.Prelude.{ℕ, ◌+◌, ◌==◌, Bool, not, ◌&&◌, ◌||◌, is_some, List, [], ◌∷◌, ◌++◌, codes}
+use Rattle.std.specs.Prelude.{if◌then◌else◌, decimal, nat_eq, take}
 use Rattle.std.specs.Prelude.{Option, None, Some, count_by}
 use Rattle.std.specs.List.{starts_with}
 use Rattle.std.specs.Option.{option_map, option_or}
@@ -8,6 +9,7 @@ use Rattle.std.specs.Str.Lossy.{utf8_valid_len}
 use Rattle.gb_core.specs.declared.value.Value.{Value}
 use Rattle.gb_action.specs.Files.{Tree, Trees, tree_at}
 use Rattle.gb_action.specs.Shapes.{source}
+use Rattle.gb_pages.specs.FrontMatter.{body, front_matter, halves, heading, value_of}
 
 -- the line on which the first byte stands that is no text
 abbrev pub bad_line : List ℕ → ℕ
@@ -16,9 +18,18 @@ bad_line bytes = count_by (λ b. b == 10) (take (utf8_valid_len bytes) bytes) + 
 abbrev pub no_text : ℕ → List ℕ
 no_text line = decimal line ++ codes ": not UTF-8"
 
--- a page begins with a heading
+-- front matter begins, and has no end
+abbrev pub is_unended : List ℕ → Bool
+is_unended text = starts_with nat_eq text (codes "---\n") && not (is_some (halves text))
+
+-- a page begins with a heading, or its front matter has a title
+abbrev pub has_title : List ℕ → Bool
+has_title text = is_some (heading (body text)) || is_some (value_of (codes "title") (front_matter text))
+
 abbrev pub wrong_text : List ℕ → Option (List ℕ)
-wrong_text bytes = if starts_with nat_eq bytes (codes "# ") then None else Some (codes "1: no heading")
+wrong_text text =
+    if is_unended text then Some (codes "1: no end of the front matter")
+    else if has_title text then None else Some (codes "1: no heading")
 
 -- and is a text
 abbrev pub wrong : List ℕ → Option (List ℕ)

@@ -1,2 +1,6 @@
 pub mod Checked
 pub mod Paths
+pub mod FrontMatter
+pub mod Layouts
+pub mod Links
+pub mod Listing

@@ -1,7 +1,6 @@
 -- Where pages stand, and what is made of all pages at once.
 use Rattle.std.specs.Prelude.{ℕ, ◌-◌, ◌&&◌, Bool, List, [], ◌∷◌, ◌++◌, if◌then◌else◌, codes, bytes_eq, length}
 use Rattle.std.specs.Prelude.{take, drop, Option, None, Some, Result, Ok, Err, is_some}
-use Rattle.std.specs.List.{flat_map}
 use Rattle.std.specs.Option.{option_or}
 use Rattle.std.specs.Str.{is_utf8}
 use Rattle.memchr.specs.Find.{first_of, matches}
@@ -12,9 +11,6 @@ use Rattle.gb_action.specs.Files.{Tree, Trees, tree_at}
 use Rattle.gb_action.specs.Shapes.{source}
 use Rattle.gb_kinds.specs.Builtin.{first_text}
 use Rattle.gb_with.specs.Renamed.{onto}
-use Rattle.gb_markdown.specs.Addresses.{address_of}
-use Rattle.gb_markdown.specs.Pieces.{Piece, Open, Close, Link, Text, written}
-use Rattle.gb_markdown.specs.declared.page.Element.TheVariants as elements
 
 -- the path that these bytes are, if they are one
 abbrev pub as_path : List ℕ → Option (List ℕ)
@@ -88,35 +84,3 @@ token_name (argument ∷ others) = first_text (argument ∷ others)
 abbrev pub templated : List Value → Trees → Result Tree (List ℕ)
 templated arguments trees =
     laid_out (token_name arguments) (tree_at trees source) (tree_at trees (codes "layout"))
-
--- ---- The page that links all pages
-
--- the link to an address, under a name
-abbrev pub linked : List ℕ → List ℕ → List Piece
-linked address name =
-    Open elements.Item ∷ Link address [] ∷ Text name ∷ Close elements.Anchor ∷ Close elements.Item
-    ∷ Text (10 ∷ []) ∷ []
-
--- the link to the page at a path
-abbrev pub entry : Option (List ℕ) → Option (List ℕ) → List Piece
-entry (Some text) (Some path) = linked (address_of path) text
-entry None path = []
-entry (Some text) None = []
-
-abbrev pub entries : Tree → List Piece
-entries files = flat_map (λ file. entry (stem file.0) (page_path (stem file.0))) files
-
-abbrev pub begun : List ℕ → List Piece
-begun title =
-    Open elements.HeadingOne ∷ Text title ∷ Close elements.HeadingOne ∷ Text (10 ∷ [])
-    ∷ Open elements.Items ∷ Text (10 ∷ []) ∷ []
-
-abbrev pub ended_list : List Piece
-ended_list = Close elements.Items ∷ Text (10 ∷ []) ∷ []
-
-abbrev pub index_page : List ℕ → Tree → List Piece
-index_page title files = begun title ++ (entries files ++ ended_list)
-
-abbrev pub indexed : List Value → Trees → Result Tree (List ℕ)
-indexed arguments trees =
-    Ok ((codes "index.html", written (index_page (first_text arguments) (tree_at trees source))) ∷ [])

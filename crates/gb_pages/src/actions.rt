@@ -4,7 +4,9 @@ ghost use Rattle.gb_with.specs.declared.both.Either.TheVariants.{First, Second};
 
 use crate::checked::CheckPages;
 use crate::kinds::Markdown;
+use crate::links::CheckLinks;
 use crate::listing::Index;
+use crate::site_pages::SitePages;
 use crate::template::Template;
 use gb_action::actions::Actions;
 use gb_action::table::{ActionTable, TableFault};
@@ -16,7 +18,13 @@ use gb_with::renamed::Renamed;
 use std::alloc::Global;
 
 /// The kinds that work on all pages at once, at paths that they know.
-type AtOnce = Both<OfTrees<Template>, Both<OfTrees<Index>, Checks<CheckPages>>>;
+type AtOnce = Both<Laid, Both<OfTrees<Index>, Checking>>;
+
+/// Those that put pages into a layout.
+type Laid = Both<OfTrees<Template>, OfTrees<SitePages>>;
+
+/// Those that make nothing.
+type Checking = Both<Checks<CheckPages>, Checks<CheckLinks>>;
 
 /// All kinds of pages.
 pub type Pages = Both<ByFile<Markdown>, Both<OfTrees<Renamed<Markdown>>, AtOnce>>;
@@ -25,9 +33,11 @@ pub type Pages = Both<ByFile<Markdown>, Both<OfTrees<Renamed<Markdown>>, AtOnce>
 pub fn page_actions(alloc: Global) -> Result<ActionTable<<Pages as Actions>::Stored>, TableFault>
     ensures { IfOk result (λ table. table ≡ (codes "markdown", First 3)
         ∷ (codes "htmlPages", Second (First 3))
-        ∷ (codes "template", Second (Second (First 1)))
-        ∷ (codes "index", Second (Second (Second (First 2))))
-        ∷ (codes "checkPages", Second (Second (Second (Second 1)))) ∷ []) }
+        ∷ (codes "template", Second (Second (First (First 1))))
+        ∷ (codes "sitePages", Second (Second (First (Second 1))))
+        ∷ (codes "index", Second (Second (Second (First 3))))
+        ∷ (codes "checkPages", Second (Second (Second (Second (First 2)))))
+        ∷ (codes "checkLinks", Second (Second (Second (Second (Second 1))))) ∷ []) }
 {
     let others = at_once(alloc)?;
     let pages = only::<OfTrees<Renamed<Markdown>>>(alloc, "htmlPages", 3)?;
@@ -38,12 +48,33 @@ pub fn page_actions(alloc: Global) -> Result<ActionTable<<Pages as Actions>::Sto
 
 /// The table of those that work on all pages at once.
 fn at_once(alloc: Global) -> Result<ActionTable<<AtOnce as Actions>::Stored>, TableFault>
-    ensures { IfOk result (λ table. table ≡ (codes "template", First 1)
-        ∷ (codes "index", Second (First 2)) ∷ (codes "checkPages", Second (Second 1)) ∷ []) }
+    ensures { IfOk result (λ table. table ≡ (codes "template", First (First 1))
+        ∷ (codes "sitePages", First (Second 1)) ∷ (codes "index", Second (First 3))
+        ∷ (codes "checkPages", Second (Second (First 2)))
+        ∷ (codes "checkLinks", Second (Second (Second 1))) ∷ []) }
 {
-    let check = only::<Checks<CheckPages>>(alloc, "checkPages", 1)?;
-    let index = only::<OfTrees<Index>>(alloc, "index", 2)?;
+    let check = checking(alloc)?;
+    let index = only::<OfTrees<Index>>(alloc, "index", 3)?;
     let others = beside(alloc, index, check)?;
+    beside(alloc, laid(alloc)?, others)
+}
+
+/// The table of those that put pages into a layout.
+fn laid(alloc: Global) -> Result<ActionTable<<Laid as Actions>::Stored>, TableFault>
+    ensures { IfOk result (λ table.
+        table ≡ (codes "template", First 1) ∷ (codes "sitePages", Second 1) ∷ []) }
+{
+    let site = only::<OfTrees<SitePages>>(alloc, "sitePages", 1)?;
     let template = only::<OfTrees<Template>>(alloc, "template", 1)?;
-    beside(alloc, template, others)
+    beside(alloc, template, site)
+}
+
+/// The table of those that make nothing.
+fn checking(alloc: Global) -> Result<ActionTable<<Checking as Actions>::Stored>, TableFault>
+    ensures { IfOk result (λ table.
+        table ≡ (codes "checkPages", First 2) ∷ (codes "checkLinks", Second 1) ∷ []) }
+{
+    let links = only::<Checks<CheckLinks>>(alloc, "checkLinks", 1)?;
+    let pages = only::<Checks<CheckPages>>(alloc, "checkPages", 2)?;
+    beside(alloc, pages, links)
 }

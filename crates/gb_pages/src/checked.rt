@@ -1,7 +1,9 @@
 //! Pages that are none: the kind `checkPages`.
 ghost use Rattle.std.specs.Prelude.{◌≡◌, ◌≤◌, ◌+◌, ◌==◌, length, take, count_by, IfOk};
-ghost use Rattle.gb_pages.specs.Checked.{no_text, wrong, wrong_text, wrong_at, first_wrong};
+ghost use Rattle.gb_pages.specs.Checked.{first_wrong, has_title, is_unended, no_text, wrong, wrong_at};
+ghost use Rattle.gb_pages.specs.Checked.{wrong_text};
 
+use crate::front_matter::{body, front_matter, halves, heading, value_of};
 use gb_action::shape::ArgList;
 use gb_action::snapshot::Snapshots;
 use gb_action::values::Arguments;
@@ -14,7 +16,8 @@ use std::alloc::{AllocError, Global};
 use std::str;
 
 /// The kind `checkPages`, without arguments: it fails with the path, the line and what is wrong there, of the
-/// first page that is no text or does not begin with a heading.
+/// first page that is no text, whose front matter has no end, or that has no title: it neither begins with a
+/// heading nor has a `title` in its front matter.
 #[derive(Drop)]
 pub struct CheckPages;
 
@@ -79,10 +82,30 @@ fn wrong(alloc: Global, bytes: &[u8]) -> Result<Option<Text>, AllocError>
 fn wrong_text(alloc: Global, bytes: &[u8]) -> Result<Option<Text>, AllocError>
     ensures { IfOk result (λ found. found ≡ wrong_text bytes.now) }
 {
-    if bytes.starts_with(b"# ") {
+    if is_unended(bytes) {
+        return Ok(Some(Text::from_str(alloc, "1: no end of the front matter")?));
+    }
+    if has_title(alloc, bytes)? {
         return Ok(None);
     }
     Ok(Some(Text::from_str(alloc, "1: no heading")?))
+}
+
+/// Whether front matter begins, and has no end.
+fn is_unended(text: &[u8]) -> bool
+    ensures { result ≡ is_unended text.now }
+{
+    text.starts_with(b"---\n") && halves(text).is_none()
+}
+
+/// Whether a page begins with a heading, or its front matter has a title.
+fn has_title(alloc: Global, text: &[u8]) -> Result<bool, AllocError>
+    ensures { IfOk result (λ has. has ≡ has_title text.now) }
+{
+    if heading(body(text)).is_some() {
+        return Ok(true);
+    }
+    Ok(value_of(alloc, b"title", front_matter(text))?.is_some())
 }
 
 /// What is told of bytes that are no text from a line on.
@@ -93,7 +116,7 @@ fn no_text(alloc: Global, line: usize) -> Result<Option<Text>, AllocError>
 }
 
 /// The line on which the byte at an index stands, counted from 1.
-fn line_of(bytes: &[u8], index: usize) -> usize
+pub(crate) fn line_of(bytes: &[u8], index: usize) -> usize
     requires { index ≤ length bytes.now }
     ensures { result ≡ count_by (λ b. b == 10) (take index bytes.now) + 1 }
 {

@@ -3,7 +3,11 @@
 
 pub mod actions;
 mod checked;
+mod front_matter;
 pub mod kinds;
+mod layout;
+mod links;
 mod listing;
 mod paths;
+mod site_pages;
 mod template;

@@ -1,41 +1,51 @@
 //! The page that links all pages: the kind `index`.
-ghost use Rattle.std.specs.Prelude.{◌≡◌, ◌++◌, OnOk, IfOk};
+ghost use Rattle.std.specs.Prelude.{◌≡◌, ◌++◌, ◌∷◌, [], codes, Ok, OnOk, IfOk, MatchResult};
 ghost use Rattle.std.specs.Option.{option_copied};
-ghost use Rattle.gb_pages.specs.Paths.{begun, ended_list, entry, entries, index_page, linked, page_path};
-ghost use Rattle.gb_pages.specs.Paths.{stem};
+ghost use Rattle.gb_kinds.specs.Builtin.{second_text};
+ghost use Rattle.gb_pages.specs.Listing.{begun, by_day, by_name, day_path, ended_list, entry, entry_of};
+ghost use Rattle.gb_pages.specs.Listing.{index_page, latest_first, linked, links_by, with_day};
+ghost use Rattle.gb_pages.specs.Paths.{page_path, stem};
 ghost use Rattle.gb_markdown.specs.Pieces.{written};
+ghost use Rattle.gb_with.specs.TreeKinds.{IsFailure};
 
-use crate::paths::{page_path, stem};
+use crate::front_matter::{front_matter, title_of, value_of};
+use crate::paths::{as_path, page_path, stem};
+use gb_action::files::Files;
 use gb_action::reply::ActionFault;
 use gb_action::shape::{Arg, ArgList};
 use gb_action::snapshot::Snapshots;
 use gb_action::values::Arguments;
 use gb_core::bytes::Bytes;
 use gb_core::place::RelPath;
+use gb_core::text::Text;
+use gb_core::value::Value;
 use gb_kinds::arguments::first_text;
 use gb_kinds::names::{rel_path, source_name};
-use gb_markdown::address::address_of;
-use gb_markdown::page::{Element, close, link, open, text};
+use gb_markdown::address::{address_of, address_of};
+use gb_markdown::page::{Element, Element, close, close, link, link, open, open, text, text};
 use gb_with::tree_kind::{TreeKind, files_of};
 use std::alloc::{AllocError, Global};
 
-/// The kind `index(TITLE)`: a page `index.html` with a link to the page of each text of `src`.
+/// The kind `index(TITLE, ORDER)`: a page `index.html` with a link to the page of each text of `src`, under
+/// its title, in the order of their paths. Where `ORDER` is `date` the latest page stands first, by the dates
+/// of their front matters, and those without a date stand last.
 #[derive(Drop)]
 pub struct Index;
 
 impl TreeKind for Index {
     ghost use Rattle.std.specs.Prelude.{[], ◌∷◌};
     ghost use Rattle.gb_action.specs.declared.shape.Arg.TheVariants as args;
-    ghost use Rattle.gb_action.specs.declared.shape.Parameter.TheVariants.{Required};
-    ghost use Rattle.gb_pages.specs.Paths.{indexed};
+    ghost use Rattle.gb_action.specs.declared.shape.Parameter.TheVariants.{Optional, Required};
+    ghost use Rattle.gb_pages.specs.Listing.{indexed};
 
-    ghost takes = { Required args.Line ∷ [] };
+    ghost takes = { Required args.Line ∷ Optional args.Line ∷ [] };
 
     ghost makes = { indexed };
 
     fn takes(alloc: Global) -> Result<ArgList, AllocError> {
         let mut list = ArgList::new(alloc);
         list.push(Arg::Line)?;
+        list.push_optional(Arg::Line)?;
         Ok(list)
     }
 
@@ -45,24 +55,47 @@ impl TreeKind for Index {
         trees: &Snapshots,
     ) -> Result<Vec<(RelPath, Bytes)>, ActionFault> {
         let files = files_of(trees, &source_name(alloc)?);
-        let page = index_page(alloc, first_text(arguments).as_bytes(), files)?;
-        let mut made = Vec::new(alloc);
-        made.push((rel_path(alloc, "index.html")?, Bytes::new(page)))?;
-        Ok(made)
+        match links_by(alloc, second_text(arguments), files) {
+            Ok(links) => Ok(one_page(alloc, first_text(arguments).as_bytes(), links)?),
+            Err(fault) => Err(fault),
+        }
     }
 }
 
-/// The page.
-fn index_page(
+/// The second argument.
+fn second_text(arguments: &Arguments) -> &str
+    ensures { result.now ≡ second_text arguments.now }
+{
+    match arguments.as_slice().split_first() {
+        Some((_, others)) => match others.first() {
+            Some(Value::Text(text)) => text.as_str(),
+            _ => "",
+        },
+        None => "",
+    }
+}
+
+/// The one file, with these links.
+fn one_page(
     alloc: Global,
     title: &[u8],
-    files: &[(RelPath, Bytes)],
-) -> Result<Vec<u8>, AllocError>
-    ensures { IfOk result (λ page. page.items ≡ written (index_page title.now files.now)) }
+    links: Vec<u8>,
+) -> Result<Vec<(RelPath, Bytes)>, AllocError>
+    ensures { IfOk result (λ made. made.items ≡ (codes "index.html", index_page title.now links.items) ∷ []) }
+{
+    let page = index_page(alloc, title, links.as_slice())?;
+    let mut made = Vec::new(alloc);
+    made.push((rel_path(alloc, "index.html")?, Bytes::new(page)))?;
+    Ok(made)
+}
+
+/// The page with these links.
+fn index_page(alloc: Global, title: &[u8], links: &[u8]) -> Result<Vec<u8>, AllocError>
+    ensures { IfOk result (λ page. page.items ≡ index_page title.now links.now) }
 {
     let mut page = Vec::new(alloc);
     begin(&mut page, title)?;
-    entries(alloc, &mut page, files)?;
+    page.extend_from_slice(links)?;
     end(&mut page)?;
     Ok(page)
 }
@@ -87,36 +120,126 @@ fn end(page: &mut Vec<u8>) -> Result<(), AllocError>
     text(page, b"\n")
 }
 
-fn entries(alloc: Global, page: &mut Vec<u8>, files: &[(RelPath, Bytes)]) -> Result<(), AllocError>
-    ensures { OnOk result (page.new.items ≡ page.old.items ++ written (entries files.now)) }
+/// The links to the pages of all texts, in an order.
+fn links_by(alloc: Global, order: &str, files: &[(RelPath, Bytes)]) -> Result<Vec<u8>, ActionFault>
+    ensures { MatchResult result
+        (λ links. links_by order.now files.now ≡ Ok links.items)
+        (λ fault. IsFailure fault (links_by order.now files.now)) }
 {
-    for (path, _) in files {
-        entry(alloc, page, stem(path.as_str().as_bytes()))?;
+    if order == "date" {
+        match by_day(alloc, files) {
+            Ok(days) => Ok(latest_first(alloc, days.as_slice())?),
+            Err(fault) => Err(fault),
+        }
+    } else if order == "" {
+        Ok(by_name(alloc, files)?)
+    } else {
+        let text = Text::new(format!(in alloc; "no order {order}")?)?;
+        Err(ActionFault::ActionFailed(text))
     }
-    Ok(())
 }
 
-/// The link to a page, by what stands before `.md` in the path of its text.
-fn entry(alloc: Global, page: &mut Vec<u8>, front: Option<&[u8]>) -> Result<(), AllocError>
-    ensures { OnOk result (page.new.items ≡ page.old.items ++ written (entry (option_copied front.entry)
-        (page_path (option_copied front.entry)))) }
+/// The links in the order of the paths.
+fn by_name(alloc: Global, files: &[(RelPath, Bytes)]) -> Result<Vec<u8>, AllocError>
+    ensures { IfOk result (λ links. links.items ≡ by_name files.now) }
 {
-    let (Some(front), Some(path)) = (front, page_path(alloc, front)?) else {
+    let mut links = Vec::new(alloc);
+    for (path, bytes) in files {
+        entry(
+            alloc,
+            &mut links,
+            stem(path.as_str().as_bytes()),
+            bytes.as_slice(),
+        )?;
+    }
+    Ok(links)
+}
+
+/// The links of all texts by their days.
+fn by_day(alloc: Global, files: &[(RelPath, Bytes)]) -> Result<Files, ActionFault>
+    ensures { MatchResult result
+        (λ days. by_day [] files.now ≡ Ok days)
+        (λ fault. IsFailure fault (by_day [] files.now)) }
+{
+    let mut days = Files::new(alloc);
+    for (path, bytes) in files {
+        put_day(alloc, &mut days, path, bytes.as_slice())?;
+    }
+    Ok(days)
+}
+
+/// Puts the link of a text at its day.
+fn put_day(alloc: Global, days: &mut Files, path: &RelPath, bytes: &[u8]) -> Result<(), ActionFault>
+    ensures { let meant = with_day days.old path.now bytes.now (day_path path.now bytes.now) in
+        MatchResult result (λ _. meant ≡ Ok days.new) (λ fault. IsFailure fault meant) }
+{
+    match day_path(alloc, path, bytes)? {
+        Some(day) => {
+            days.insert(day, entry_of(alloc, path, bytes)?)?;
+            Ok(())
+        }
+        None => Err(ActionFault::ActionFailed(Text::new(format!(in alloc; "{path}: no date")?)?)),
+    }
+}
+
+/// Where a text stands among all.
+fn day_path(alloc: Global, path: &RelPath, bytes: &[u8]) -> Result<Option<RelPath>, AllocError>
+    ensures { IfOk result (λ day. day ≡ day_path path.now bytes.now) }
+{
+    let date = value_of(alloc, b"date", front_matter(bytes))?.unwrap_or(b"0");
+    let mut day = date.to_vec(alloc)?;
+    day.push(b'/')?;
+    day.extend_from_slice(path.as_str().as_bytes())?;
+    as_path(alloc, day.as_slice())
+}
+
+/// The link to the page of a text.
+fn entry_of(alloc: Global, path: &RelPath, bytes: &[u8]) -> Result<Bytes, AllocError>
+    ensures { IfOk result (λ made. made ≡ entry_of path.now bytes.now) }
+{
+    let mut made = Vec::new(alloc);
+    entry(alloc, &mut made, stem(path.as_str().as_bytes()), bytes)?;
+    Ok(Bytes::new(made))
+}
+
+/// The latest first.
+fn latest_first(alloc: Global, days: &[(RelPath, Bytes)]) -> Result<Vec<u8>, AllocError>
+    ensures { IfOk result (λ links. links.items ≡ latest_first days.now) }
+{
+    let mut links = Vec::new(alloc);
+    for (_, link) in days.iter().rev() {
+        links.extend_from_slice(link.as_slice())?;
+    }
+    Ok(links)
+}
+
+/// Writes the link to the page of a text, by what stands before `.md` in its path.
+fn entry(
+    alloc: Global,
+    page: &mut Vec<u8>,
+    name: Option<&[u8]>,
+    bytes: &[u8],
+) -> Result<(), AllocError>
+    ensures { OnOk result (page.new.items ≡ page.old.items
+        ++ written (entry bytes.now (option_copied name.entry) (page_path (option_copied name.entry)))) }
+{
+    let (Some(name), Some(path)) = (name, page_path(alloc, name)?) else {
         return Ok(());
     };
+    let title = title_of(alloc, bytes, name)?;
     let address = address_of(alloc, path.as_str().as_bytes())?;
-    let done = linked(page, address.as_slice(), front);
+    let done = linked(page, address.as_slice(), title);
     drop(address);
     done
 }
 
-/// The link to a page at an address, under its name.
-fn linked(page: &mut Vec<u8>, address: &[u8], name: &[u8]) -> Result<(), AllocError>
-    ensures { OnOk result (page.new.items ≡ page.old.items ++ written (linked address.now name.now)) }
+/// The link to a page at an address, under its title.
+fn linked(page: &mut Vec<u8>, address: &[u8], title: &[u8]) -> Result<(), AllocError>
+    ensures { OnOk result (page.new.items ≡ page.old.items ++ written (linked address.now title.now)) }
 {
     open(page, Element::Item)?;
     link(page, address, b"")?;
-    text(page, name)?;
+    text(page, title)?;
     close(page, Element::Anchor)?;
     close(page, Element::Item)?;
     text(page, b"\n")

@@ -37,7 +37,7 @@ pub(crate) fn page_path(alloc: Global, front: Option<&[u8]>) -> Result<Option<Re
 }
 
 /// The path that these bytes are, if they are one.
-fn as_path(alloc: Global, bytes: &[u8]) -> Result<Option<RelPath>, AllocError>
+pub(crate) fn as_path(alloc: Global, bytes: &[u8]) -> Result<Option<RelPath>, AllocError>
     ensures { IfOk result (λ path. path ≡ as_path bytes.now) }
 {
     let Ok(text) = str::from_utf8(bytes) else {

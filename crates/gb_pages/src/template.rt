@@ -52,7 +52,7 @@ impl TreeKind for Template {
 }
 
 /// The file property that holds the layout.
-fn layout_name(alloc: Global) -> Result<Name, AllocError>
+pub(crate) fn layout_name(alloc: Global) -> Result<Name, AllocError>
     ensures { IfOk result (λ name. name ≡ codes "layout") }
 {
     Name::read(alloc, "layout").map_err(|_| AllocError)
@@ -132,13 +132,14 @@ fn no_token(alloc: Global, sign: &str, path: &RelPath) -> Result<String, AllocEr
     Ok(text)
 }
 
-fn has_token(sign: &[u8], layout: &[u8]) -> bool
+pub(crate) fn has_token(sign: &[u8], layout: &[u8]) -> bool
     ensures { result ≡ has_token sign.now layout.now }
 {
     layout.find(sign).is_some()
 }
 
-fn failed(alloc: Global, text: &str) -> Result<Made, ActionFault>
+/// The failure with this text.
+pub(crate) fn failed(alloc: Global, text: &str) -> Result<Made, ActionFault>
     ensures { MatchResult result
         (λ made. ◌≡◌ {A = Result Tree (List ℕ)} (Err text.now) (Ok made.items))
         (λ fault. IsFailure {A = Tree} fault (Err text.now)) }

@@ -103,10 +103,10 @@ module _ (outputs : List OutputFiles) (declared : list_any (λ (output : OutputF
 
 -- ---- Answers
 
-module _ (makes : Making) (prints : Printing) (files : Tree) (request : Request) (reply : Reply) (anew : IsAnew files request reply)
+module _ (makes : Making) (prints : Printing) (files : Tree) (lines : List (List ℕ)) (request : Request) (reply : Reply) (anew : IsAnew files lines request reply)
     (own : (trees : Trees) (written : List Written) → makes request.args request.values trees ≡ Ok written → are_own true written ≡ true)
     (made : made_for makes request ≡ Ok (as_made files))
-    (silent : prints request.args request.values request.files request.changes.lists ≡ []) where
+    (meant : prints request.args request.values request.files request.changes.lists ≡ lines) where
   abbrev now : List ℕ → Option (List ℕ)
   now path = written_at (as_made files) target path
 
@@ -138,11 +138,11 @@ module _ (makes : Making) (prints : Printing) (files : Tree) (request : Request)
           subst (λ r. names_only request.outputs r ≡ true) (sym (anew.in_full e))
           (both request.outputs declared _ _ (all_declared request.outputs declared (λ bytes. bytes) files) refl)
 
-  says_nothing : reply.lines ≡ []
-  says_nothing = by request.changes.incremental refl
+  says : reply.lines ≡ lines
+  says = by request.changes.incremental refl
     where
-      by : (b : Bool) → request.changes.incremental ≡ b → reply.lines ≡ []
-      by true e = (anew.by_changes e).lines
+      by : (b : Bool) → request.changes.incremental ≡ b → reply.lines ≡ lines
+      by true e = (anew.by_changes e).prints
       by false e = ap (λ r. r.lines) (anew.in_full e)
 
   pub anew-answers : list_any (λ (output : OutputFiles). bytes_eq output.name target) request.outputs ≡ true → Answers makes prints request (Ok reply)
@@ -152,6 +152,6 @@ module _ (makes : Making) (prints : Printing) (files : Tree) (request : Request)
     in_full = λ r e full. made ∙ ap Ok (ap (λ x. x.writes) (sym (anew.in_full full) ∙ same_ok e));
     by_changes = λ r e changed. subst (CarriesOver makes request) (same_ok e) (carries_over makes request reply now own makes_now (names changed));
     declared = λ r e. subst (λ x. names_only request.outputs x ≡ true) (same_ok e) (named declared);
-    prints_lines = λ r e. ap (λ x. x.lines) (sym (same_ok e)) ∙ says_nothing ∙ sym silent;
+    prints_lines = λ r e. ap (λ x. x.lines) (sym (same_ok e)) ∙ says ∙ sym meant;
     failed = λ text e. absurd cc;
   }

@@ -12,9 +12,9 @@ use Rattle.gb_action.specs.declared.reply.Reply.{Reply}
 use Rattle.gb_action.specs.declared.request.Request.{Request}
 use Rattle.gb_kinds.specs.Remade.{as_made, renewed, standing}
 
--- the reply that writes these files, and does nothing else
-abbrev pub all_of : Tree → Reply
-all_of files = record { removes = []; writes = as_made files; lines = [] }
+-- the reply that writes these files and prints these lines, and removes nothing
+abbrev pub all_of : Tree → List (List ℕ) → Reply
+all_of files lines = record { removes = []; writes = as_made files; lines = lines }
 
 -- the path, unless a file is made there
 abbrev pub unless_made : Tree → List ℕ → List OutputPath
@@ -28,16 +28,17 @@ made_no_more stood made = flat_map (λ file. unless_made made file.0) stood
 -- The reply that takes what stands to these files: it removes those that stand and are made no more, and
 -- writes those that do not stand so already. Each path is looked at once, by what is made there in the end,
 -- in the order of paths.
-pub record IsDifference (files : Tree) (outputs : List OutputFiles) (reply : Reply) : Type 0 where
+pub record IsDifference (files : Tree) (lines : List (List ℕ)) (outputs : List OutputFiles)
+    (reply : Reply) : Type 0 where
   pub made : Tree
   pub in_order : IsTrue (is_sorted byte_order made)
   pub is_made : (path : List ℕ) → file_at made path ≡ written_at (as_made files) target path
   pub removes : reply.removes ≡ made_no_more (standing outputs) made
   pub writes : reply.writes ≡ renewed outputs made
-  pub lines : reply.lines ≡ []
+  pub prints : reply.lines ≡ lines
 
--- The reply of a kind that makes these files: all of them, or the difference to what stands. It prints
--- nothing.
-pub record IsAnew (files : Tree) (request : Request) (reply : Reply) : Type 0 where
-  pub in_full : request.changes.incremental ≡ false → reply ≡ all_of files
-  pub by_changes : request.changes.incremental ≡ true → IsDifference files request.outputs reply
+-- The reply of a kind that makes these files and prints these lines: all of them, or the difference to what
+-- stands.
+pub record IsAnew (files : Tree) (lines : List (List ℕ)) (request : Request) (reply : Reply) : Type 0 where
+  pub in_full : request.changes.incremental ≡ false → reply ≡ all_of files lines
+  pub by_changes : request.changes.incremental ≡ true → IsDifference files lines request.outputs reply

@@ -5,4 +5,5 @@ pub mod FileKinds
 pub mod Functions
 pub mod TreeKinds
 pub mod Renamed
+pub mod TryKinds
 pub mod Anew

@@ -21,25 +21,26 @@ use std::collections::BTreeMap;
 /// Files by their paths.
 type Made = BTreeMap<RelPath, Bytes>;
 
-/// The reply of a kind that makes these files, of which the later counts where two have one path. Asked for
-/// changes it looks at none of them: it goes by what stands.
+/// The reply of a kind that makes these files, of which the later counts where two have one path, and prints
+/// these lines. Asked for changes it looks at none of them: it goes by what stands.
 pub fn reply_anew(
     alloc: Global,
     request: &Request,
     files: Vec<(RelPath, Bytes)>,
+    lines: Lines,
 ) -> Result<Reply, AllocError>
-    ensures { IfOk result (λ reply. IsAnew files.items request.now reply) }
+    ensures { IfOk result (λ reply. IsAnew files.items lines request.now reply) }
 {
     if request.changes.is_incremental() {
-        difference(alloc, request, files)
+        difference(alloc, request, files, lines)
     } else {
-        all_of(alloc, files)
+        all_of(alloc, files, lines)
     }
 }
 
-/// The reply that writes these files, and does nothing else.
-fn all_of(alloc: Global, files: Vec<(RelPath, Bytes)>) -> Result<Reply, AllocError>
-    ensures { IfOk result (λ reply. reply ≡ all_of files.items) }
+/// The reply that writes these files and prints these lines, and removes nothing.
+fn all_of(alloc: Global, files: Vec<(RelPath, Bytes)>, lines: Lines) -> Result<Reply, AllocError>
+    ensures { IfOk result (λ reply. reply ≡ all_of files.items lines) }
 {
     let mut writes = Writes::new(alloc);
     for (path, bytes) in files {
@@ -52,7 +53,7 @@ fn all_of(alloc: Global, files: Vec<(RelPath, Bytes)>) -> Result<Reply, AllocErr
     Ok(Reply {
         removes: Removals::new(alloc),
         writes,
-        lines: Lines::new(alloc),
+        lines,
     })
 }
 
@@ -61,15 +62,16 @@ fn difference(
     alloc: Global,
     request: &Request,
     files: Vec<(RelPath, Bytes)>,
+    lines: Lines,
 ) -> Result<Reply, AllocError>
-    ensures { IfOk result (λ reply. IsDifference files.items request.now.outputs reply) }
+    ensures { IfOk result (λ reply. IsDifference files.items lines request.now.outputs reply) }
 {
     let made = by_path(alloc, files)?;
     let output = output_name(alloc)?;
     Ok(Reply {
         removes: outdated(alloc, standing(request, &output), &made)?,
         writes: renewed(alloc, request, made)?,
-        lines: Lines::new(alloc),
+        lines,
     })
 }
 

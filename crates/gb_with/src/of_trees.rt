@@ -85,7 +85,7 @@ impl<K: TreeKind> Actions for OfTrees<K> {
         request: &Request,
     ) -> Result<Reply, ActionFault> {
         match K::make(alloc, &request.args, &request.files) {
-            Ok(files) => Ok(reply_anew(alloc, request, files)?),
+            Ok(files) => Ok(reply_anew(alloc, request, files, Lines::new(alloc))?),
             Err(fault) => Err(fault),
         }
     }

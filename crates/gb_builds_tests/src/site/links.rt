@@ -18,7 +18,7 @@ register all : index(\"All\") { inputFiles src from dir(\"pages\") outputDir out
     ),
     Step::Put("links.md", LINKS),
     Step::Put("pages/100%.md", b"# A\n"),
-    Step::Put("pages/C#.md", b"# B\n"),
+    Step::Put("pages/C#.md", b"B\n"),
     Step::Put("pages/What now?.md", b"# C\n"),
     Step::Put("pages/a:b.md", b"# D\n"),
     Step::Run(
@@ -32,6 +32,44 @@ register all : index(\"All\") { inputFiles src from dir(\"pages\") outputDir out
         "> Task :all\nBUILD SUCCESSFUL\n1 actionable task: 1 executed\n",
     ),
 ];
+
+/// Files with links to each other; then one that leads to no file, and one to no fragment.
+const LED: [Step<'static>; 8] = [
+    Step::Put(
+        "build.gb",
+        b"register site : copyFiles { doFirst checkLinks inputFiles src from dir(\"out\") \
+outputDir out = dir(\"build/site\") }",
+    ),
+    Step::Put(
+        "out/a.html",
+        b"<a href=\"d/b.html#x\"> <a href=\"https://e.org/\"> <a href=\"#y\" id=\"y\">\n\
+<img src=\"C%23.png\">",
+    ),
+    Step::Put("out/C#.png", b""),
+    Step::Put(
+        "out/d/b.html",
+        b"<p id=\"x\"><a href=\"../a.html?q\"> <a href=\"/d/./b.html\">",
+    ),
+    Step::Run("site", 1, LED_DONE),
+    Step::Put("out/d/b.html", b"<p>\n<a href=\"../../a.html\">"),
+    Step::Run(
+        "site",
+        0,
+        "> Task :site FAILED\nFAILED :site: 42 a.html:1: no fragment at d/b.html#x\nBUILD FAILED\n\
+1 actionable task: 1 executed\n",
+    ),
+    Step::Put("out/a.html", b""),
+];
+
+const LED_DONE: &str = "> Task :site\nBUILD SUCCESSFUL\n1 actionable task: 1 executed\n";
+
+/// The other link leads out of the site.
+const LED_OUT: [Step<'static>; 1] = [Step::Run(
+    "site",
+    0,
+    "> Task :site FAILED\nFAILED :site: 42 d/b.html:2: no file at ../../a.html\nBUILD FAILED\n\
+1 actionable task: 1 executed\n",
+)];
 
 const LINKS: &[u8] = b"[a](javascript:1)
 [b](JavaScript:1)
@@ -59,10 +97,10 @@ const LINKED: &str = "<p><a>a</a>
 
 const ALL: &str = "<h1>All</h1>
 <ul>
-<li><a href=\"100%25.html\">100%</a></li>
+<li><a href=\"100%25.html\">A</a></li>
 <li><a href=\"C%23.html\">C#</a></li>
-<li><a href=\"What%20now%3F.html\">What now?</a></li>
-<li><a href=\"a%3Ab.html\">a:b</a></li>
+<li><a href=\"What%20now%3F.html\">C</a></li>
+<li><a href=\"a%3Ab.html\">D</a></li>
 </ul>
 ";
 
@@ -71,7 +109,9 @@ fn are_safe<A: Actions, T: Transforms>(alloc: Global, tables: &Tables<A, T>) -> 
     let mut folder = MemoryFolder::new(alloc);
     go_on(alloc, &mut folder, tables, &PAGES)?;
     stands(alloc, &mut folder, "build/h/links.md", LINKED)?;
-    stands(alloc, &mut folder, "build/all/index.html", ALL)
+    stands(alloc, &mut folder, "build/all/index.html", ALL)?;
+    go_on(alloc, &mut folder, tables, &LED)?;
+    go_on(alloc, &mut folder, tables, &LED_OUT)
 }
 
 #[test]

@@ -104,7 +104,7 @@ fn is_first<A: Actions, T: Transforms>(
         alloc,
         folder,
         "build/site/index.html",
-        "<h1>All</h1>\n<ul>\n<li><a href=\"a.html\">a</a></li>\n<li><a href=\"b.html\">b</a></li>\n</ul>\n",
+        "<h1>All</h1>\n<ul>\n<li><a href=\"a.html\">A</a></li>\n<li><a href=\"b.html\">B</a></li>\n</ul>\n",
     )
 }
 

@@ -1,4 +1,4 @@
-use Rattle.std.proofs.Common.{[], unwrap_or, ap, ◌∙◌}
+use Rattle.std.proofs.Common.{[], unwrap_or, refl, ap, ◌∙◌}
 use Rattle.gb_action.specs.Outputs.{files_of}
 use Rattle.gb_with.specs.Anew.{made_no_more}
 use Rattle.gb_with.proofs.anew.difference.Goals as goal
@@ -14,5 +14,5 @@ returns c =
       removes = c.in_ok-outdated.ensures ∙ ap (λ stood. made_no_more stood made) (c.standing.ensures
           ∙ ap (λ name. unwrap_or (files_of outputs name) []) c.in_ok-output.ensures);
       writes = c.in_ok-renewed.ensures;
-      lines = c.new.ensures;
+      prints = refl;
     }

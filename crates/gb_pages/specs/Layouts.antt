@@ -1,0 +1,119 @@
+-- Pages in a layout, with what their front matter says.
+use Rattle.std.specs.Prelude.{ℕ, ◌+◌, ◌==◌, Bool, true, false, List, [], ◌∷◌, ◌++◌, codes, decimal, take}
+use Rattle.std.specs.Prelude.{if◌then◌else◌, bytes_eq, count_by, length, Option, None, Some, unwrap_or}
+use Rattle.std.specs.Prelude.{Result, Ok, Err}
+use Rattle.std.specs.List.{flat_map}
+use Rattle.std.specs.Option.{option_map}
+use Rattle.std.specs.Str.{is_utf8}
+use Rattle.memchr.specs.Find.{first_of, matches}
+use Rattle.bstr.specs.Text.{split_at}
+use Rattle.gb_core.specs.declared.value.Value.{Value}
+use Rattle.gb_action.specs.Files.{Tree, Trees, file_at, tree_at}
+use Rattle.gb_action.specs.Shapes.{source}
+use Rattle.gb_with.specs.Renamed.{onto}
+use Rattle.gb_pages.specs.FrontMatter.{cut, front_matter, title_of, value_of}
+use Rattle.gb_pages.specs.Paths.{page_path, stem, token, unless_more}
+use Rattle.gb_markdown.specs.Pieces.{escaped}
+
+-- ---- What stands in the place of a name
+
+-- what leads from a page to the folder of the site: `../` for each folder that the page lies in
+abbrev pub root_of : List ℕ → List ℕ
+root_of path = flat_map (λ b. if b == 47 then codes "../" else []) path
+
+-- the page itself, the way to the folder of the site, its title, or a value of its front matter
+abbrev pub value_for : List ℕ → List ℕ → List ℕ → List ℕ → Option (List ℕ)
+value_for path text page name =
+    if bytes_eq name (codes "content") then Some page
+    else if bytes_eq name (codes "root") then Some (root_of path)
+    else if bytes_eq name (codes "title") then Some (escaped (title_of text (unwrap_or (stem path) path)))
+    else option_map escaped (value_of name (front_matter text))
+
+-- ---- Layouts
+
+abbrev pub parts : List ℕ → List ℕ → List (List ℕ)
+parts sign text = split_at text (length sign) 0 (matches text sign 0)
+
+-- bytes in front of others, or the first failure
+abbrev pub before : Result (List ℕ) (List ℕ) → Result (List ℕ) (List ℕ) → Result (List ℕ) (List ℕ)
+before (Err name) others = Err name
+before (Ok bytes) (Err name) = Err name
+before (Ok bytes) (Ok others) = Ok (bytes ++ others)
+
+-- the value of a name and what stands behind it, or the name that has no value
+abbrev pub replaced : List ℕ → List ℕ → Option (List ℕ) → Result (List ℕ) (List ℕ)
+replaced name rest None = Err name
+replaced name rest (Some value) = Ok (value ++ rest)
+
+-- what stands behind `{{`: a name and `}}`, or that sign itself and text
+abbrev pub behind_braces : (List ℕ → Option (List ℕ)) → List ℕ → Option (List ℕ × List ℕ)
+    → Result (List ℕ) (List ℕ)
+behind_braces value part None = Ok (codes "{{" ++ part)
+behind_braces value part (Some found) = replaced found.0 found.1 (value found.0)
+
+-- the parts between `{{`, of which each but the first stands behind one
+abbrev pub filled : (List ℕ → Option (List ℕ)) → Bool → List (List ℕ) → Result (List ℕ) (List ℕ)
+filled value behind [] = Ok []
+filled value false (part ∷ others) = before (Ok part) (filled value true others)
+filled value true (part ∷ others) =
+    before (behind_braces value part (cut (codes "}}") part)) (filled value true others)
+
+-- bytes, or the name at which they end
+abbrev pub ended : List ℕ → Option (List ℕ) → Result (List ℕ) (List ℕ)
+ended bytes None = Ok bytes
+ended bytes (Some name) = Err name
+
+-- ---- Pages
+
+-- the line on which a text stands first
+abbrev pub line_of : List ℕ → List ℕ → ℕ
+line_of sign text = count_by (λ b. b == 10) (take (unwrap_or (first_of (matches text sign 0)) 0) text) + 1
+
+-- a name or an address as it is shown
+abbrev pub shown : List ℕ → List ℕ
+shown name = if is_utf8 name then name else codes "(no text)"
+
+-- what is told of a name that the layout has and the page does not
+abbrev pub unknown : List ℕ → List ℕ → List ℕ → List ℕ → List ℕ
+unknown at layout path name =
+    at ++ codes ":" ++ decimal (line_of (token name) layout) ++ codes ": " ++ path ++ codes " has no "
+    ++ shown name
+
+abbrev pub or_unknown : List ℕ → List ℕ → List ℕ → Result (List ℕ) (List ℕ) → Result (List ℕ) (List ℕ)
+or_unknown at layout path (Ok bytes) = Ok bytes
+or_unknown at layout path (Err name) = Err (unknown at layout path name)
+
+-- The layout of a page, by the path and the bytes of the layout, the path and the text of the page, and what
+-- Markdown makes of that.
+abbrev pub laid_out_page : List ℕ → List ℕ → List ℕ → List ℕ → List ℕ → Result (List ℕ) (List ℕ)
+laid_out_page at layout path text page =
+    or_unknown at layout path (filled (value_for path text page) false (parts (codes "{{") layout))
+
+-- the file of a page, if it has a path
+abbrev pub laid_out_file : List ℕ → Option (List ℕ) → Result (List ℕ) (List ℕ)
+    → Result (List ℕ × List ℕ) (List ℕ)
+laid_out_file path None made = Err (path ++ codes ": no path of a page")
+laid_out_file path (Some new) (Err text) = Err text
+laid_out_file path (Some new) (Ok bytes) = Ok (new, bytes)
+
+-- the text of a page, which is empty where there is none
+abbrev pub text_at : Tree → List ℕ → List ℕ
+text_at texts path = unwrap_or (file_at texts path) []
+
+abbrev pub all_laid_out : List ℕ → List ℕ → Tree → Tree → Result Tree (List ℕ)
+all_laid_out at layout texts [] = Ok []
+all_laid_out at layout texts (file ∷ files) =
+    onto (laid_out_file file.0 (page_path (stem file.0))
+    (laid_out_page at layout file.0 (text_at texts file.0) file.1))
+    (all_laid_out at layout texts files)
+
+-- there is one layout
+abbrev pub in_one_layout : Tree → Tree → Tree → Result Tree (List ℕ)
+in_one_layout texts files [] = Err (codes "no layout")
+in_one_layout texts files (layout ∷ others) =
+    unless_more others (all_laid_out layout.0 layout.1 texts files)
+
+-- the pages of `src`, with what the texts of `texts` say, in the one file of `layout`
+abbrev pub site_pages : List Value → Trees → Result Tree (List ℕ)
+site_pages arguments trees =
+    in_one_layout (tree_at trees (codes "texts")) (tree_at trees source) (tree_at trees (codes "layout"))

@@ -1,0 +1,143 @@
+//! Pages in a layout, with what their front matter says: the kind `sitePages`.
+ghost use Rattle.std.specs.Prelude.{◌≡◌, ◌++◌, [], codes, unwrap_or, Ok, IfOk, MatchResult};
+ghost use Rattle.std.specs.Option.{option_copied};
+ghost use Rattle.gb_action.specs.declared.reply.ActionFault.TheVariants.{ActionFailed};
+ghost use Rattle.gb_pages.specs.Layouts.{all_laid_out, in_one_layout, laid_out_file, laid_out_page, text_at};
+ghost use Rattle.gb_pages.specs.Paths.{page_path, stem};
+ghost use Rattle.gb_with.specs.TreeKinds.{IsFailure};
+
+use crate::layout::{Page, laid_out_page};
+use crate::paths::{page_path, stem};
+use crate::template::{failed, layout_name};
+use gb_action::files::Files;
+use gb_action::reply::ActionFault;
+use gb_action::shape::ArgList;
+use gb_action::snapshot::Snapshots;
+use gb_action::values::Arguments;
+use gb_core::bytes::Bytes;
+use gb_core::name::Name;
+use gb_core::place::RelPath;
+use gb_core::text::Text;
+use gb_kinds::names::source_name;
+use gb_with::tree_kind::{TreeKind, files_of};
+use std::alloc::{AllocError, Global};
+
+/// The kind `sitePages`, without arguments: each page of `src`, with `.html` in place of `.md`, in the one
+/// file of `layout`. The text at the same path of `texts` says by its front matter what stands in the place
+/// of each `{{name}}`; `{{content}}` is the page itself, `{{title}}` its title, and `{{root}}` the way to the
+/// folder of the site.
+#[derive(Drop)]
+pub struct SitePages;
+
+/// Files by their paths.
+type Made = Vec<(RelPath, Bytes)>;
+
+impl TreeKind for SitePages {
+    ghost use Rattle.std.specs.Prelude.{[]};
+    ghost use Rattle.gb_pages.specs.Layouts.{site_pages};
+
+    ghost takes = { [] };
+
+    ghost makes = { site_pages };
+
+    fn takes(alloc: Global) -> Result<ArgList, AllocError> {
+        Ok(ArgList::new(alloc))
+    }
+
+    fn make(alloc: Global, _arguments: &Arguments, trees: &Snapshots) -> Result<Made, ActionFault> {
+        let texts = trees.get(&texts_name(alloc)?);
+        let files = files_of(trees, &source_name(alloc)?);
+        let layouts = files_of(trees, &layout_name(alloc)?);
+        in_one_layout(alloc, texts, files, layouts)
+    }
+}
+
+/// The file property that holds the texts of the pages.
+fn texts_name(alloc: Global) -> Result<Name, AllocError>
+    ensures { IfOk result (λ name. name ≡ codes "texts") }
+{
+    Name::read(alloc, "texts").map_err(|_| AllocError)
+}
+
+/// The pages in the one layout.
+fn in_one_layout(
+    alloc: Global,
+    texts: Option<&Files>,
+    files: &[(RelPath, Bytes)],
+    layouts: &[(RelPath, Bytes)],
+) -> Result<Made, ActionFault>
+    ensures { let meant = in_one_layout (unwrap_or (option_copied texts.entry) []) files.now layouts.now in
+        MatchResult result (λ made. meant ≡ Ok made.items) (λ fault. IsFailure fault meant) }
+{
+    match layouts.split_first() {
+        None => failed(alloc, "no layout"),
+        Some((layout, others)) => match others.split_first() {
+            None => all_laid_out(alloc, &layout.0, layout.1.as_slice(), texts, files),
+            Some(_) => failed(alloc, "more than one layout"),
+        },
+    }
+}
+
+/// All pages in a layout.
+fn all_laid_out(
+    alloc: Global,
+    at: &RelPath,
+    layout: &[u8],
+    texts: Option<&Files>,
+    files: &[(RelPath, Bytes)],
+) -> Result<Made, ActionFault>
+    ensures { let read = unwrap_or (option_copied texts.entry) [] in
+        let meant = all_laid_out at.now layout.now read files.now in
+        MatchResult result (λ made. meant ≡ Ok made.items) (λ fault. IsFailure fault meant) }
+{
+    let mut made = Vec::new(alloc);
+    for (path, html) in files {
+        let text = text_at(texts, path);
+        let html = html.as_slice();
+        let file = laid_out_file(alloc, at, layout, &Page { path, text, html })?;
+        made.push(file)?;
+    }
+    Ok(made)
+}
+
+/// The text of the page at a path, which is empty where there is none.
+fn text_at<'a>(texts: Option<&'a Files>, path: &RelPath) -> &'a [u8]
+    ensures { result.now ≡ text_at (unwrap_or (option_copied texts.entry) []) path.now }
+{
+    match texts {
+        None => &[],
+        Some(files) => match files.get(path) {
+            Some(text) => text.as_slice(),
+            None => &[],
+        },
+    }
+}
+
+/// The file of a page in a layout.
+fn laid_out_file(
+    alloc: Global,
+    at: &RelPath,
+    layout: &[u8],
+    page: &Page<'_>,
+) -> Result<(RelPath, Bytes), ActionFault>
+    ensures { let path = page.now.path.now in
+        let meant = laid_out_file path (page_path (stem path))
+        (laid_out_page at.now layout.now path page.now.text.now page.now.html.now) in
+        MatchResult result (λ file. meant ≡ Ok file) (λ fault. IsFailure fault meant) }
+{
+    let Some(new) = page_path(alloc, stem(page.path.as_str().as_bytes()))? else {
+        return Err(without_path(alloc, page.path)?);
+    };
+    match laid_out_page(alloc, at, layout, page) {
+        Ok(made) => Ok((new, made)),
+        Err(fault) => Err(fault),
+    }
+}
+
+/// The failure of a page that has no path.
+fn without_path(alloc: Global, path: &RelPath) -> Result<ActionFault, AllocError>
+    ensures { IfOk result (λ fault. fault ≡ ActionFailed (path.now ++ codes ": no path of a page")) }
+{
+    let text = Text::new(format!(in alloc; "{path}: no path of a page")?)?;
+    Ok(ActionFault::ActionFailed(text))
+}
