@@ -1,32 +1,11 @@
 -- Definitions that are opened where they are computed.
-use Rattle.std.proofs.Common.{◌≡◌, ℕ, zero, suc, ◌-◌, ◌==◌, ◌<◌, ◌||◌, nat_lt, arith, Bool, List, [], ◌∷◌}
-use Rattle.std.proofs.Common.{if◌then◌else◌, drop, refl, ap, ◌∙◌, append-nil}
-use Rattle.std.specs.List.{prefix_len}
-use Rattle.gb_markdown.specs.Runs.{run, is_blank}
+use Rattle.std.proofs.Common.{◌≡◌, ℕ, zero, suc, ◌-◌, ◌<◌, arith, Bool, List, [], ◌∷◌, refl, ap, ◌∙◌}
+use Rattle.std.proofs.Common.{append-nil}
 use Rattle.gb_markdown.specs.Pieces.{Text, escaped, written}
-use Rattle.gb_markdown.specs.Lines.{Nothing, Indented, said, said_behind}
-use Rattle.gb_markdown.specs.Inline.{Words, coded, escaped_in, inline, is_plain, linked, pictured, plain}
-use Rattle.gb_markdown.specs.Inline.{spaced, stressed, token, tokens_of}
-use Rattle.gb_markdown.specs.Blocks.{blocks_depth, blocks_of, paragraph, read}
+use Rattle.gb_markdown.specs.Inline.{inline, tokens_of}
 use Rattle.gb_markdown.specs.Tables.{lines_in, words_depth}
+use Rattle.gb_markdown.specs.Blocks.{blocks_depth, blocks_of, paragraph, read}
 use Rattle.gb_markdown.specs.declared.blocks.Block.TheVariants as blocks
-
-pub said_is : (line : List ℕ) → said line
-    ≡ (if is_blank line then Nothing else if nat_lt 3 (run 32 line) then Indented (drop 4 line) else
-    said_behind (run 32 line) (drop (run 32 line) line))
-unfolding said
-said_is line = refl
-
-pub token_none : (before : ℕ) → token before [] ≡ (Words [], 0)
-unfolding token
-token_none before = refl
-
-pub token_some : (before b : ℕ) (rest : List ℕ) → token before (b ∷ rest)
-    ≡ (if b == 92 then escaped_in rest else if b == 96 then coded (b ∷ rest) else if b == 42 || b == 95 then
-    stressed b before (b ∷ rest) else if b == 91 then linked rest else if b == 33 then pictured rest else if b
-    == 32 then spaced (b ∷ rest) else plain (prefix_len is_plain (b ∷ rest)) (b ∷ rest))
-unfolding token
-token_some before b rest = refl
 
 inline_zero : (text : List ℕ) → inline 0 text ≡ Text text ∷ []
 unfolding inline

@@ -6,7 +6,8 @@ use Rattle.std.specs.Prelude.{Option, None, Some}
 use Rattle.std.specs.List.{prefix_len}
 use Rattle.std.specs.Char.{is_ascii_punctuation}
 use Rattle.gb_markdown.specs.Runs.{run, is_space, is_blank}
-use Rattle.gb_markdown.specs.Targets.{target, unescaped}
+use Rattle.gb_markdown.specs.Addresses.{has_scheme, is_safe}
+use Rattle.gb_markdown.specs.Targets.{angle_end, target, unescaped}
 use Rattle.gb_markdown.specs.Pieces.{Piece, Open, Close, Link, Picture, Text}
 use Rattle.gb_markdown.specs.declared.page.Element.{Element}
 use Rattle.gb_markdown.specs.declared.page.Element.TheVariants as elements
@@ -18,7 +19,7 @@ use Rattle.gb_markdown.specs.declared.inline.Side.{Side}
 use Rattle.gb_markdown.specs.declared.inline.Side.TheVariants as sides
 
 -- what is at the begin of a text: words; the end of a line; code; words that are stressed; a link with a
--- label, an address and a title; or a picture with these
+-- label, an address and a title; a picture with these; or an address that is a link
 pub data Meant : Type 0 where
   Words : List ℕ → Meant
   Break : Meant
@@ -26,6 +27,7 @@ pub data Meant : Type 0 where
   Stressed : Element → List ℕ → Meant
   Linked : List ℕ → List ℕ → List ℕ → Meant
   Pictured : List ℕ → List ℕ → List ℕ → Meant
+  Led : List ℕ → Meant
 
 abbrev pub meant_by : Token → Meant
 meant_by (tokens.Words text) = Words text.now
@@ -34,6 +36,7 @@ meant_by (tokens.Code text) = Code text.now
 meant_by (tokens.Stressed element text) = Stressed element text.now
 meant_by (tokens.Linked label target) = Linked label.now target.address.now target.title.now
 meant_by (tokens.Pictured label target) = Pictured label.now target.address.now target.title.now
+meant_by (tokens.Led address) = Led address.now
 
 -- ---- Bytes
 
@@ -169,6 +172,18 @@ abbrev pub pictured : List ℕ → Meant × ℕ
 pictured [] = (Words (33 ∷ []), 0)
 pictured (b ∷ rest) = if b == 91 then picture_of (b ∷ rest) (aimed rest) else (Words (33 ∷ []), 0)
 
+-- an address in `<` and `>` is a link, if it is safe and has a scheme
+abbrev pub led : List ℕ → ℕ → Meant × ℕ
+led address more =
+    if is_safe address && has_scheme address then (Led address, more) else (Words (60 ∷ []), 0)
+
+abbrev pub angled_to : List ℕ → Option ℕ → Meant × ℕ
+angled_to rest None = (Words (60 ∷ []), 0)
+angled_to rest (Some end) = led (take end rest) (end + 1)
+
+abbrev pub angled : List ℕ → Meant × ℕ
+angled rest = angled_to rest (angle_end false 0 rest)
+
 -- ---- Stressed words
 
 -- signs between two bytes are at the left side of a word
@@ -257,7 +272,7 @@ stressed sign before line =
 -- a byte that begins no other token
 abbrev pub is_plain : ℕ → Bool
 is_plain b =
-    not (b == 92 || b == 96 || b == 42 || b == 95 || b == 91 || b == 33 || b == 32)
+    not (b == 92 || b == 96 || b == 42 || b == 95 || b == 91 || b == 33 || b == 32 || b == 60)
 
 -- the token at the begin of a text, behind a byte
 unfoldable pub token : ℕ → List ℕ → Meant × ℕ
@@ -269,6 +284,7 @@ token before (b ∷ rest) =
     else if b == 91 then linked rest
     else if b == 33 then pictured rest
     else if b == 32 then spaced (b ∷ rest)
+    else if b == 60 then angled rest
     else plain (prefix_len is_plain (b ∷ rest)) (b ∷ rest)
 
 -- the pieces of a token, by those of the texts in it
@@ -281,6 +297,7 @@ shown inner (Linked label address title) =
     Link (unescaped false address) (unescaped false title) ∷ inner label ++ Close elements.Anchor ∷ []
 shown inner (Pictured label address title) =
     Picture (unescaped false address) label (unescaped false title) ∷ []
+shown inner (Led address) = Link address [] ∷ Text address ∷ Close elements.Anchor ∷ []
 
 -- one token behind the other
 abbrev pub tokens_of : (List ℕ → List Piece) → ℕ → ℕ → List ℕ → List Piece

@@ -37,7 +37,7 @@ fn has_safe_scheme(address: &[u8]) -> bool
 }
 
 /// Whether a `:` comes before each `/`, `?` and `#`.
-fn has_scheme(address: &[u8]) -> bool
+pub(crate) fn has_scheme(address: &[u8]) -> bool
     ensures { result ≡ has_scheme address.now }
 {
     for byte in address {

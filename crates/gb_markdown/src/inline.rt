@@ -11,11 +11,13 @@ ghost use Rattle.gb_markdown.specs.Inline.{ends_label, is_no_label, brackets, ai
 ghost use Rattle.gb_markdown.specs.Inline.{is_left, opens, closes, side_at, side_of, ends_words, is_too_deep};
 ghost use Rattle.gb_markdown.specs.Inline.{deeper, passed, closer, wide_of, stress_of, stressed};
 ghost use Rattle.gb_markdown.specs.Inline.{token, tokens_of, shown, inline, behind_label, is_plain};
+ghost use Rattle.gb_markdown.specs.Inline.{angled, led};
 ghost use Rattle.gb_markdown.specs.declared.inline.Nested.TheVariants as nested;
 
+use crate::address::{has_scheme, is_safe};
 use crate::page::{Element, close, link, open, picture, text};
 use crate::runs::{is_blank, is_space, run};
-use crate::target::{Target, read_target, unescaped};
+use crate::target::{Target, angle_end, read_target, unescaped};
 use std::alloc::{AllocError, Global};
 
 /// What is at the begin of a text.
@@ -33,6 +35,8 @@ pub enum Token<'a> {
     Linked(&'a [u8], Target<'a>),
     /// A picture: what it shows, and where it is.
     Pictured(&'a [u8], Target<'a>),
+    /// An address that is a link.
+    Led(&'a [u8]),
 }
 
 /// The brackets that are open in a label.
@@ -116,6 +120,11 @@ fn write(alloc: Global, page: &mut Vec<u8>, depth: u8, token: Token<'_>) -> Resu
             inline(alloc, page, depth, label)?;
             close(page, Element::Anchor)
         }
+        Token::Led(address) => {
+            link(page, address, b"")?;
+            text(page, address)?;
+            close(page, Element::Anchor)
+        }
         Token::Pictured(label, target) => {
             picture_of(alloc, page, label, target.address, target.title)
         }
@@ -168,6 +177,7 @@ fn first_token(before: u8, line: &[u8]) -> (Token<'_>, usize)
         b'[' => linked(rest),
         b'!' => pictured(rest),
         b' ' => spaced(line),
+        b'<' => angled(rest),
         _ => plain(plain_length(line), line),
     }
 }
@@ -184,7 +194,7 @@ fn plain_length(line: &[u8]) -> usize
 fn is_plain(byte: u8) -> bool
     ensures { result ≡ is_plain byte }
 {
-    !matches!(byte, b'\\' | b'`' | b'*' | b'_' | b'[' | b'!' | b' ')
+    !matches!(byte, b'\\' | b'`' | b'*' | b'_' | b'[' | b'!' | b' ' | b'<')
 }
 
 /// So many bytes, as they are.
@@ -437,6 +447,27 @@ fn brackets(inside: Nested, before: u8, byte: u8) -> Nested
         Nested::Nothing
     } else {
         inside
+    }
+}
+
+/// An address behind a `<`, or that itself.
+fn angled(rest: &[u8]) -> (Token<'_>, usize)
+    ensures { (meant_by result.0, result.1) ≡ angled rest.now }
+{
+    match angle_end(rest) {
+        None => (Token::Words(b"<"), 0),
+        Some(end) => led(&rest[..end], end + 1),
+    }
+}
+
+/// An address that is a link, or the `<` before it.
+fn led(address: &[u8], more: usize) -> (Token<'_>, usize)
+    ensures { (meant_by result.0, result.1) ≡ led address.now more }
+{
+    if is_safe(address) && has_scheme(address) {
+        (Token::Led(address), more)
+    } else {
+        (Token::Words(b"<"), 0)
     }
 }
 

@@ -70,7 +70,7 @@ fn in_signs<'a>(line: &'a [u8], inside: &'a [u8], end: Option<usize>) -> (&'a [u
 }
 
 /// Where the first `>` is on the line.
-fn angle_end(line: &[u8]) -> Option<usize>
+pub(crate) fn angle_end(line: &[u8]) -> Option<usize>
     ensures value { result ≡ angle_end false 0 line.now }
     ensures within { IfSome result (λ end. end < length line.now) }
 {
