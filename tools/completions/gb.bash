@@ -1,13 +1,21 @@
-# The options of gb and gb_why in bash. In ~/.bashrc: source FOLDER/tools/completions/gb.bash
+# The words of gb and gb_ask in bash. In ~/.bashrc: source FOLDER/tools/completions/gb.bash
 _gb() {
     local word=${COMP_WORDS[COMP_CWORD]} before=${COMP_WORDS[*]:1:COMP_CWORD-1}
     COMPREPLY=()
+    if [[ ${COMP_WORDS[0]##*/} == gb_ask && $COMP_CWORD == 1 ]]; then
+        COMPREPLY=($(compgen -W 'why tasks graph fmt help' -- "$word"))
+        return
+    fi
+    case ${COMP_WORDS[0]##*/}:${COMP_WORDS[1]} in
+    gb_ask:fmt) COMPREPLY=($(compgen -W '--write --check' -- "$word") $(compgen -f -- "$word")) && return ;;
+    gb_ask:graph) [[ $word == --* ]] && COMPREPLY=($(compgen -W '--tree --mermaid --svg' -- "$word")) ;;
+    esac
     case " $before " in
     *" -- "* | *" -x " | *" --exclude-task " | *" -P " | *" --project-prop ") return ;;
     esac
     if [[ $word == -* ]]; then
         local options='-x --exclude-task -P --project-prop --continue --rerun-tasks -m --dry-run'
-        COMPREPLY=($(compgen -W "$options" -- "$word"))
+        COMPREPLY+=($(compgen -W "$options" -- "$word"))
     fi
 }
-complete -F _gb gb gb_why
+complete -F _gb gb gb_ask

@@ -1,5 +1,5 @@
-# The options of gb and gb_why in fish. In ~/.config/fish/config.fish: source FOLDER/tools/completions/gb.fish
-for command in gb gb_why
+# The words of gb and gb_ask in fish. In ~/.config/fish/config.fish: source FOLDER/tools/completions/gb.fish
+for command in gb gb_ask
     complete -c $command -f
     complete -c $command -s x -l exclude-task -x -d 'Keep this task out'
     complete -c $command -s P -l project-prop -x -d 'The value of a gradleProperty'
@@ -7,3 +7,9 @@ for command in gb gb_why
     complete -c $command -l rerun-tasks -d 'Take no task for up to date'
     complete -c $command -s m -l dry-run -d 'Print which tasks are scheduled'
 end
+complete -c gb_ask -n __fish_use_subcommand -a 'why tasks graph fmt help'
+complete -c gb_ask -n '__fish_seen_subcommand_from graph' -l tree -d 'As an outline'
+complete -c gb_ask -n '__fish_seen_subcommand_from graph' -l mermaid -d 'For Mermaid'
+complete -c gb_ask -n '__fish_seen_subcommand_from graph' -l svg -d 'As a picture'
+complete -c gb_ask -n '__fish_seen_subcommand_from fmt' -F -l write -d 'Write the files that differ'
+complete -c gb_ask -n '__fish_seen_subcommand_from fmt' -F -l check -d 'Name the files that differ'

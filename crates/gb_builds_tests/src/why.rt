@@ -1,14 +1,14 @@
-//! What `gb_why` tells of tasks; that of a whole folder on a disk is told by the run of its own crate.
+//! What `gb_ask why` tells of tasks; that of a whole folder on a disk is told by the run of its own crate.
 use crate::building::{Step, go_on, is_told, put_bytes, words_of};
 use crate::ending::FailingWriter;
 use crate::offering::offered;
 use gb_action::actions::Actions;
+use gb_ask_command::why::run;
 use gb_folder::memory::MemoryFolder;
 use gb_kinds::builtin::Builtin;
 use gb_printer::page::Page;
 use gb_provider::transforms::Transforms;
 use gb_registry::tables::Tables;
-use gb_why_command::run::run;
 use std::alloc::Global;
 use std::test::Fail;
 

@@ -1,4 +1,4 @@
-" Comments and names of the notation, and :make, which goes to the line of a fault.
+" Comments and names of the notation, :make, which goes to the line of a fault, and gq, which formats.
 
 if exists("b:did_ftplugin")
   finish
@@ -7,4 +7,5 @@ let b:did_ftplugin = 1
 
 setlocal comments=:// commentstring=//\ %s iskeyword=@,48-57,_,-
 setlocal makeprg=gb errorformat=REFUSED\ %n\ %m\ %f:%l,%-G%.%#
-let b:undo_ftplugin = "setlocal comments< commentstring< iskeyword< makeprg< errorformat<"
+setlocal formatprg=gb_ask\ fmt\ -
+let b:undo_ftplugin = "setlocal comments< commentstring< iskeyword< makeprg< errorformat< formatprg<"

@@ -1,0 +1,160 @@
+//! What may be asked of the current folder, with the built-in kinds and functions: `gb_ask why`, `tasks`,
+//! `graph` and `fmt`. It changes nothing but by `fmt --write`, and takes no lock.
+#![tactic(auto)]
+
+use gb_action::actions::Actions;
+use gb_action::table::ActionTable;
+use gb_answer::{builtin_actions, builtin_functions};
+use gb_ask_command::words::{Mode, Question, Style, USAGE, mode_of, question_of, style_of};
+use gb_ask_command::{fmt, graph, tasks, why};
+use gb_command::run::UNPRINTED;
+use gb_disk::disk::DiskFolder;
+use gb_folder::folder::Folder;
+use gb_here::words::command_words;
+use gb_kinds::builtin::{Builtin, StoredAction};
+use gb_printer::page::Page;
+use gb_printer::printer::Printer;
+use gb_provider::transforms::Transforms;
+use gb_registry::tables::Tables;
+use std::alloc::{AllocError, Global};
+use std::io::{self, BufWriter, Read};
+use std::process::ExitCode;
+
+/// The most bytes that are read of the input: one more than a script may have.
+const MAX_INPUT: u64 = 1_048_577;
+
+fn main(rt: HostRuntime) -> ExitCode {
+    ExitCode::from(answered(&rt).unwrap_or(UNPRINTED))
+}
+
+/// Answers with all actions.
+fn answered(rt: &HostRuntime) -> Result<u8, AllocError> {
+    answered_with(rt, builtin_actions!(rt.alloc()))
+}
+
+/// Answers with these actions and all functions of values.
+fn answered_with(rt: &HostRuntime, actions: ActionTable<StoredAction>) -> Result<u8, AllocError> {
+    let transforms = builtin_functions!(rt.alloc());
+    answered_by::<Builtin, Builtin>(
+        rt,
+        &Tables {
+            actions,
+            transforms,
+        },
+    )
+}
+
+/// Answers with these tables. The status is 1 also where memory runs out, or nothing can be printed.
+fn answered_by<A: Actions, T: Transforms>(
+    rt: &HostRuntime,
+    tables: &Tables<A, T>,
+) -> Result<u8, AllocError> {
+    let alloc = rt.alloc();
+    let Ok(writer) = BufWriter::new(alloc, io::writer(rt)) else {
+        return Err(AllocError);
+    };
+    let mut page = Page::new(writer);
+    let status = match command_words(rt) {
+        Ok(words) => asked(rt, words, &mut page, tables),
+        Err(_) => Some(2),
+    };
+    if status == Some(2) {
+        page.print(USAGE.as_bytes());
+    }
+    Ok(status.unwrap_or(UNPRINTED))
+}
+
+/// Answers what the first word asks with the others.
+fn asked<A: Actions, T: Transforms, W: Printer>(
+    rt: &HostRuntime,
+    words: Vec<String>,
+    page: &mut W,
+    tables: &Tables<A, T>,
+) -> Option<u8> {
+    let alloc = rt.alloc();
+    let mut folder = DiskFolder::new(rt, String::new(alloc));
+    let (question, words) = parted(words);
+    match question {
+        Question::Why => why::run(alloc, &mut folder, Ok(words), page, tables),
+        Question::Tasks => tasks::run(alloc, &mut folder, Ok(words), page, tables),
+        Question::Graph => drawn(alloc, &mut folder, words, page, tables),
+        Question::Fmt => formatted(rt, &mut folder, words, page),
+        Question::Help => {
+            page.print(USAGE.as_bytes());
+            Some(0)
+        }
+        Question::Unknown => Some(2),
+    }
+}
+
+/// What the first word asks, and the others. No word asks for help.
+fn parted(words: Vec<String>) -> (Question, Vec<String>) {
+    let mut words = words;
+    if words.is_empty() {
+        return (Question::Help, words);
+    }
+    let first = words.remove(0);
+    (question_of(first.as_str()), words)
+}
+
+/// Draws the plan in the style that the first word names, if it names one.
+fn drawn<A: Actions, T: Transforms, F: Folder, W: Printer>(
+    alloc: Global,
+    folder: &mut F,
+    words: Vec<String>,
+    page: &mut W,
+    tables: &Tables<A, T>,
+) -> Option<u8> {
+    let mut words = words;
+    let style = match words.first().and_then(|word| style_of(word.as_str())) {
+        Some(style) => {
+            words.remove(0);
+            style
+        }
+        None => Style::Dot,
+    };
+    graph::run(alloc, folder, style, Ok(words), page, tables)
+}
+
+/// Formats the named files in the mode that the first word names, if it names one.
+fn formatted<F: Folder, W: Printer>(
+    rt: &HostRuntime,
+    folder: &mut F,
+    words: Vec<String>,
+    page: &mut W,
+) -> Option<u8> {
+    let mut names = words;
+    let mode = match names.first().and_then(|word| mode_of(word.as_str())) {
+        Some(mode) => {
+            names.remove(0);
+            mode
+        }
+        None => Mode::Prints,
+    };
+    if names.is_empty() || names.iter().any(|name| is_option(name.as_str())) {
+        return Some(2);
+    }
+    let input = input_for(rt, names.as_slice())?;
+    fmt::run(
+        rt.alloc(),
+        folder,
+        mode,
+        names.as_slice(),
+        input.as_slice(),
+        page,
+    )
+}
+
+/// Whether a word is an option: `-` alone is none.
+fn is_option(word: &str) -> bool {
+    word.starts_with('-') && word != "-"
+}
+
+/// The input, where it is named among the files.
+fn input_for(rt: &HostRuntime, names: &[String]) -> Option<Vec<u8>> {
+    let mut input = Vec::new(rt.alloc());
+    if names.iter().any(|name| name.as_str() == "-") {
+        rt.stdin().take(MAX_INPUT).read_to_end(&mut input).ok()?;
+    }
+    Some(input)
+}

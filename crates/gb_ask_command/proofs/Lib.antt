@@ -1,0 +1,4 @@
+mod Told
+pub mod Numbers
+pub mod Listed
+pub mod Writing

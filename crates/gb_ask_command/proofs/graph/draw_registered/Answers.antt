@@ -1,0 +1,21 @@
+use Rattle.std.proofs.Common.{◌≡◌, List, subst}
+use Rattle.std.specs.Prelude.{IfOk, string_bytes}
+use Rattle.gb_plan.specs.Graph.{Registry}
+use Rattle.gb_plan.specs.Task.{Text}
+use Rattle.gb_registry.specs.Tables.{tables_of}
+use Rattle.gb_declare.specs.Registered.{registry_said}
+use Rattle.gb_project.specs.Scripts.{registry_in}
+use Rattle.gb_ask_command.specs.Graph.{IsDrawing}
+use Rattle.gb_ask_command.proofs.graph.draw_registered.Goals as goal
+
+pub returns : goal.returns
+returns g c =
+    let asked = c.args.asked.now in
+    let style = c.args.style in
+    let tables = tables_of g.T.Transforms.meanings g.A.Actions.meanings c.args.configured.now.tables.now in
+    let declared = registry_in g.T.Transforms.meanings g.A.Actions.meanings c.in_ok-tasks.tasks.workspace in
+    let same : declared ≡ registry_said tables c.args.configured.now.registry = c.in_ok-tasks.ensures.registry in
+    subst (λ (registry : Registry). IfOk c.draw_requested.result (λ text. IsDrawing style registry asked.requested asked.excluded (string_bytes text))) same
+    (subst (λ (words : List Text). IfOk c.draw_requested.result (λ text. IsDrawing style declared asked.requested words (string_bytes text))) c.as_slice-excluded.ensures
+    (subst (λ (words : List Text). IfOk c.draw_requested.result (λ text. IsDrawing style declared words c.as_slice-excluded.result.now (string_bytes text))) c.as_slice-requested.ensures
+    c.draw_requested.ensures))

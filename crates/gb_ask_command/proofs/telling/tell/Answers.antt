@@ -1,0 +1,56 @@
+use Rattle.std.proofs.Common.{◌∙◌, IfErr, IfOk, inl, inr, refl, sym, subst}
+use Rattle.std.proofs.lemmas.Result.{err_from_is_err_and}
+use Rattle.gb_folder.specs.Files.{Contents}
+use Rattle.gb_build.proofs.Readings.{not_read, registered}
+use Rattle.gb_meaning.specs.Edits.{Shown}
+use Rattle.gb_plan.specs.Graph.{IsRegistry, Registry}
+use Rattle.gb_declare.specs.Registered.{registry_said}
+use Rattle.gb_registry.specs.Tables.{tables_of}
+use Rattle.gb_registry.specs.declared.tables.Tables as handed
+use Rattle.gb_ask_command.specs.Told.{Answer, AreToldOf, IsAnswerTo, IsNotTold, in_earnest}
+use Rattle.gb_ask_command.proofs.Told.{answers_it, shows}
+use Rattle.gb_ask_command.proofs.telling.tell.Goals as goal
+
+pub returns-in_err-copied-clause-answer : goal.returns-in_err-copied-clause-answer
+returns-in_err-copied-clause-answer g c =
+    let F = g.F.Folder in
+    let tables = tables_of g.T.Transforms.meanings g.A.Actions.meanings c.args.tables.now in
+    let old : Shown = shows (F.contents c.args.folder.now) (F.failures c.args.folder.now) in
+    let p = err_from_is_err_and c.from_residual.result c.from_residual.ensures.1 in
+    subst (λ (r : Answer). IsAnswerTo tables F.tells c.args.asked.now old r old.failures) (sym p.1) (λ tells. inr (inr (inl p.2)))
+
+pub returns-in_err-configured-clause-answer : goal.returns-in_err-configured-clause-answer
+returns-in_err-configured-clause-answer g c =
+    let F = g.F.Folder in
+    let tables = tables_of g.T.Transforms.meanings g.A.Actions.meanings c.args.tables.now in
+    let old : Shown = shows (F.contents c.args.folder.now) (F.failures c.args.folder.now) in
+    let after = F.failures c.read_registry.new.folder in
+    let residual = c.from_residual-in_err-configured in
+    let p = err_from_is_err_and residual.result residual.ensures.1 in
+    subst (λ (r : Answer). IsAnswerTo tables F.tells c.args.asked.now old r after) (sym p.1)
+    (λ tells. not_read tables old.contents (in_earnest c.args.asked.now) c.into_vec-given.result.items (c.into_vec-given.ensures ∙ c.in_ok-copied.ensures)
+    c.read_registry.result c.in_err-configured.field-0.0 p.0 old.failures after c.in_err-configured.was p.2 c.read_registry.ensures.blamed (c.in_err-configured.ensures.said tells)
+    old refl refl)
+
+pub returns-clause-answer : goal.returns-clause-answer
+returns-clause-answer g c =
+    let F = g.F.Folder in
+    let M = g.A.Actions.meanings in
+    let asked = c.args.asked.now in
+    let source = c.in_ok-configured.configured.registry in
+    let old : Contents = F.contents c.args.folder.now in
+    let mid : Contents = F.contents c.read_registry.new.folder in
+    let later = F.failures c.read_registry.new.folder in
+    let after = F.failures c.tell_registered.new.folder in
+    let result : Answer = c.tell_registered.result in
+    let same = c.in_ok-configured.ensures.tables in
+    let registry_by : handed.Tables _ _ _ _ _ _ _ → Registry = λ given. registry_said (tables_of g.T.Transforms.meanings M given) source in
+    let tables = tables_of g.T.Transforms.meanings M c.args.tables.now in
+    answers_it tables F.tells asked old mid (F.failures c.args.folder.now) later after
+    c.read_registry.ensures.same c.read_registry.ensures.asks.count c.tell_registered.ensures.asks.count (registry_said tables source)
+    (λ tells. registered tables old c.into_vec-given.result.items asked.properties (c.into_vec-given.ensures ∙ c.in_ok-copied.ensures) source (c.in_ok-configured.ensures.said tells))
+    result
+    (subst (λ given. IfOk result (λ told. IsRegistry (registry_by given))) same c.tell_registered.ensures.sound)
+    (subst (λ (given : handed.Tables _ _ _ _ _ _ _). IfOk result (λ told. AreToldOf F.tells M given.actions (registry_by given) asked.requested asked.excluded asked.options (shows mid later) after told.items))
+    same c.tell_registered.ensures.told)
+    (subst (λ given. IfErr result (IsNotTold (registry_by given) asked.requested asked.excluded later after)) same c.tell_registered.ensures.not_told)

@@ -1,0 +1,117 @@
+-- What is told of the tasks of a plan, and what is answered.
+use Rattle.std.specs.Prelude.{ℕ, ◌≡◌, ◌⊎◌, Bool, false, IsTrue, List, map, Option, Result, Ok, Err}
+use Rattle.std.specs.Prelude.{if◌then◌else◌, nat_eq}
+use Rattle.std.specs.Global.{Global}
+use Rattle.std.specs.List.{AllByRecursion, AllZip, flat_map}
+use Rattle.std.specs.declared.vec.Vec.{Vec}
+use Rattle.gb_action.specs.Meanings.{Meanings}
+use Rattle.gb_answer.specs.Answer.{not_built_text}
+use Rattle.gb_command.specs.Answered.{AreRefused, AskFor, Given}
+use Rattle.gb_foretell.specs.Foretold.{AreForetold, IsReasoned}
+use Rattle.gb_foretell.specs.Marks.{AreMarked}
+use Rattle.gb_foretell.specs.declared.coming.Foretold.{Foretold}
+use Rattle.gb_graph.specs.Answer.{IsPlanOf, IsRefusalOf}
+use Rattle.gb_history.specs.Record.{Record}
+use Rattle.gb_build.specs.Registering.{registers_in}
+use Rattle.gb_build.specs.Refusing.{IsUnread}
+use Rattle.gb_meaning.specs.Edits.{Shown}
+use Rattle.gb_meaning.specs.Events.{IsNotBuilt}
+use Rattle.gb_meaning.specs.Headline.{Agrees}
+use Rattle.gb_meaning.specs.Kinds.{Kinds}
+use Rattle.gb_meaning.specs.TrueRecord.{outside}
+use Rattle.gb_meaning.specs.declared.events.Invocation.{Invocation}
+use Rattle.gb_plan.specs.Graph.{IsRegistry, Plan, Registry, order}
+use Rattle.gb_plan.specs.Ready.{Rows}
+use Rattle.gb_plan.specs.Task.{Text}
+use Rattle.gb_records.specs.Said.{IsReadAt}
+use Rattle.gb_registry.specs.Tables.{Tables}
+use Rattle.gb_report.specs.Fault.{fault_number}
+use Rattle.gb_report.specs.declared.fault.Fault.{Fault}
+use Rattle.gb_report.specs.declared.report.Options.{Options}
+use Rattle.gb_ask_command.specs.Line.{line_text}
+
+-- what is told of each task, or why a build would be refused
+abbrev pub Answer : Type 0
+Answer = Result (Vec Foretold Global) Fault
+
+-- ---- What is printed
+
+-- the lines of the tasks, or the refusal as builds print it
+abbrev pub why_text : Answer → List ℕ
+why_text (Ok told) = flat_map line_text told.items
+why_text (Err fault) = not_built_text fault
+
+-- the status: 0 where tasks are told, 2 for words that ask for no build that is known (96), and else 1
+abbrev pub status_of : Answer → ℕ
+status_of (Ok told) = 0
+status_of (Err fault) = if nat_eq (fault_number fault) 96 then 2 else 1
+
+-- ---- What is told
+
+-- Each task of the plan is told what its turn would come to on the folder as it stands, by the records that
+-- stand there; the device fails up to this count.
+pub record AreToldOn {S : Type 0} (meanings : Meanings S) (rows : Rows S) (options : Options) (old : Shown)
+    (after : ℕ) (plan : Plan) (told : List Foretold) : Type 0 where
+  pub records : List (Option Record)
+  pub read : AllZip (IsReadAt old.contents.files) (order plan) records
+  pub foretold : (kinds : Kinds) → Agrees meanings rows kinds
+      → AreForetold kinds options old.contents old.failures after plan records told
+
+-- Over any folder: the tasks of the plan are told in its order, with a reason where one runs for reasons, and
+-- each after the first that may change what it reads. Where the folder tells, they are told on it.
+pub record AreTold {S : Type 0} (tells : Bool) (meanings : Meanings S) (rows : Rows S) (options : Options)
+    (old : Shown) (after : ℕ) (plan : Plan) (told : List Foretold) : Type 0 where
+  pub paths : map (λ one. one.path) told ≡ order plan
+  pub reasoned : AllByRecursion (λ one. IsReasoned one.coming) told
+  pub marked : AreMarked plan told
+  pub foretold : IsTrue tells → AreToldOn meanings rows options old after plan told
+
+-- those of the plan of what is asked of a registry
+abbrev pub AreToldOf : {S : Type 0} → Bool → Meanings S → Rows S → Registry → List Text → List Text → Options
+    → Shown → ℕ → List Foretold → Type 0
+AreToldOf tells meanings rows registry requested excluded options old after told =
+    (plan : Plan) × IsPlanOf registry requested excluded plan
+    × AreTold tells meanings rows options old after plan told
+
+-- ---- What is answered
+
+-- what is asked of this registry is refused, or the records of its tasks could not be read
+abbrev pub IsNotTold : Registry → List Text → List Text → ℕ → ℕ → Fault → Type 0
+IsNotTold registry requested excluded before after fault =
+    IsRefusalOf registry requested excluded fault ⊎ IsUnread false before after fault
+
+-- the same in earnest, whether a dry run is asked for or not
+abbrev pub in_earnest : Invocation → Invocation
+in_earnest asked = record {
+  requested = asked.requested;
+  excluded = asked.excluded;
+  properties = asked.properties;
+  options = record {
+    keep_going = asked.options.keep_going;
+    rerun = asked.options.rerun;
+    dry_run = false;
+  };
+}
+
+module _ {M F Z S A : Type 0} (tables : Tables M F Z S A) (tells : Bool) where
+  -- The tasks of the plan of what is asked of some registry are told. Where the folder tells, it is that of
+  -- its scripts.
+  pub record IsTold (asked : Invocation) (old : Shown) (after : ℕ) (told : List Foretold) : Type 0 where
+    pub registry : Registry
+    pub is_registry : IsRegistry registry
+    pub scripts : IsTrue tells
+        → registers_in tables (outside old.contents).files asked.properties (Ok registry)
+    pub told_of : AreToldOf tells tables.shapes tables.kinds registry asked.requested asked.excluded
+        asked.options old after told
+
+  -- what is asked for is told; or where the folder tells, a build of it is refused for this
+  abbrev pub IsAnswerTo : Invocation → Shown → Answer → ℕ → Type 0
+  IsAnswerTo asked old (Ok told) after = IsTold asked old after told.items
+  IsAnswerTo asked old (Err fault) after =
+      IsTrue tells → IsNotBuilt (registers_in tables) old (in_earnest asked) fault after
+
+  -- the words are refused, or they ask for something, and this is the answer to it
+  abbrev pub Answers : Given → Shown → Answer → ℕ → Type 0
+  Answers given old answer after =
+      ((fault : Fault) × AreRefused given fault × (answer ≡ Err fault))
+      ⊎ ((asked : Invocation) × AskFor given asked × IsAnswerTo asked old answer after)

@@ -1,0 +1,30 @@
+-- What the words behind the program's name ask.
+use Rattle.std.specs.Prelude.{ℕ, ◌||◌, List, Option, Some, None, bytes_eq, codes, if◌then◌else◌}
+use Rattle.gb_ask_command.specs.declared.words.Mode.{Mode}
+use Rattle.gb_ask_command.specs.declared.words.Mode.TheVariants as modes
+use Rattle.gb_ask_command.specs.declared.words.Question.{Question}
+use Rattle.gb_ask_command.specs.declared.words.Question.TheVariants as questions
+use Rattle.gb_ask_command.specs.declared.words.Style.{Style}
+use Rattle.gb_ask_command.specs.declared.words.Style.TheVariants as styles
+
+abbrev pub question_of : List ℕ → Question
+question_of word =
+    if bytes_eq word (codes "why") then questions.Why
+    else if bytes_eq word (codes "fmt") then questions.Fmt
+    else if bytes_eq word (codes "tasks") then questions.Tasks
+    else if bytes_eq word (codes "graph") then questions.Graph
+    else if bytes_eq word (codes "help") || bytes_eq word (codes "--help") then questions.Help
+    else questions.Unknown
+
+abbrev pub style_of : List ℕ → Option Style
+style_of word =
+    if bytes_eq word (codes "--tree") then Some styles.Tree
+    else if bytes_eq word (codes "--mermaid") then Some styles.Mermaid
+    else if bytes_eq word (codes "--svg") then Some styles.Svg
+    else None
+
+abbrev pub mode_of : List ℕ → Option Mode
+mode_of word =
+    if bytes_eq word (codes "--write") then Some modes.Writes
+    else if bytes_eq word (codes "--check") then Some modes.Checks
+    else None

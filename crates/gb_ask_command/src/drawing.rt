@@ -1,0 +1,44 @@
+//! The graph of a plan.
+ghost use Rattle.std.specs.Prelude.{IfOk, string_bytes};
+ghost use Rattle.gb_ask_command.specs.Graph.{IsDrawing, IsPicture};
+
+use crate::nodes::nodes_of;
+use crate::reply::Reply;
+use crate::words::Style;
+use gb_core::text::Text;
+use gb_graph::plan::plan;
+use gb_graph::tasks::Tasks;
+use gb_picture::dot::dot_of;
+use gb_picture::graph::Node;
+use gb_picture::mermaid::mermaid_of;
+use gb_picture::outline::outline_of;
+use gb_picture::svg::svg_of;
+use std::alloc::{AllocError, Global};
+
+/// The graph of the plan of what is asked of registered tasks.
+pub(crate) fn draw_requested<Ts: Tasks>(
+    alloc: Global,
+    style: Style,
+    tasks: &mut Ts,
+    requested: &[Text],
+    excluded: &[Text],
+) -> Reply
+    ensures { IfOk result (λ text.
+        IsDrawing style (Ts.registry tasks.old) requested.now excluded.now (string_bytes text)) }
+{
+    let plan = plan(alloc, tasks, requested, excluded)?;
+    let nodes = nodes_of(alloc, plan.as_slice())?;
+    Ok(picture(alloc, style, nodes.as_slice())?)
+}
+
+/// The graph of these nodes.
+fn picture(alloc: Global, style: Style, nodes: &[Node]) -> Result<String, AllocError>
+    ensures { IfOk result (λ text. IsPicture style nodes.now (string_bytes text)) }
+{
+    match style {
+        Style::Dot => dot_of(alloc, nodes),
+        Style::Tree => outline_of(alloc, nodes),
+        Style::Mermaid => mermaid_of(alloc, nodes),
+        Style::Svg => svg_of(alloc, nodes),
+    }
+}

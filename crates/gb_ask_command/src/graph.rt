@@ -1,0 +1,109 @@
+//! The plan of what is asked for, as a graph.
+ghost use Rattle.std.specs.Prelude.{◌≡◌, IfOk, IfSome, IsTrue, map, string_bytes};
+ghost use Rattle.std.specs.Io.KnownBytes.{Appends};
+ghost use Rattle.gb_command.specs.Answered.{given_of};
+ghost use Rattle.gb_declare.specs.Registered.{registry_said};
+ghost use Rattle.gb_folder.specs.Calls.{Asks, no_change};
+ghost use Rattle.gb_printer.specs.Printing.{Prints};
+ghost use Rattle.gb_registry.specs.Tables.{tables_of};
+ghost use Rattle.gb_ask_command.specs.Graph.{IsDrawing};
+ghost use Rattle.gb_ask_command.specs.Reply.{Reply as Replied, reply_status, reply_text};
+ghost use Rattle.gb_ask_command.specs.Replies.{IsGraphReply, RepliesGraph};
+
+use crate::drawing::draw_requested;
+use crate::reply::{Reply, print_reply};
+use crate::words::Style;
+use gb_action::actions::Actions;
+use gb_build::reading::read_registry;
+use gb_command::run::asked_by;
+use gb_folder::folder::Folder;
+use gb_meaning::events::Invocation;
+use gb_printer::printer::Printer;
+use gb_project::script_tasks::ScriptTasks;
+use gb_provider::transforms::Transforms;
+use gb_registry::configured::Configured;
+use gb_registry::tables::Tables;
+use gb_report::fault::Fault;
+use std::alloc::Global;
+
+/// Prints the plan of what the words ask for as a graph in this style. The status is 0, or 1 where a build of
+/// it would be refused, and 2 where the words ask for none that is known.
+pub fn run<A: Actions, T: Transforms, F: Folder, W: Printer>(
+    alloc: Global,
+    folder: &mut F,
+    style: Style,
+    words: Result<Vec<String>, Fault>,
+    writer: &mut W,
+    tables: &Tables<A, T>,
+) -> Option<u8>
+    // Over any folder no change is asked for.
+    ensures asks { Asks F.failures F.may_leave F.asked no_change folder.old folder.new }
+    ensures same { IsTrue F.tells → F.contents folder.new ≡ F.contents folder.old }
+    ensures told { (reply : Replied)
+        × RepliesGraph (tables_of T.meanings A.meanings tables.now) F.tells style
+        (given_of (λ words. map string_bytes words.items) words)
+        (F.contents folder.old).files reply
+        × Prints W.contents W.whole (reply_text reply) writer.old writer.new
+        × IfSome result (λ status.
+        Appends (W.contents writer.old) (W.contents writer.new) (reply_text reply)
+        × (status ≡ reply_status reply)) }
+{
+    let reply = replied(alloc, folder, style, words, tables);
+    let status = print_reply(alloc, writer, &reply);
+    drop(reply);
+    status
+}
+
+fn replied<A: Actions, T: Transforms, F: Folder>(
+    alloc: Global,
+    folder: &mut F,
+    style: Style,
+    words: Result<Vec<String>, Fault>,
+    tables: &Tables<A, T>,
+) -> Reply
+    ensures asks { Asks F.failures F.may_leave F.asked no_change folder.old folder.new }
+    ensures same { IsTrue F.tells → F.contents folder.new ≡ F.contents folder.old }
+    ensures replies { RepliesGraph (tables_of T.meanings A.meanings tables.now) F.tells style
+        (given_of (λ words. map string_bytes words.items) words)
+        (F.contents folder.old).files result }
+{
+    match asked_by(alloc, words) {
+        Ok(asked) => draw(alloc, folder, style, tables, &asked),
+        Err(fault) => Err(fault),
+    }
+}
+
+/// The graph of what is asked for, over the scripts of a folder.
+fn draw<A: Actions, T: Transforms, F: Folder>(
+    alloc: Global,
+    folder: &mut F,
+    style: Style,
+    tables: &Tables<A, T>,
+    asked: &Invocation,
+) -> Reply
+    ensures asks { Asks F.failures F.may_leave F.asked no_change folder.old folder.new }
+    ensures same { IsTrue F.tells → F.contents folder.new ≡ F.contents folder.old }
+    ensures reply { IsGraphReply (tables_of T.meanings A.meanings tables.now) F.tells style asked.now
+        (F.contents folder.old).files result }
+{
+    let copied = asked.properties.copy(alloc)?;
+    let given = copied.into_vec();
+    let configured = read_registry(alloc, folder, tables, given)?;
+    draw_registered(alloc, style, &configured, asked)
+}
+
+fn draw_registered<A: Actions, T: Transforms>(
+    alloc: Global,
+    style: Style,
+    configured: &Configured<'_, A, T>,
+    asked: &Invocation,
+) -> Reply
+    ensures { let tables = tables_of T.meanings A.meanings configured.now.tables.now in
+        IfOk result (λ text. IsDrawing style (registry_said tables configured.now.registry)
+        asked.now.requested asked.now.excluded (string_bytes text)) }
+{
+    let mut tasks = ScriptTasks::declare(alloc, configured)?;
+    let requested = asked.requested.as_slice();
+    let excluded = asked.excluded.as_slice();
+    draw_requested(alloc, style, &mut tasks, requested, excluded)
+}

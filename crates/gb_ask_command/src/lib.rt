@@ -1,0 +1,16 @@
+//! What may be asked of a folder: what each task of a build would come to and why, which tasks there are,
+//! the plan as a picture, and the layout of scripts. Nothing is changed but by `fmt --write`.
+#![tactic(auto)]
+
+mod answer;
+mod drawing;
+pub mod fmt;
+pub mod graph;
+mod line;
+mod listing;
+mod nodes;
+mod reply;
+pub mod tasks;
+mod telling;
+pub mod why;
+pub mod words;

@@ -1,0 +1,87 @@
+//! The line of a task.
+ghost use Rattle.std.specs.Prelude.{◌≡◌, ◌++◌, OnOk, string_bytes};
+ghost use Rattle.gb_ask_command.specs.Line.{after_text, coming_text, line_text, more_text, reasons_text};
+ghost use Rattle.gb_ask_command.specs.Line.{runs_text, way};
+
+use gb_core::path::TaskPath;
+use gb_foretell::coming::{Coming, Foretold};
+use gb_reason::reason::Reason;
+use gb_reason::text::push_reason;
+use std::alloc::AllocError;
+use std::fmt::Write;
+
+/// Puts the line of a task behind a text.
+pub(crate) fn push_line(text: &mut String, told: &Foretold) -> Result<(), AllocError>
+    ensures { OnOk result (string_bytes text.new ≡ string_bytes text.old ++ line_text told.now) }
+{
+    let path = &told.path;
+    write!(text, "{path}")?;
+    push_coming(text, &told.coming)?;
+    push_after(text, &told.after)?;
+    text.push('\n')
+}
+
+/// What a task comes to.
+fn push_coming(text: &mut String, coming: &Coming) -> Result<(), AllocError>
+    ensures { OnOk result (string_bytes text.new ≡ string_bytes text.old ++ coming_text coming.now) }
+{
+    match coming {
+        Coming::Skips => write!(text, " SKIPPED: onlyIf is false"),
+        Coming::HasNoActions => write!(text, " has no actions"),
+        Coming::HasNoSource => write!(text, " NO-SOURCE"),
+        Coming::CannotRead(fault) => write!(text, " cannot be read: {fault}"),
+        Coming::UpToDate => write!(text, " UP-TO-DATE"),
+        Coming::HasGrown => write!(text, " runs: outputs are too large or too many"),
+        Coming::Runs(by_changes, reasons) => push_runs(text, *by_changes, reasons.as_slice()),
+    }
+}
+
+/// That a task runs, and why.
+fn push_runs(text: &mut String, by_changes: bool, reasons: &[Reason]) -> Result<(), AllocError>
+    ensures { OnOk result
+        (string_bytes text.new ≡ string_bytes text.old ++ runs_text by_changes reasons.now) }
+{
+    text.push_str(way(by_changes))?;
+    push_reasons(text, reasons)
+}
+
+/// How a task runs.
+fn way(by_changes: bool) -> &'static str
+    ensures { result.now ≡ way by_changes }
+{
+    if by_changes {
+        " runs by changes: "
+    } else {
+        " runs: "
+    }
+}
+
+/// The first reason, and how many more there are.
+fn push_reasons(text: &mut String, reasons: &[Reason]) -> Result<(), AllocError>
+    ensures { OnOk result (string_bytes text.new ≡ string_bytes text.old ++ reasons_text reasons.now) }
+{
+    let Some((first, others)) = reasons.split_first() else {
+        return Ok(());
+    };
+    push_reason(text, first)?;
+    push_more(text, others.len())
+}
+
+fn push_more(text: &mut String, count: usize) -> Result<(), AllocError>
+    ensures { OnOk result (string_bytes text.new ≡ string_bytes text.old ++ more_text count) }
+{
+    if count == 0 {
+        return Ok(());
+    }
+    write!(text, ", and {count} more")
+}
+
+/// After which other task it is told.
+fn push_after(text: &mut String, after: &Option<TaskPath>) -> Result<(), AllocError>
+    ensures { OnOk result (string_bytes text.new ≡ string_bytes text.old ++ after_text after.now) }
+{
+    match after {
+        Some(path) => write!(text, " (after {path})"),
+        None => Ok(()),
+    }
+}

@@ -1,0 +1,58 @@
+//! A text that is printed, or a refusal.
+ghost use Rattle.std.specs.Prelude.{◌≡◌, Err, IfSome};
+ghost use Rattle.std.specs.Io.KnownBytes.{Appends};
+ghost use Rattle.gb_printer.specs.Printing.{Prints};
+ghost use Rattle.gb_ask_command.specs.Reply.{reply_status, reply_text};
+
+use gb_answer::answer::refusal_text;
+use gb_printer::printer::Printer;
+use gb_report::fault::Fault;
+use std::alloc::Global;
+
+/// A text, or why there is none.
+pub(crate) type Reply = Result<String, Fault>;
+
+/// Prints a text or a refusal, and answers its status. Where not all can be printed there is none.
+pub(crate) fn print_reply<W: Printer>(alloc: Global, writer: &mut W, reply: &Reply) -> Option<u8>
+    ensures prints { Prints W.contents W.whole (reply_text reply.now) writer.old writer.new }
+    ensures status { IfSome result (λ status.
+        Appends (W.contents writer.old) (W.contents writer.new) (reply_text reply.now)
+        × (status ≡ reply_status reply.now)) }
+{
+    push_reply(alloc, writer, reply);
+    let status = reply_status(reply);
+    if writer.is_whole() {
+        Some(status)
+    } else {
+        None
+    }
+}
+
+fn push_reply<W: Printer>(alloc: Global, writer: &mut W, reply: &Reply)
+    ensures { Prints W.contents W.whole (reply_text reply.now) writer.old writer.new }
+{
+    match reply {
+        Ok(text) => writer.print(text.as_bytes()),
+        Err(fault) => push_refusal(alloc, writer, fault),
+    }
+}
+
+fn push_refusal<W: Printer>(alloc: Global, writer: &mut W, fault: &Fault)
+    ensures { Prints W.contents W.whole (reply_text (Err fault.now)) writer.old writer.new }
+{
+    match refusal_text(alloc, fault) {
+        Ok(text) => writer.print(text.as_slice()),
+        Err(_) => writer.give_up(),
+    }
+}
+
+/// The status of a reply: 0 where there is a text, 2 for words that ask for nothing that is known, else 1.
+fn reply_status(reply: &Reply) -> u8
+    ensures { result ≡ reply_status reply.now }
+{
+    match reply {
+        Ok(_) => 0,
+        Err(Fault::Usage) => 2,
+        Err(_) => 1,
+    }
+}

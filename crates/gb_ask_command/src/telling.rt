@@ -1,0 +1,135 @@
+//! What is told of what is asked for.
+ghost use Rattle.std.specs.Prelude.{◌≡◌, false, IfErr, IfOk, IsTrue};
+ghost use Rattle.std.specs.List.{AllByRecursion};
+ghost use Rattle.gb_turn.specs.Buildable.{IsBuildable};
+ghost use Rattle.gb_folder.specs.Calls.{Asks, no_change};
+ghost use Rattle.gb_build.specs.Asking.{AreBuildable};
+ghost use Rattle.gb_build.specs.Refusing.{IsUnread};
+ghost use Rattle.gb_plan.specs.Graph.{IsRegistry, order};
+ghost use Rattle.gb_declare.specs.Registered.{registry_said};
+ghost use Rattle.gb_registry.specs.Tables.{tables_of};
+ghost use Rattle.gb_ask_command.specs.Told.{AreTold, AreToldOf, IsAnswerTo, IsNotTold};
+
+use crate::answer::Answer;
+use gb_action::actions::Actions;
+use gb_action::table::ActionTable;
+use gb_build::reading::read_registry;
+use gb_core::name::Name;
+use gb_core::path::TaskPath;
+use gb_core::text::Text;
+use gb_folder::folder::Folder;
+use gb_foretell::foretell::foretell;
+use gb_graph::plan::plan;
+use gb_graph::tasks::Tasks;
+use gb_meaning::events::{Invocation, Properties};
+use gb_plan::plan::{Planned, paths_of};
+use gb_project::script_tasks::ScriptTasks;
+use gb_provider::transforms::Transforms;
+use gb_records::reading::read_records;
+use gb_registry::configured::Configured;
+use gb_registry::tables::Tables;
+use gb_report::report::Options;
+use std::alloc::{AllocError, Global};
+
+/// Reads the scripts of a folder with the values that are given, and tells what is asked of the tasks that
+/// they register. Refused as a build of it is.
+pub(crate) fn tell<A: Actions, T: Transforms, F: Folder>(
+    alloc: Global,
+    folder: &mut F,
+    tables: &Tables<A, T>,
+    asked: &Invocation,
+) -> Answer
+    ensures asks { Asks F.failures F.may_leave F.asked no_change folder.old folder.new }
+    ensures same { IsTrue F.tells → F.contents folder.new ≡ F.contents folder.old }
+    ensures answer { IsAnswerTo (tables_of T.meanings A.meanings tables.now) F.tells asked.now
+        (record { contents = F.contents folder.old; failures = F.failures folder.old })
+        result (F.failures folder.new) }
+{
+    let copied = asked.properties.copy(alloc)?;
+    let given = copied.into_vec();
+    let configured = read_registry(alloc, folder, tables, given)?;
+    tell_registered(alloc, folder, &configured, asked)
+}
+
+/// Tells what is asked of the tasks of these scripts.
+fn tell_registered<A: Actions, T: Transforms, F: Folder>(
+    alloc: Global,
+    folder: &mut F,
+    configured: &Configured<'_, A, T>,
+    asked: &Invocation,
+) -> Answer
+    ensures asks { Asks F.failures F.may_leave F.asked no_change folder.old folder.new }
+    ensures same { IsTrue F.tells → F.contents folder.new ≡ F.contents folder.old }
+    ensures sound { let tables = tables_of T.meanings A.meanings configured.now.tables.now in
+        IfOk result (λ _. IsRegistry (registry_said tables configured.now.registry)) }
+    ensures told { let tables = tables_of T.meanings A.meanings configured.now.tables.now in
+        IfOk result (λ told. AreToldOf F.tells A.meanings configured.now.tables.now.actions
+        (registry_said tables configured.now.registry)
+        asked.now.requested asked.now.excluded asked.now.options
+        (record { contents = F.contents folder.old; failures = F.failures folder.old })
+        (F.failures folder.new) told.items) }
+    ensures not_told { let tables = tables_of T.meanings A.meanings configured.now.tables.now in
+        IfErr result (IsNotTold (registry_said tables configured.now.registry)
+        asked.now.requested asked.now.excluded (F.failures folder.old) (F.failures folder.new)) }
+{
+    let _scripts = configured.registry.scripts();
+    let mut tasks = ScriptTasks::declare(alloc, configured)?;
+    let requested = asked.requested.as_slice();
+    let excluded = asked.excluded.as_slice();
+    tell_requested::<A, F, _>(
+        alloc,
+        folder,
+        &mut tasks,
+        &configured.tables.actions,
+        requested,
+        excluded,
+        asked.options,
+    )
+}
+
+/// Tells what is asked of registered tasks.
+fn tell_requested<A: Actions, F: Folder, Ts: Tasks>(
+    alloc: Global,
+    folder: &mut F,
+    tasks: &mut Ts,
+    table: &ActionTable<A::Stored>,
+    requested: &[Text],
+    excluded: &[Text],
+    options: Options,
+) -> Answer
+    requires { AreBuildable A.meanings table.now (Ts.registry tasks.old) }
+    ensures asks { Asks F.failures F.may_leave F.asked no_change folder.old folder.new }
+    ensures same { IsTrue F.tells → F.contents folder.new ≡ F.contents folder.old }
+    ensures told { IfOk result (λ told. AreToldOf F.tells A.meanings table.now (Ts.registry tasks.old)
+        requested.now excluded.now options
+        (record { contents = F.contents folder.old; failures = F.failures folder.old })
+        (F.failures folder.new) told.items) }
+    ensures not_told { IfErr result (IsNotTold (Ts.registry tasks.old) requested.now excluded.now
+        (F.failures folder.old) (F.failures folder.new)) }
+{
+    let plan = plan(alloc, tasks, requested, excluded)?;
+    tell_planned::<A, F>(alloc, folder, plan.as_slice(), table, options)
+}
+
+/// Tells the tasks of a plan, by the records that stand.
+fn tell_planned<A: Actions, F: Folder>(
+    alloc: Global,
+    folder: &mut F,
+    plan: &[Planned],
+    table: &ActionTable<A::Stored>,
+    options: Options,
+) -> Answer
+    requires { AllByRecursion (λ planned. IsBuildable A.meanings table.now planned.task) plan.now }
+    ensures asks { Asks F.failures F.may_leave F.asked no_change folder.old folder.new }
+    ensures same { IsTrue F.tells → F.contents folder.new ≡ F.contents folder.old }
+    ensures told { IfOk result (λ told. AreTold F.tells A.meanings table.now options
+        (record { contents = F.contents folder.old; failures = F.failures folder.old })
+        (F.failures folder.new) plan.now told.items) }
+    ensures unread { IfErr result
+        (IsUnread false (F.failures folder.old) (F.failures folder.new)) }
+{
+    let paths = paths_of(alloc, plan)?;
+    let records = read_records(alloc, folder, paths.as_slice())?;
+    let told = foretell::<A, F>(alloc, folder, plan, table, options, records.as_slice())?;
+    Ok(told)
+}

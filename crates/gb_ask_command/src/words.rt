@@ -1,0 +1,93 @@
+//! The words behind the program's name.
+ghost use Rattle.std.specs.Prelude.{◌≡◌, string_bytes};
+ghost use Rattle.gb_ask_command.specs.Words.{mode_of, question_of, style_of};
+
+/// What is asked.
+#[derive(Clone, Copy, Debug, PartialEq, Eq)]
+pub enum Question {
+    /// What each task would come to, and why.
+    Why,
+    /// The layout of scripts.
+    Fmt,
+    /// The registered tasks.
+    Tasks,
+    /// The plan as a graph.
+    Graph,
+    /// How to ask.
+    Help,
+    /// Nothing that is known.
+    Unknown,
+}
+
+/// How a graph is written.
+#[derive(Clone, Copy, Debug, PartialEq, Eq)]
+pub enum Style {
+    /// For Graphviz.
+    Dot,
+    /// As an outline.
+    Tree,
+    /// For Mermaid.
+    Mermaid,
+    /// As a picture.
+    Svg,
+}
+
+/// What is done with formatted files.
+#[derive(Clone, Copy, Debug, PartialEq, Eq)]
+pub enum Mode {
+    /// They are printed.
+    Prints,
+    /// Those that differ are written.
+    Writes,
+    /// Those that differ are named.
+    Checks,
+}
+
+/// What the first word asks.
+pub fn question_of(word: &str) -> Question
+    ensures { result ≡ question_of word.now }
+{
+    match word {
+        "why" => Question::Why,
+        "fmt" => Question::Fmt,
+        "tasks" => Question::Tasks,
+        "graph" => Question::Graph,
+        "help" | "--help" => Question::Help,
+        _ => Question::Unknown,
+    }
+}
+
+/// The style that an option names, if it is one of a style.
+pub fn style_of(word: &str) -> Option<Style>
+    ensures { result ≡ style_of word.now }
+{
+    match word {
+        "--tree" => Some(Style::Tree),
+        "--mermaid" => Some(Style::Mermaid),
+        "--svg" => Some(Style::Svg),
+        _ => None,
+    }
+}
+
+/// The mode that an option names, if it is one of a mode.
+pub fn mode_of(word: &str) -> Option<Mode>
+    ensures { result ≡ mode_of word.now }
+{
+    match word {
+        "--write" => Some(Mode::Writes),
+        "--check" => Some(Mode::Checks),
+        _ => None,
+    }
+}
+
+/// How to ask.
+pub const USAGE: &str = "\
+gb_ask why [WORD ..]       what each task would come to, and why it would run
+gb_ask tasks [WORD ..]     every registered task, what it does and what it makes
+gb_ask graph [--tree | --mermaid | --svg] [WORD ..]
+                           the plan as a graph: for Graphviz, where no form is named
+gb_ask fmt [--write | --check] FILE ..
+                           the files in one layout; `-` is standard input
+gb_ask help                this text
+A WORD is one of gb's: a task, or an option as -x TASK, -P NAME=VALUE, --rerun-tasks
+";

@@ -1,0 +1,95 @@
+-- The comments and tokens of a text as they are written, and how the text is written anew.
+use Rattle.std.specs.Prelude.{◌≡◌, ℕ, Bool, ◌==◌, List, [], ◌∷◌, ◌++◌, map, Option, None, Some, if◌then◌else◌}
+use Rattle.gb_script.specs.Lexing.{is_blank, Piece, written, Stands, IsCut}
+use Rattle.gb_format.specs.declared.fits.Item.{Item}
+use Rattle.gb_format.specs.declared.kind.Kind.{Kind}
+use Rattle.gb_format.specs.declared.kind.Kind.TheVariants as kinds
+use Rattle.gb_format.specs.declared.rule.Apart.{Apart}
+use Rattle.gb_format.specs.declared.rule.Apart.TheVariants.{Beside, Below, Away}
+use Rattle.gb_format.specs.declared.rule.Rule.{Rule}
+use Rattle.gb_format.specs.declared.rule.Rule.TheVariants.{Close, Space, Line, Part, Behind}
+use Rattle.gb_format.specs.declared.state.State.{State}
+use Rattle.gb_format.specs.Kinds.{kind_of}
+use Rattle.gb_format.specs.Layout.{trimmed, gap_of}
+use Rattle.gb_format.specs.Pieces.{pieces_of}
+use Rattle.gb_format.specs.Rules.{step, first_state}
+
+-- each comment and token: how it is separated from the one before, and what is written
+abbrev pub Shown : Type 0
+Shown = List (Apart × List ℕ)
+
+-- ---- of a text
+
+-- one newline more
+abbrev pub further : Apart → Apart
+further Beside = Below
+further Below = Away
+further Away = Away
+
+-- what separates what comes next, after this blank; nothing where it is no blank
+abbrev pub gap_after : Apart → List ℕ → Option Apart
+gap_after a [] = None
+gap_after a (b ∷ bs) =
+    if b == 10 then Some (further a) else (if is_blank b then Some a else None)
+
+abbrev pub shown_next : Option Apart → Apart → List ℕ → (Apart → Shown) → Shown
+shown_next None a t more = (a, trimmed t) ∷ more Beside
+shown_next (Some b) a t more = more b
+
+-- those of these pieces, after white space that separates so
+abbrev pub shown_from : Apart → List Piece → Shown
+shown_from a [] = []
+shown_from a (p ∷ ps) = shown_next (gap_after a (written p)) a (written p) (λ b. shown_from b ps)
+
+abbrev pub shown_in : List ℕ → Shown
+shown_in text = shown_from Beside (pieces_of text)
+
+-- those that were found
+abbrev pub shown : List Item → Shown
+shown items = map (λ i. (i.apart, i.text.now)) items
+
+-- the text ends so
+abbrev pub EndsWith : List ℕ → List ℕ → Type 0
+EndsWith text rest = (front : List ℕ) × (text ≡ front ++ rest)
+
+-- a piece is at the front
+pub record HasFront (text : List ℕ) : Type 0 where
+  pub piece : Piece
+  pub after : List ℕ
+  pub whole : text ≡ written piece ++ after
+  pub stands : Stands piece after
+
+-- the text is cut to its end
+pub record IsWhole (text : List ℕ) : Type 0 where
+  pub pieces : List Piece
+  pub cut : IsCut text pieces []
+
+-- ---- written anew
+
+abbrev pub texts : Shown → List (List ℕ)
+texts xs = map (λ x. x.1) xs
+
+-- the rule between two: after a comment there is a new line, and between two words a space
+abbrev pub mended : Kind → Rule → Kind → Rule
+mended kinds.Comment Close k = Part 0
+mended kinds.Comment Space k = Part 0
+mended kinds.Comment (Line d) k = Line d
+mended kinds.Comment (Part d) k = Part d
+mended kinds.Comment (Behind d) k = Part d
+mended kinds.Word Close kinds.Word = Space
+mended before r k = r
+
+-- each after the white space of its rule
+abbrev pub typeset_from : State → Kind → Shown → List ℕ
+typeset_from s k [] = []
+typeset_from s k (x ∷ xs) =
+    gap_of (mended k (step s k x.0 x.1 (texts xs)).rule (kind_of x.1)) x.0
+    ++ (x.1 ++ typeset_from (step s k x.0 x.1 (texts xs)).state (kind_of x.1) xs)
+
+-- the state after the first
+abbrev pub state_after : List ℕ → List (List ℕ) → State
+state_after t ts = (step first_state kinds.Sign Beside t ts).state
+
+abbrev pub typeset : Shown → List ℕ
+typeset [] = []
+typeset (x ∷ xs) = x.1 ++ (typeset_from (state_after x.1 (texts xs)) (kind_of x.1) xs ++ 10 ∷ [])

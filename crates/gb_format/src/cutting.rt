@@ -1,0 +1,101 @@
+//! A text to its comments and tokens.
+ghost use Rattle.std.specs.Prelude.{◌≡◌, ℕ, ◌-◌, ◌<◌, ◌++◌, IfOk, List, length, take, map};
+ghost use Rattle.std.specs.Str.{IsCharBoundary};
+ghost use Rattle.gb_script.specs.Lexing.{is_blank, Piece, written, Stands};
+ghost use Rattle.gb_format.specs.Layout.{trimmed};
+ghost use Rattle.gb_format.specs.Shown.{further, gap_after, shown_in, shown, EndsWith, HasFront, IsWhole};
+
+use crate::fits::Item;
+use crate::rule::Apart;
+use gb_script::lexing::first_part;
+use std::alloc::{AllocError, Global};
+
+fn is_blank(byte: u8) -> bool
+    ensures { result ≡ is_blank byte }
+{
+    byte == b' ' || byte == b'\t' || byte == b'\n' || byte == b'\r'
+}
+
+/// How many bytes there are before the blanks at the end.
+fn trimmed_len(bytes: &[u8]) -> usize
+    ensures front { take result bytes.now ≡ trimmed bytes.now }
+    ensures boundary { IsCharBoundary bytes.now result }
+{
+    let mut len = bytes.len();
+    'blanks: while len > 0 && is_blank(bytes[len - 1]) {
+        len -= 1;
+    }
+    len
+}
+
+/// The text without the blanks at its end.
+fn trimmed(text: &str) -> &str
+    ensures { result.now ≡ trimmed text.now }
+{
+    text.split_at(trimmed_len(text.as_bytes())).0
+}
+
+/// The text before the rest, and the rest.
+fn split_before<'t>(text: &'t str, rest: &str) -> (&'t str, &'t str)
+    requires { EndsWith text.now rest.now }
+    ensures front { result.0.now ≡ take (length text.now - length rest.now) text.now }
+    ensures rest { result.1.now ≡ rest.now }
+{
+    text.split_at(text.len() - rest.len())
+}
+
+/// The comment, the token or the blank at the front, and the text after it.
+fn cut_first(alloc: Global, text: &str) -> Result<(&str, &str), AllocError>
+    requires { HasFront text.now }
+    ensures exact { IfOk result (λ x. (p : Piece) (after : List ℕ) → text.now ≡ written p ++ after
+        → Stands p after → (x.0.now ≡ written p) × (x.1.now ≡ after)) }
+    ensures shorter { IfOk result (λ x. length x.1.now < length text.now) }
+{
+    let (part, rest) = first_part(alloc, text)?;
+    drop(part);
+    Ok(split_before(text, rest))
+}
+
+/// One newline more.
+fn further(apart: Apart) -> Apart
+    ensures { result ≡ further apart }
+{
+    match apart {
+        Apart::Beside => Apart::Below,
+        Apart::Below | Apart::Away => Apart::Away,
+    }
+}
+
+/// What separates what comes next, after this blank; nothing where it is no blank.
+fn gap_after(apart: Apart, front: &str) -> Option<Apart>
+    ensures { result ≡ gap_after apart front.now }
+{
+    match front.as_bytes() {
+        [b'\n', ..] => Some(further(apart)),
+        [first, ..] if is_blank(*first) => Some(apart),
+        _ => None,
+    }
+}
+
+/// The comments and tokens of a text that is cut to its end.
+pub fn cut(alloc: Global, text: &str) -> Result<Vec<Item<'_>>, AllocError>
+    requires { IsWhole text.now }
+    ensures { IfOk result (λ items. shown items.items ≡ shown_in text.now) }
+{
+    let mut items = Vec::new(alloc);
+    let mut apart = Apart::Beside;
+    let mut rest = text;
+    'parts: while !rest.is_empty() {
+        let (front, after) = cut_first(alloc, rest)?;
+        match gap_after(apart, front) {
+            Some(next) => apart = next,
+            None => {
+                let text = trimmed(front);
+                items.push(Item { apart, text })?;
+                apart = Apart::Beside;
+            }
+        }
+        rest = after;
+    }
+    Ok(items)
+}

@@ -1,0 +1,124 @@
+//! Whether what follows fits in the rest of a line.
+ghost use Rattle.std.specs.Prelude.{◌≡◌};
+ghost use Rattle.gb_format.specs.Fits.{width, is_end, ends_before, ends_after, is_comment, fits};
+ghost use Rattle.gb_format.specs.Fits.{fits_from, texts_of};
+
+use crate::kind::{Kind, is_tight, kind_of};
+use crate::place::{Place, after, begins};
+use crate::rule::Apart;
+
+/// A comment or a token of a text.
+#[derive(Clone, Copy)]
+pub struct Item<'t> {
+    /// How it is separated from the one before.
+    pub apart: Apart,
+    /// What is written, without blanks at the end.
+    pub text: &'t str,
+}
+
+/// How far what has to fit goes.
+#[derive(Clone, Copy)]
+pub enum Reach {
+    /// To the end of a clause, or to the brace after the head of a statement.
+    Clause,
+    /// To the next comma of a clause too.
+    Element,
+    /// To the bracket after which no more than this many are open.
+    Bracket(usize),
+    /// To the brace that closes.
+    Block,
+}
+
+/// How many columns it takes on the line of the one before.
+fn width(before: Kind, text: &str) -> usize
+    ensures { result ≡ width before text.now }
+{
+    if is_tight(before, kind_of(text)) {
+        text.len()
+    } else {
+        text.len() + 1
+    }
+}
+
+/// Whether the clause ends before this.
+fn is_end(place: Place, text: &str) -> bool
+    ensures { result ≡ is_end place text.now }
+{
+    match kind_of(text) {
+        Kind::CloseBrace => true,
+        Kind::Comment => place.brackets == 0,
+        _ => begins(place, text),
+    }
+}
+
+/// Whether what has to fit ends before this.
+fn ends_before(reach: Reach, place: Place, text: &str) -> bool
+    ensures { result ≡ ends_before reach place text.now }
+{
+    match reach {
+        Reach::Clause | Reach::Element => is_end(place, text),
+        Reach::Bracket(_) | Reach::Block => false,
+    }
+}
+
+/// Whether what has to fit ends after this, with this place after it.
+fn ends_after(reach: Reach, place: Place, kind: Kind) -> bool
+    ensures { result ≡ ends_after reach place kind }
+{
+    match (reach, kind) {
+        (Reach::Clause, Kind::OpenBrace) => true,
+        (Reach::Element, Kind::OpenBrace) => true,
+        (Reach::Element, Kind::Comma) => place.brackets == 0,
+        (Reach::Bracket(count), Kind::Close) => place.brackets <= count,
+        (Reach::Block, Kind::CloseBrace) => true,
+        _ => false,
+    }
+}
+
+fn is_comment(kind: Kind) -> bool
+    ensures { result ≡ is_comment kind }
+{
+    matches!(kind, Kind::Comment)
+}
+
+/// Whether what comes next fits in so many columns, as far as it has to.
+pub fn fits(reach: Reach, place: Place, before: Kind, room: usize, items: &[Item]) -> bool
+    ensures { result ≡ fits reach place before room (texts_of items.now) }
+{
+    let mut place = place;
+    let mut before = before;
+    let mut room = room;
+    'items: for item in items {
+        if ends_before(reach, place, item.text) {
+            return true;
+        }
+        let kind = kind_of(item.text);
+        let width = width(before, item.text);
+        if is_comment(kind) || room < width {
+            return false;
+        }
+        place = after(place, item.text);
+        if ends_after(reach, place, kind) {
+            return true;
+        }
+        before = kind;
+        room -= width;
+    }
+    true
+}
+
+/// Whether what begins with this fits in so many columns, as far as it has to.
+pub fn fits_from(reach: Reach, place: Place, room: usize, text: &str, rest: &[Item]) -> bool
+    ensures { result ≡ fits_from reach place room text.now (texts_of rest.now) }
+{
+    if room < text.len() {
+        return false;
+    }
+    fits(
+        reach,
+        after(place, text),
+        kind_of(text),
+        room - text.len(),
+        rest,
+    )
+}

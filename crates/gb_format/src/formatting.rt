@@ -1,0 +1,85 @@
+//! The formatted text of scripts and settings.
+ghost use Rattle.std.specs.Prelude.{◌≡◌, ℕ, ◌<◌, ◌≤◌, ◌⊎◌, List, length, IfOk, IfErr, Err, IsUtf8};
+ghost use Rattle.std.specs.Prelude.{string_bytes};
+ghost use Rattle.gb_script.specs.Script.{Spells, Says, SpellsSettings, SaysAsSettings};
+ghost use Rattle.gb_script.specs.declared.script.Statement.{Statement};
+ghost use Rattle.gb_format.specs.Shown.{IsWhole};
+ghost use Rattle.gb_format.specs.Formatted.{formatted, IsFormatted, IsLayoutFault};
+
+use crate::cutting::cut;
+use crate::writing::write;
+use gb_script::fault::ScriptFault;
+use gb_script::{MAX_SCRIPT, read_script, read_settings};
+use std::alloc::Global;
+
+/// The text, if it is not too long.
+fn within_limit(text: String) -> Result<String, ScriptFault>
+    ensures found { IfOk result (λ out. (out ≡ text) × (length (string_bytes out) ≤ 1048576)) }
+    ensures fault { IfErr result (λ fault. (fault ≡ ScriptFault.TooLong)
+        × (1048576 < length (string_bytes text))) }
+{
+    if text.len() > MAX_SCRIPT {
+        drop(text);
+        Err(ScriptFault::TooLong)
+    } else {
+        Ok(text)
+    }
+}
+
+/// The formatted text of a text that is cut to its end.
+fn formatted(alloc: Global, text: &str) -> Result<String, ScriptFault>
+    requires { IsWhole text.now }
+    ensures found { IfOk result (λ out. (string_bytes out ≡ formatted text.now)
+        × (length (string_bytes out) ≤ 1048576)) }
+    ensures fault { IfErr result (IsLayoutFault text.now) }
+{
+    let items = cut(alloc, text)?;
+    let out = write(alloc, &items);
+    drop(items);
+    within_limit(out?)
+}
+
+/// The formatted text of bytes that are UTF-8 and cut to their end.
+fn formatted_bytes(alloc: Global, bytes: &[u8]) -> Result<String, ScriptFault>
+    requires utf8 { IsUtf8 bytes.now }
+    requires whole { IsWhole bytes.now }
+    ensures found { IfOk result (λ out. (string_bytes out ≡ formatted bytes.now)
+        × (length (string_bytes out) ≤ 1048576)) }
+    ensures fault { IfErr result (IsLayoutFault bytes.now) }
+{
+    match std::str::from_utf8(bytes) {
+        Ok(text) => formatted(alloc, text),
+        Err(_) => Err(ScriptFault::NotUtf8),
+    }
+}
+
+/// The formatted text of the script that the bytes are. The faults are those of `read_script`, in the same
+/// order, and then that the formatted text has more than 1 MiB (21). Memory may run out on the way (3).
+pub fn format_script(alloc: Global, bytes: &[u8]) -> Result<String, ScriptFault>
+    // Only the white space between comments and tokens changes.
+    ensures found { IfOk result (λ out. IsFormatted bytes.now (string_bytes out)) }
+    // The formatted text is the same script.
+    ensures same { IfOk result (λ out. (script : List Statement) → Spells bytes.now script
+        → Spells (string_bytes out) script) }
+    ensures fault { IfErr result (λ fault. Says bytes.now (Err fault) ⊎ IsLayoutFault bytes.now fault) }
+{
+    let script = read_script(alloc, bytes)?;
+    drop(script);
+    formatted_bytes(alloc, bytes)
+}
+
+/// The formatted text of the settings that the bytes are. The faults are those of `read_settings`, in the
+/// same order, and then that the formatted text has more than 1 MiB (21). Memory may run out on the way (3).
+pub fn format_settings(alloc: Global, bytes: &[u8]) -> Result<String, ScriptFault>
+    // Only the white space between comments and tokens changes.
+    ensures found { IfOk result (λ out. IsFormatted bytes.now (string_bytes out)) }
+    // The formatted text is the same settings.
+    ensures same { IfOk result (λ out. (settings : List (List (List ℕ))) → SpellsSettings bytes.now settings
+        → SpellsSettings (string_bytes out) settings) }
+    ensures fault { IfErr result (λ fault. SaysAsSettings bytes.now (Err fault)
+        ⊎ IsLayoutFault bytes.now fault) }
+{
+    let settings = read_settings(alloc, bytes)?;
+    drop(settings);
+    formatted_bytes(alloc, bytes)
+}

@@ -1,0 +1,75 @@
+//! What stands between two pieces.
+ghost use Rattle.std.specs.Prelude.{◌≡◌, ◌++◌, OnOk, string_bytes};
+ghost use Rattle.gb_format.specs.Layout.{gap_of, indent};
+
+use std::alloc::AllocError;
+
+/// How two stand apart.
+#[derive(Clone, Copy)]
+pub enum Apart {
+    /// On one line.
+    Beside,
+    /// On two.
+    Below,
+    /// With an empty line between them.
+    Away,
+}
+
+/// How two are to stand.
+#[derive(Clone, Copy)]
+pub enum Rule {
+    /// Nothing between.
+    Close,
+    /// One space.
+    Space,
+    /// A new line, this deep.
+    Line(usize),
+    /// A new line, and an empty one before it where there were some.
+    Part(usize),
+    /// Behind what stands before, where it stood there, and else as `Part`.
+    Behind(usize),
+}
+
+/// Indents a line.
+fn push_indent(out: &mut String, depth: usize) -> Result<(), AllocError>
+    ensures { OnOk result (string_bytes out.new ≡ string_bytes out.old ++ indent depth) }
+{
+    'levels: for _ in 0..depth {
+        out.push_str("    ")?;
+    }
+    Ok(())
+}
+
+fn push_line(out: &mut String, depth: usize) -> Result<(), AllocError>
+    ensures { OnOk result
+        (string_bytes out.new ≡ string_bytes out.old ++ gap_of (Rule.Line depth) Apart.Beside) }
+{
+    out.push('\n')?;
+    push_indent(out, depth)
+}
+
+fn push_part(out: &mut String, depth: usize, apart: Apart) -> Result<(), AllocError>
+    ensures { OnOk result (string_bytes out.new ≡ string_bytes out.old ++ gap_of (Rule.Part depth) apart) }
+{
+    match apart {
+        Apart::Away => out.push('\n')?,
+        Apart::Beside | Apart::Below => {}
+    }
+    push_line(out, depth)
+}
+
+/// Writes what stands between two by this rule, where they stood so.
+pub fn push_gap(out: &mut String, rule: Rule, apart: Apart) -> Result<(), AllocError>
+    ensures { OnOk result (string_bytes out.new ≡ string_bytes out.old ++ gap_of rule apart) }
+{
+    match rule {
+        Rule::Close => Ok(()),
+        Rule::Space => out.push(' '),
+        Rule::Line(depth) => push_line(out, depth),
+        Rule::Part(depth) => push_part(out, depth, apart),
+        Rule::Behind(depth) => match apart {
+            Apart::Beside => out.push(' '),
+            Apart::Below | Apart::Away => push_part(out, depth, apart),
+        },
+    }
+}

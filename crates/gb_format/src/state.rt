@@ -1,0 +1,360 @@
+//! Which rule each comment or token is set by.
+ghost use Rattle.std.specs.Prelude.{◌≡◌};
+ghost use Rattle.gb_format.specs.Fits.{texts_of};
+ghost use Rattle.gb_format.specs.Rules.{room_at, room_after, is_broken, turn_in, turn_out, turn_of};
+ghost use Rattle.gb_format.specs.Rules.{turn_rule};
+ghost use Rattle.gb_format.specs.Rules.{resumed, is_clause_cut, turned, breaks, opened, joins, begun_rule};
+ghost use Rattle.gb_format.specs.Rules.{begun, comment_indent, closing_rule, closed, inner, begin, step};
+ghost use Rattle.gb_format.specs.Rules.{first_state};
+
+use crate::fits::{Item, Reach, fits, fits_from};
+use crate::kind::{Kind, is_open, is_tight, kind_of};
+use crate::place::{Place, after, at_start, begins, deeper, depth, shallower};
+use crate::rule::{Apart, Rule};
+
+/// The state of a layout between two tokens.
+#[derive(Clone, Copy)]
+pub struct State {
+    /// The place.
+    pub place: Place,
+    /// How many of the open brackets are broken; these are the outer ones.
+    pub broken: usize,
+    /// The indent of the line.
+    pub indent: usize,
+    /// The indent of the line in which the element begins.
+    pub base: usize,
+    /// How many columns are left in the line.
+    pub room: usize,
+    /// The block is on one line.
+    pub in_line: bool,
+    /// The clause does not fit on a line.
+    pub is_cut: bool,
+    /// The element does not fit on a line.
+    pub is_chain: bool,
+}
+
+/// Why a line breaks before a token within a clause, or that it does not.
+#[derive(Clone, Copy)]
+pub enum Turn {
+    /// It does not.
+    Flat,
+    /// An element of a broken bracket begins.
+    Inside,
+    /// A broken bracket closes.
+    Closing,
+    /// A comment precedes it.
+    Resumed,
+    /// The next element of a clause begins.
+    Element,
+    /// The next step of a chain begins.
+    Step,
+}
+
+/// How many columns a line with this indent has.
+fn room_at(indent: usize) -> usize
+    ensures { result ≡ room_at indent }
+{
+    if indent < 25 { 100 - 4 * indent } else { 0 }
+}
+
+/// How many columns are left after this at the start of a line.
+fn room_after(indent: usize, text: &str) -> usize
+    ensures { result ≡ room_after indent text.now }
+{
+    room_at(indent).saturating_sub(text.len())
+}
+
+fn is_broken(state: State) -> bool
+    ensures { result ≡ is_broken state }
+{
+    state.broken > 0 && state.place.brackets == state.broken
+}
+
+/// The turn in a broken bracket.
+fn turn_in(before: Kind, kind: Kind) -> Turn
+    ensures { result ≡ turn_in before kind }
+{
+    match (before, kind) {
+        (_, Kind::Close) => Turn::Closing,
+        (Kind::OpenParen | Kind::OpenBracket | Kind::Comma | Kind::Comment, _) => Turn::Inside,
+        _ => Turn::Flat,
+    }
+}
+
+/// The turn outside of brackets.
+fn turn_out(state: State, before: Kind, kind: Kind) -> Turn
+    ensures { result ≡ turn_out state before kind }
+{
+    match (before, kind) {
+        (Kind::Comment, _) => Turn::Resumed,
+        (Kind::Comma, _) if state.is_cut => Turn::Element,
+        (_, Kind::Dot) if state.is_chain => Turn::Step,
+        _ => Turn::Flat,
+    }
+}
+
+fn turn_of(state: State, before: Kind, kind: Kind) -> Turn
+    ensures { result ≡ turn_of state before kind }
+{
+    if is_broken(state) {
+        turn_in(before, kind)
+    } else if state.place.brackets == 0 {
+        turn_out(state, before, kind)
+    } else {
+        Turn::Flat
+    }
+}
+
+fn turn_rule(state: State, turn: Turn, tight: bool) -> Rule
+    ensures { result ≡ turn_rule state turn tight }
+{
+    match turn {
+        Turn::Flat => { if tight { Rule::Close } else { Rule::Space } }
+        Turn::Inside => Rule::Line(state.indent),
+        Turn::Closing => Rule::Line(shallower(state.indent)),
+        Turn::Resumed | Turn::Element => Rule::Line(depth(state.place) + 1),
+        Turn::Step => Rule::Line(deeper(state.base)),
+    }
+}
+
+/// The state in the line with which a clause goes on.
+fn resumed(state: State, is_cut: bool, text: &str, rest: &[Item]) -> State
+    ensures { result ≡ resumed state is_cut text.now (texts_of rest.now) }
+{
+    let indent = depth(state.place) + 1;
+    let room = room_at(indent);
+    State {
+        broken: 0,
+        indent,
+        base: indent,
+        room: room.saturating_sub(text.len()),
+        is_cut,
+        is_chain: is_cut && !fits_from(Reach::Element, state.place, room, text, rest),
+        ..state
+    }
+}
+
+fn is_clause_cut(state: State, text: &str, rest: &[Item]) -> bool
+    ensures { result ≡ is_clause_cut state text.now (texts_of rest.now) }
+{
+    let room = room_at(depth(state.place) + 1);
+    !fits_from(Reach::Clause, state.place, room, text, rest)
+}
+
+fn turned(state: State, turn: Turn, tight: bool, text: &str, rest: &[Item]) -> State
+    ensures { result ≡ turned state turn tight text.now (texts_of rest.now) }
+{
+    match turn {
+        Turn::Flat => State {
+            room: state
+                .room
+                .saturating_sub(if tight { 0 } else { 1 })
+                .saturating_sub(text.len()),
+            ..state
+        },
+        Turn::Inside => State {
+            room: room_after(state.indent, text),
+            ..state
+        },
+        Turn::Closing => State {
+            broken: shallower(state.broken),
+            indent: shallower(state.indent),
+            room: room_after(shallower(state.indent), text),
+            ..state
+        },
+        Turn::Resumed => resumed(state, is_clause_cut(state, text, rest), text, rest),
+        Turn::Element => resumed(state, true, text, rest),
+        Turn::Step => State {
+            indent: deeper(state.base),
+            room: room_after(deeper(state.base), text),
+            ..state
+        },
+    }
+}
+
+/// Whether a bracket that opens does not fit on the line.
+fn breaks(state: State, place: Place, kind: Kind, rest: &[Item]) -> bool
+    ensures { result ≡ breaks state place kind (texts_of rest.now) }
+{
+    is_open(kind)
+        && state.is_cut
+        && state.place.brackets == state.broken
+        && !fits(
+            Reach::Bracket(state.place.brackets),
+            place,
+            kind,
+            state.room.saturating_sub(2),
+            rest,
+        )
+}
+
+/// The state after a token of a clause.
+fn opened(state: State, text: &str, rest: &[Item]) -> State
+    ensures { result ≡ opened state text.now (texts_of rest.now) }
+{
+    let place = after(state.place, text);
+    if breaks(state, place, kind_of(text), rest) {
+        State {
+            place,
+            broken: deeper(state.broken),
+            indent: deeper(state.indent),
+            ..state
+        }
+    } else {
+        State { place, ..state }
+    }
+}
+
+/// Whether what begins here goes on in the line of the one before.
+fn joins(state: State, before: Kind, apart: Apart, text: &str, rest: &[Item]) -> bool
+    ensures { result ≡ joins state before apart text.now (texts_of rest.now) }
+{
+    match (before, apart) {
+        (Kind::OpenBrace, Apart::Beside) => {
+            fits_from(Reach::Block, state.place, state.room, text, rest)
+        }
+        (Kind::OpenBrace, _) => false,
+        _ => state.in_line,
+    }
+}
+
+fn begun_rule(state: State, before: Kind, in_line: bool) -> Rule
+    ensures { result ≡ begun_rule state before in_line }
+{
+    if in_line {
+        return Rule::Space;
+    }
+    match before {
+        Kind::OpenBrace => Rule::Line(depth(state.place)),
+        _ => Rule::Part(depth(state.place)),
+    }
+}
+
+/// The state after the first word of a statement or a clause.
+fn begun(state: State, in_line: bool, text: &str, rest: &[Item]) -> State
+    ensures { result ≡ begun state in_line text.now (texts_of rest.now) }
+{
+    let indent = depth(state.place);
+    let room = room_at(indent);
+    let is_cut = !in_line && !fits_from(Reach::Clause, state.place, room, text, rest);
+    State {
+        place: after(state.place, text),
+        broken: 0,
+        indent,
+        base: indent,
+        room: if in_line {
+            state.room.saturating_sub(1).saturating_sub(text.len())
+        } else {
+            room.saturating_sub(text.len())
+        },
+        in_line,
+        is_cut,
+        is_chain: is_cut && !fits_from(Reach::Element, state.place, room, text, rest),
+    }
+}
+
+/// The indent of a comment on a line of its own.
+fn comment_indent(state: State) -> usize
+    ensures { result ≡ comment_indent state }
+{
+    if state.place.brackets == 0 {
+        depth(state.place)
+    } else {
+        state.indent
+    }
+}
+
+fn closing_rule(state: State, before: Kind) -> Rule
+    ensures { result ≡ closing_rule state before }
+{
+    match before {
+        Kind::OpenBrace => Rule::Space,
+        _ if state.in_line => Rule::Space,
+        _ => Rule::Line(0),
+    }
+}
+
+/// The state after the brace that closes.
+fn closed(state: State, text: &str) -> State
+    ensures { result ≡ closed state text.now }
+{
+    State {
+        place: after(state.place, text),
+        in_line: false,
+        ..state
+    }
+}
+
+/// A rule, and the state after what is set by it.
+#[derive(Clone, Copy)]
+pub struct Advance {
+    /// The rule.
+    pub rule: Rule,
+    /// The state.
+    pub state: State,
+}
+
+/// The step over a token within a clause.
+fn inner(state: State, before: Kind, text: &str, rest: &[Item]) -> Advance
+    ensures { result ≡ inner state before text.now (texts_of rest.now) }
+{
+    let kind = kind_of(text);
+    let tight = is_tight(before, kind);
+    let turn = turn_of(state, before, kind);
+    let state_then = turned(state, turn, tight, text, rest);
+    Advance {
+        rule: turn_rule(state, turn, tight),
+        state: opened(state_then, text, rest),
+    }
+}
+
+/// The step over the first word of a statement or a clause.
+fn begin(state: State, before: Kind, apart: Apart, text: &str, rest: &[Item]) -> Advance
+    ensures { result ≡ begin state before apart text.now (texts_of rest.now) }
+{
+    let in_line = joins(state, before, apart, text, rest);
+    Advance {
+        rule: begun_rule(state, before, in_line),
+        state: begun(state, in_line, text, rest),
+    }
+}
+
+/// The step over a comment or a token, which is separated so from the one before.
+#[tactic(auto, unfolding(crate::specs::Rules::step))]
+pub fn step(state: State, before: Kind, apart: Apart, text: &str, rest: &[Item]) -> Advance
+    ensures { result ≡ step state before apart text.now (texts_of rest.now) }
+{
+    match kind_of(text) {
+        Kind::Comment => Advance {
+            rule: Rule::Behind(comment_indent(state)),
+            state,
+        },
+        Kind::CloseBrace => Advance {
+            rule: closing_rule(state, before),
+            state: closed(state, text),
+        },
+        _ => {
+            if begins(state.place, text) {
+                begin(state, before, apart, text, rest)
+            } else {
+                inner(state, before, text, rest)
+            }
+        }
+    }
+}
+
+/// The state before the first token.
+pub fn first_state() -> State
+    ensures { result ≡ first_state }
+{
+    State {
+        place: at_start(),
+        broken: 0,
+        indent: 0,
+        base: 0,
+        room: 100,
+        in_line: false,
+        is_cut: false,
+        is_chain: false,
+    }
+}

@@ -1,0 +1,7 @@
+use Rattle.std.proofs.Common.{◌≡◌, take}
+use Rattle.std.specs.List.{flat_map}
+use Rattle.gb_picture.specs.Escapes.{mermaid_char}
+use Rattle.gb_picture.proofs.escapes.mermaid_chars.Given as goal
+
+abbrev pub invariant-loop-c : goal.invariant-loop-c
+invariant-loop-c l = l.out.items ≡ flat_map mermaid_char (take l.c-index l.chars)

@@ -1,0 +1,20 @@
+-- A graph as an outline: each node, and under it those that it is connected to.
+use Rattle.std.specs.Prelude.{ℕ, List, ◌++◌, codes, string_bytes}
+use Rattle.std.specs.List.{flat_map}
+use Rattle.gb_picture.specs.Graph.{line, name_at}
+use Rattle.gb_picture.specs.Shown.{shown_text}
+use Rattle.gb_picture.specs.declared.graph.Node.{Node}
+
+abbrev pub outline_edge : List Node → List ℕ → ℕ → List ℕ
+outline_edge nodes word other = line (word ++ shown_text (name_at nodes other))
+
+-- The node, and a line for each task that it needs, that it must run after and that finalizes it.
+abbrev pub outline_node : List Node → Node → List ℕ
+outline_node nodes node =
+    line (shown_text (string_bytes node.name))
+    ++ flat_map (outline_edge nodes (codes "    needs ")) node.needs.items
+    ++ flat_map (outline_edge nodes (codes "    runs after ")) node.runs_after.items
+    ++ flat_map (outline_edge nodes (codes "    finalized by ")) node.finalizers.items
+
+abbrev pub outline_text : List Node → List ℕ
+outline_text nodes = flat_map (outline_node nodes) nodes

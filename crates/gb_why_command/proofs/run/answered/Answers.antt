@@ -1,5 +1,0 @@
-use Rattle.std.proofs.Common.{inr}
-use Rattle.gb_why_command.proofs.run.answered.Goals as goal
-
-pub returns-in-Ok-clause-answers : goal.returns-in-Ok-clause-answers
-returns-in-Ok-clause-answers g c = inr (c.in-Ok.asked, c.in-Ok.ensures, c.tell.ensures.answer)
