@@ -161,10 +161,6 @@ def check_groups(page):
     wanted = [(title[0].upper() + title.partition(":")[0][1:], names) for title, names in groups()]
     if tables != wanted:
         faults.append("docs/CRATES.md: the tables at a glance are not the groups of crates.txt")
-    row = r"(?m)^\| \[([^\]]*)\]\(docs/CRATES.md#([\w-]*)\) \|"
-    linked = re.findall(row, "\n".join(lines_of("README.md")))
-    if linked != [(title, anchor(title)) for title, _ in wanted]:
-        faults.append("README.md: the rows of crates are not the groups of crates.txt")
 
 
 def check_files(name, text):

@@ -33,11 +33,11 @@ in_source address = by (is_safe address) refl
     by true e = All-cons LeadsToSafety (attributes.Source, address) [] e (All-nil LeadsToSafety)
     by false e = All-nil LeadsToSafety
 
-in_value : (name : Attribute) → ((value : List ℕ) → LeadsToSafety (name, value)) → (value : List ℕ)
-    → All LeadsToSafety (value_in name value)
-in_value name none [] = All-nil LeadsToSafety
-in_value name none (b ∷ value) =
-    All-cons LeadsToSafety (name, b ∷ value) [] (none (b ∷ value)) (All-nil LeadsToSafety)
+in_value : (attribute : Attribute) → ((value : List ℕ) → LeadsToSafety (attribute, value)) → (value : List ℕ)
+    → All LeadsToSafety (value_in attribute value)
+in_value attribute none [] = All-nil LeadsToSafety
+in_value attribute none (b ∷ value) =
+    All-cons LeadsToSafety (attribute, b ∷ value) [] (none (b ∷ value)) (All-nil LeadsToSafety)
 
 pub all_safe : (piece : Piece) → All LeadsToSafety (attributes_of piece)
 all_safe (Open element) = All-nil LeadsToSafety

@@ -74,12 +74,12 @@ attributes_text attributes = flat_map attribute_text attributes
 
 -- only a safe address is one
 abbrev pub address_in : Attribute → List ℕ → List (Attribute × List ℕ)
-address_in name address = if is_safe address then (name, address) ∷ [] else []
+address_in attribute address = if is_safe address then (attribute, address) ∷ [] else []
 
 -- an empty value is none
 abbrev pub value_in : Attribute → List ℕ → List (Attribute × List ℕ)
-value_in name [] = []
-value_in name (b ∷ value) = (name, b ∷ value) ∷ []
+value_in attribute [] = []
+value_in attribute (b ∷ value) = (attribute, b ∷ value) ∷ []
 
 -- the attributes of the tag of a piece
 abbrev pub attributes_of : Piece → List (Attribute × List ℕ)

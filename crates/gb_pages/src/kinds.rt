@@ -7,7 +7,7 @@ use gb_action::values::Arguments;
 use gb_core::bytes::Bytes;
 use gb_core::place::RelPath;
 use gb_kinds::edit::FileMaker;
-use gb_markdown::blocks::{html, html};
+use gb_markdown::blocks::html;
 use gb_with::file_kind::{FileKind, Renaming};
 use std::alloc::{AllocError, Global};
 

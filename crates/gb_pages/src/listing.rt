@@ -21,8 +21,8 @@ use gb_core::text::Text;
 use gb_core::value::Value;
 use gb_kinds::arguments::first_text;
 use gb_kinds::names::{rel_path, source_name};
-use gb_markdown::address::{address_of, address_of};
-use gb_markdown::page::{Element, Element, close, close, link, link, open, open, text, text};
+use gb_markdown::address::address_of;
+use gb_markdown::page::{Element, close, link, open, text};
 use gb_with::tree_kind::{TreeKind, files_of};
 use std::alloc::{AllocError, Global};
 
