@@ -7,8 +7,16 @@ _gb() {
         return
     fi
     case ${COMP_WORDS[0]##*/}:${COMP_WORDS[1]} in
-    gb_ask:fmt) COMPREPLY=($(compgen -W '--write --check' -- "$word") $(compgen -f -- "$word")) && return ;;
-    gb_ask:graph) [[ $word == --* ]] && COMPREPLY=($(compgen -W '--tree --mermaid --svg' -- "$word")) ;;
+    gb_ask:fmt)
+        local IFS=$'\n' forms=
+        (( COMP_CWORD == 2 )) && forms=$'--write\n--check'
+        compopt -o filenames 2>/dev/null
+        COMPREPLY=($(compgen -W "$forms" -- "$word"; compgen -f -- "$word"))
+        return ;;
+    gb_ask:graph)
+        [[ $COMP_CWORD == 2 && $word == --* ]] &&
+            COMPREPLY=($(compgen -W '--tree --mermaid --svg' -- "$word")) ;;
+    gb_ask:help) return ;;
     esac
     case " $before " in
     *" -- "* | *" -x " | *" --exclude-task " | *" -P " | *" --project-prop ") return ;;

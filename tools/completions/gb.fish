@@ -11,5 +11,6 @@ complete -c gb_ask -n __fish_use_subcommand -a 'why tasks graph fmt help'
 complete -c gb_ask -n '__fish_seen_subcommand_from graph' -l tree -d 'As an outline'
 complete -c gb_ask -n '__fish_seen_subcommand_from graph' -l mermaid -d 'For Mermaid'
 complete -c gb_ask -n '__fish_seen_subcommand_from graph' -l svg -d 'As a picture'
-complete -c gb_ask -n '__fish_seen_subcommand_from fmt' -F -l write -d 'Write the files that differ'
-complete -c gb_ask -n '__fish_seen_subcommand_from fmt' -F -l check -d 'Name the files that differ'
+complete -c gb_ask -n '__fish_seen_subcommand_from fmt' -F
+complete -c gb_ask -n '__fish_seen_subcommand_from fmt' -l write -d 'Write the files that differ'
+complete -c gb_ask -n '__fish_seen_subcommand_from fmt' -l check -d 'Name the files that differ'
