@@ -79,12 +79,15 @@ fn asked<A: Actions, T: Transforms, W: Printer>(
         Question::Tasks => tasks::run(alloc, &mut folder, Ok(words), page, tables),
         Question::Graph => drawn(alloc, &mut folder, words, page, tables),
         Question::Fmt => formatted(rt, &mut folder, words, page),
-        Question::Help => {
-            page.print(USAGE.as_bytes());
-            Some(0)
-        }
+        Question::Help => helped(page),
         Question::Unknown => Some(2),
     }
+}
+
+/// Prints how to ask.
+fn helped<W: Printer>(page: &mut W) -> Option<u8> {
+    page.print(USAGE.as_bytes());
+    if page.is_whole() { Some(0) } else { None }
 }
 
 /// What the first word asks, and the others. No word asks for help.

@@ -37,7 +37,8 @@ struct Printed {
 
 /// Treats the named files of a folder, one after another, up to the first that cannot be treated: each is
 /// read and formatted, and then printed, written where it differs, or named where it differs. `-` is the
-/// input; it is printed. The status is 0; 1 where a file could not be treated, or was compared and differs.
+/// input; it is printed, or compared. The status is 0; 1 where a file could not be treated, or was compared
+/// and differs.
 pub fn run<F: Folder, W: Printer>(
     alloc: Global,
     folder: &mut F,
@@ -140,20 +141,25 @@ fn treat<F: Folder>(
 {
     let place = place_of(alloc, name)?;
     if name == "-" {
-        print_input(alloc, input, place, printed)
+        treat_input(alloc, mode, input, place, printed)
     } else {
         treat_file(alloc, folder, mode, place, printed)
     }
 }
 
-/// Prints the input.
-fn print_input(
+/// Prints the input, or names it where it is to be compared and differs.
+fn treat_input(
     alloc: Global,
+    mode: Mode,
     input: &[u8],
     place: Place,
     printed: &mut Printed,
 ) -> Result<(), Fault> {
+    let copied = place.copy()?;
     let laid_out = laid_out_of(alloc, input, place)?;
+    if let Mode::Checks = mode {
+        return name_if(laid_out.differs, &copied, printed);
+    }
     printed.text.push_str(laid_out.text.as_str())?;
     Ok(())
 }
