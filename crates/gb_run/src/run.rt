@@ -28,10 +28,10 @@ use gb_report::fault::Fault;
 use gb_tree::prints::Prints;
 use std::alloc::Global;
 
-/// Runs the actions of a task, each asked in full, over a folder without its files: works out what they make,
-/// before anything is changed, and then writes it, action by action. The lines of an action follow those of
-/// the others once its files are written. Returns the digests of what the actions made, whatever has become of
-/// it in the folder since.
+/// Runs the actions of a task, each asked in full, over a folder without its files: works out what they
+/// make, before anything is changed, and then writes it, action by action. The lines of an action follow
+/// those of the others once its files are written. Returns the digests of what the actions made, whatever has
+/// become of it in the folder since.
 pub fn run_in_full<A: Actions, F: Folder>(
     alloc: Global,
     folder: &mut F,
