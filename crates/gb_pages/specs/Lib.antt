@@ -9,3 +9,4 @@ pub mod FrontMatter
 pub mod Layouts
 pub mod Links
 pub mod Listing
+pub mod SiteMap

@@ -6,6 +6,7 @@ use crate::checked::CheckPages;
 use crate::kinds::Markdown;
 use crate::links::CheckLinks;
 use crate::listing::Index;
+use crate::site_map::SiteMap;
 use crate::site_pages::SitePages;
 use crate::template::Template;
 use gb_action::actions::Actions;
@@ -18,10 +19,13 @@ use gb_with::renamed::Renamed;
 use std::alloc::Global;
 
 /// The kinds that work on all pages at once, at paths that they know.
-type AtOnce = Both<Laid, Both<OfTrees<Index>, Checking>>;
+type AtOnce = Both<Laid, Both<Listing, Checking>>;
 
 /// Those that put pages into a layout.
 type Laid = Both<OfTrees<Template>, OfTrees<SitePages>>;
+
+/// Those that list pages.
+type Listing = Both<OfTrees<Index>, OfTrees<SiteMap>>;
 
 /// Those that make nothing.
 type Checking = Both<Checks<CheckPages>, Checks<CheckLinks>>;
@@ -35,7 +39,8 @@ pub fn page_actions(alloc: Global) -> Result<ActionTable<<Pages as Actions>::Sto
         ∷ (codes "htmlPages", Second (First 3))
         ∷ (codes "template", Second (Second (First (First 1))))
         ∷ (codes "sitePages", Second (Second (First (Second 1))))
-        ∷ (codes "index", Second (Second (Second (First 3))))
+        ∷ (codes "index", Second (Second (Second (First (First 3)))))
+        ∷ (codes "siteMap", Second (Second (Second (First (Second 1)))))
         ∷ (codes "checkPages", Second (Second (Second (Second (First 2)))))
         ∷ (codes "checkLinks", Second (Second (Second (Second (Second 1))))) ∷ []) }
 {
@@ -49,13 +54,13 @@ pub fn page_actions(alloc: Global) -> Result<ActionTable<<Pages as Actions>::Sto
 /// The table of those that work on all pages at once.
 fn at_once(alloc: Global) -> Result<ActionTable<<AtOnce as Actions>::Stored>, TableFault>
     ensures { IfOk result (λ table. table ≡ (codes "template", First (First 1))
-        ∷ (codes "sitePages", First (Second 1)) ∷ (codes "index", Second (First 3))
+        ∷ (codes "sitePages", First (Second 1)) ∷ (codes "index", Second (First (First 3)))
+        ∷ (codes "siteMap", Second (First (Second 1)))
         ∷ (codes "checkPages", Second (Second (First 2)))
         ∷ (codes "checkLinks", Second (Second (Second 1))) ∷ []) }
 {
     let check = checking(alloc)?;
-    let index = only::<OfTrees<Index>>(alloc, "index", 3)?;
-    let others = beside(alloc, index, check)?;
+    let others = beside(alloc, listing(alloc)?, check)?;
     beside(alloc, laid(alloc)?, others)
 }
 
@@ -77,4 +82,13 @@ fn checking(alloc: Global) -> Result<ActionTable<<Checking as Actions>::Stored>,
     let links = only::<Checks<CheckLinks>>(alloc, "checkLinks", 1)?;
     let pages = only::<Checks<CheckPages>>(alloc, "checkPages", 2)?;
     beside(alloc, pages, links)
+}
+
+/// The table of those that list pages.
+fn listing(alloc: Global) -> Result<ActionTable<<Listing as Actions>::Stored>, TableFault>
+    ensures { IfOk result (λ table. table ≡ (codes "index", First 3) ∷ (codes "siteMap", Second 1) ∷ []) }
+{
+    let map = only::<OfTrees<SiteMap>>(alloc, "siteMap", 1)?;
+    let index = only::<OfTrees<Index>>(alloc, "index", 3)?;
+    beside(alloc, index, map)
 }

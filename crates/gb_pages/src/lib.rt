@@ -19,5 +19,6 @@ mod listing;
 mod markdown;
 mod page;
 mod paths;
+mod site_map;
 mod site_pages;
 mod template;
