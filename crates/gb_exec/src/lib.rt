@@ -1,12 +1,16 @@
-//! The execution of plans: their tasks take their turns in order, all listeners are told of each that starts,
-//! and the part of each is printed as soon as its turn has ended.
+//! The execution of a plan, task by task.
 //!
-//! [`execute`] builds a [`Plan`] over a [`Folder`], from the records that [`read_records`] read of its tasks;
-//! each [`TaskListener`] hears which tasks start and how they end, and a [`Report`] says what became of each.
-//! Room for the report is taken before the first turn, so that a build that has begun always has one.
-//! [`starts`] says which tasks start, by what became of those before them. Whoever builds by scripts wants
-//! `gb_build`, where all of this stands too; `specs/Words.antt` hands on what the contract of [`execute`]
-//! speaks of, so that a caller's own clauses can say it.
+//! [`execute`] executes the tasks of a [`Plan`] in order over a [`Folder`], from the records that
+//! [`read_records`] has read. Each [`TaskListener`] is notified when a task starts and when it ends, the
+//! part of each task is printed once it has ended, and a [`Report`] has the outcome of each.
+//!
+//! How it works: [`starts`] says which tasks start, by the outcomes of those before them. For each that
+//! starts, the listeners are notified, `gb_turn` executes it, the listeners are notified again, and its
+//! part of the report is printed. Memory for the report is taken before the first task, so that a build
+//! that has begun always has one. A dry run executes nothing.
+//!
+//! Whoever builds from scripts calls `gb_build`. `specs/Words.antt` hands on the definitions that the
+//! contract of [`execute`] names, so that the clauses of a caller can use them.
 #![tactic(auto)]
 
 pub mod building;

@@ -1,8 +1,9 @@
-//! What each task of a plan would come to if its turn started on the folder as it stands, and why it would
-//! run. Nothing is changed.
+//! The prediction of a build: what each task of a plan would come to on the folder as it is, and why it
+//! would run. Nothing is changed.
 //!
-//! There is no second definition of that: a task is told by what builds decide on, and its reasons are those
-//! of its record against what it has now.
+//! How it works: a task is decided by what builds decide on, and there is no second definition of that. Its
+//! reasons are the differences between its record and what it has now. A task is marked if it reads an
+//! output of an earlier task that may change.
 #![tactic(auto)]
 
 pub mod coming;

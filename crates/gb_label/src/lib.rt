@@ -1,10 +1,12 @@
-//! What a started task's turn comes to, found before anything is changed: whether the task is skipped, has
-//! nothing to do or no source, is up to date, or has to run, by changes or in full.
+//! What a started task comes to, decided before anything is changed: it is skipped, has no source, is up to
+//! date, or has to run, by changes or in full.
 //!
-//! The label decides on digests, and a run works on contents. Both come of one reading of the inputs and the
-//! outputs: what the label reads is kept as far as there is room, and a run completes it. What was not kept
-//! is read again, and its digests are taken anew: the digests that are recorded are those of the very
-//! contents.
+//! Why: the decision and the run must go by one reading of the files. A decision needs digests alone, a run
+//! needs contents.
+//!
+//! How it works: the inputs and the outputs are read once. What was read is kept in memory while there is
+//! room for it, and a run completes it. A file that was not kept is read again, and its digest is taken
+//! again. So the digests that a record gets are those of the very contents that the actions worked on.
 #![tactic(auto)]
 
 mod completing;

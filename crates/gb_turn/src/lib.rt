@@ -1,11 +1,13 @@
-//! A started task's turn: what it comes to, what is done then, and what is told of it.
+//! The execution of one started task: decide, run, and store its record.
 //!
-//! All that a run reads is read before the first change, and once. Then the task's record is taken out, its
-//! actions run, and a new record is put in: of the inputs that they worked on, and of the outputs as they
-//! made them, whatever stands there by then. A run in full empties the outputs first; a run by changes goes
-//! on from what stands there, and keeps what is right also where it fails.
+//! How it works: everything that the task needs is read once, before the first change. Then the record of
+//! the task is deleted, its actions run, and a new record is stored. The new record has the inputs that the
+//! actions worked on, and the outputs as the actions made them, whatever is in the folder by then. So a
+//! build that is stopped between the two finds no record, and runs the task in full. A run in full empties
+//! the outputs first. A run by changes starts from the files at the outputs, and keeps those that are
+//! right, also where it fails.
 //!
-//! That what a turn comes to by digests is what it comes to by whole contents is said by [`case_laws`].
+//! A task is decided by digests. [`case_laws`] has the laws that a decision by whole contents is the same.
 #![tactic(auto)]
 
 mod adding;
