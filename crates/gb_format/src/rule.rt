@@ -1,10 +1,10 @@
-//! What stands between two pieces.
+//! The space between two pieces.
 ghost use Rattle.std.specs.Prelude.{◌≡◌, ◌++◌, OnOk, string_bytes};
 ghost use Rattle.gb_format.specs.Layout.{gap_of, indent};
 
 use std::alloc::AllocError;
 
-/// How two stand apart.
+/// The space that two pieces had.
 #[derive(Clone, Copy)]
 pub enum Apart {
     /// On one line.
@@ -15,7 +15,7 @@ pub enum Apart {
     Away,
 }
 
-/// How two are to stand.
+/// The space that two pieces get.
 #[derive(Clone, Copy)]
 pub enum Rule {
     /// Nothing between.
@@ -26,7 +26,7 @@ pub enum Rule {
     Line(usize),
     /// A new line, and an empty one before it where there were some.
     Part(usize),
-    /// Behind what stands before, where it stood there, and else as `Part`.
+    /// On the line of the piece before it, where it was there, and else as `Part`.
     Behind(usize),
 }
 
@@ -58,7 +58,7 @@ fn push_part(out: &mut String, depth: usize, apart: Apart) -> Result<(), AllocEr
     push_line(out, depth)
 }
 
-/// Writes what stands between two by this rule, where they stood so.
+/// Writes the space between two pieces by this rule, from the space they had.
 pub fn push_gap(out: &mut String, rule: Rule, apart: Apart) -> Result<(), AllocError>
     ensures { OnOk result (string_bytes out.new ≡ string_bytes out.old ++ gap_of rule apart) }
 {

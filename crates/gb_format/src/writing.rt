@@ -1,4 +1,4 @@
-//! Writing comments and tokens anew.
+//! Writing comments and tokens again.
 ghost use Rattle.std.specs.Prelude.{◌≡◌, ◌++◌, IfOk, OnOk, string_bytes};
 ghost use Rattle.gb_format.specs.Layout.{gap_of};
 ghost use Rattle.gb_format.specs.Kinds.{kind_of};

@@ -7,7 +7,7 @@ ghost use Rattle.gb_pages.specs.FrontMatter.{title_of, value_of};
 use bstr::ByteSlice;
 use std::alloc::{AllocError, Global};
 
-/// The front matter of a text, each line of it behind a line feed, and what stands behind it.
+/// The front matter of a text, each line of it behind a line feed, and the text behind it.
 pub(crate) fn halves(text: &[u8]) -> Option<(&[u8], &[u8])>
     ensures { option_map (λ half. (half.0.now, half.1.now)) result ≡ halves text.now }
 {
@@ -64,7 +64,7 @@ pub(crate) fn value_of<'a>(
     }
 }
 
-/// What stands in front of the value of a key.
+/// The text in front of the value of a key.
 fn sign(alloc: Global, key: &[u8]) -> Result<Vec<u8>, AllocError>
     ensures { IfOk result (λ sign. sign.items ≡ codes "\n" ++ (key.now ++ codes ": ")) }
 {

@@ -1,4 +1,4 @@
-//! What a layout comes to for one page.
+//! A layout filled in for one page.
 ghost use Rattle.std.specs.Prelude.{◌≡◌, ◌++◌, Ok, codes, false, unwrap_or, IfOk, OnOk, MatchResult};
 ghost use Rattle.std.specs.Option.{option_copied, option_map};
 ghost use Rattle.gb_pages.specs.FrontMatter.{cut, title_of};
@@ -31,7 +31,7 @@ pub(crate) struct Page<'a> {
     pub html: &'a [u8],
 }
 
-/// A page in the layout that stands at a path.
+/// A page in the layout at a path.
 pub(crate) fn laid_out_page(
     alloc: Global,
     at: &RelPath,
@@ -53,7 +53,7 @@ pub(crate) fn laid_out_page(
     }
 }
 
-/// What is told of a name that the layout has and the page does not.
+/// The message for a name that the layout has and the page does not.
 fn unknown(
     alloc: Global,
     at: &RelPath,
@@ -97,7 +97,7 @@ fn token(alloc: Global, name: &[u8]) -> Result<Vec<u8>, AllocError>
     Ok(sign)
 }
 
-/// The line on which a sign stands first.
+/// The line on which a sign is found first.
 pub(crate) fn line_of(sign: &[u8], text: &[u8]) -> usize
     ensures { result ≡ line_of sign.now text.now }
 {
@@ -131,7 +131,7 @@ fn fill<'a>(
     Ok(None)
 }
 
-/// Writes what a part of a layout comes to that stands behind `{{`, unless the page does not have its name.
+/// Fills in a part of a layout that begins behind `{{`, unless the page does not have its name.
 fn behind_braces<'a>(
     alloc: Global,
     made: &mut Vec<u8>,
@@ -164,7 +164,7 @@ fn append(made: &mut Vec<u8>, bytes: Vec<u8>) -> Result<(), AllocError>
     Ok(())
 }
 
-/// What stands in the place of a name on a page.
+/// The value of a name on a page.
 fn value_for(alloc: Global, page: &Page<'_>, name: &[u8]) -> Result<Option<Vec<u8>>, AllocError>
     ensures { IfOk result (λ value. option_map (λ bytes. bytes.items) value
         ≡ value_for page.now.path.now page.now.text.now page.now.html.now name.now) }

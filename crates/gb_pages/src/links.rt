@@ -108,7 +108,7 @@ fn dead_by(alloc: Global, site: &Site<'_>, sign: &[u8]) -> Result<Option<Text>, 
     Ok(None)
 }
 
-/// What is told of the address that stands behind a sign.
+/// The message for the address behind a sign.
 fn dead_at(
     alloc: Global,
     site: &Site<'_>,
@@ -126,7 +126,7 @@ fn dead_at(
     Ok(Some(told(alloc, site.page, line, wrong, shown(address))?))
 }
 
-/// What is told of a link.
+/// The message for a link.
 fn told(
     alloc: Global,
     page: &RelPath,
@@ -153,7 +153,7 @@ fn push_line(alloc: Global, text: &mut String, line: usize) -> Result<(), AllocE
     Ok(())
 }
 
-/// The line on which an address stands first behind a sign.
+/// The line on which an address is found first behind a sign.
 fn line_of_address(
     alloc: Global,
     html: &[u8],
@@ -329,7 +329,7 @@ fn step(alloc: Global, folder: Vec<u8>, segment: &[u8]) -> Result<Option<Vec<u8>
     Ok(Some(next))
 }
 
-/// The folder that something stands in.
+/// The folder of a path.
 fn above(path: &[u8]) -> Option<&[u8]>
     ensures { option_copied result ≡ above path.now }
 {
@@ -339,7 +339,7 @@ fn above(path: &[u8]) -> Option<&[u8]>
     }
 }
 
-/// What stands before a sign, or all.
+/// The part before a sign, or all.
 fn up_to<'a>(text: &'a [u8], sign: &[u8]) -> &'a [u8]
     ensures { result.now ≡ up_to sign.now text.now }
 {
@@ -349,7 +349,7 @@ fn up_to<'a>(text: &'a [u8], sign: &[u8]) -> &'a [u8]
     }
 }
 
-/// What stands behind a sign, or nothing.
+/// The part behind a sign, or nothing.
 fn from<'a>(text: &'a [u8], sign: &[u8]) -> &'a [u8]
     ensures { result.now ≡ from sign.now text.now }
 {

@@ -27,8 +27,8 @@ use gb_with::tree_kind::{TreeKind, files_of};
 use std::alloc::{AllocError, Global};
 
 /// The kind `index(TITLE, ORDER)`: a page `index.html` with a link to the page of each text of `src`, under
-/// its title, in the order of their paths. Where `ORDER` is `date` the latest page stands first, by the dates
-/// of their front matters, and those without a date stand last.
+/// its title, in the order of their paths. Where `ORDER` is `date` the latest page comes first, by the dates
+/// of their front matters, and those without a date come last.
 #[derive(Drop)]
 pub struct Index;
 
@@ -182,7 +182,7 @@ fn put_day(alloc: Global, days: &mut Files, path: &RelPath, bytes: &[u8]) -> Res
     }
 }
 
-/// Where a text stands among all.
+/// The position of a text among all.
 fn day_path(alloc: Global, path: &RelPath, bytes: &[u8]) -> Result<Option<RelPath>, AllocError>
     ensures { IfOk result (λ day. day ≡ day_path path.now bytes.now) }
 {
@@ -213,7 +213,7 @@ fn latest_first(alloc: Global, days: &[(RelPath, Bytes)]) -> Result<Vec<u8>, All
     Ok(links)
 }
 
-/// Writes the link to the page of a text, by what stands before `.md` in its path.
+/// Writes the link to the page of a text, by the part of its path before `.md`.
 fn entry(
     alloc: Global,
     page: &mut Vec<u8>,

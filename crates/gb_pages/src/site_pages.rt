@@ -23,7 +23,7 @@ use gb_with::tree_kind::{TreeKind, files_of};
 use std::alloc::{AllocError, Global};
 
 /// The kind `sitePages`, without arguments: each page of `src`, with `.html` in place of `.md`, in the one
-/// file of `layout`. The text at the same path of `texts` says by its front matter what stands in the place
+/// file of `layout`. The text at the same path of `texts` says by its front matter what is put in the place
 /// of each `{{name}}`; `{{content}}` is the page itself, `{{title}}` its title, and `{{root}}` the way to the
 /// folder of the site.
 #[derive(Drop)]

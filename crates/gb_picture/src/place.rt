@@ -102,7 +102,7 @@ fn spot_in(column: usize, row: usize, box_width: usize) -> Spot {
     }
 }
 
-/// The place of each node: in a column by its layer, under those that stand there.
+/// The place of each node: in a column by its layer, under those already there.
 pub(crate) fn spots(alloc: Global, nodes: &[Node]) -> Result<Vec<Spot>, AllocError> {
     let box_width = box_width(nodes);
     let layers = layers(alloc, nodes)?;

@@ -56,7 +56,7 @@ fn push_size(out: &mut String, frame: Frame) -> Result<(), AllocError>
     write!(out, " width=\"{width}\" height=\"{height}\"")
 }
 
-/// What stands behind the size of each picture.
+/// The text behind the size of each picture.
 const LEGEND: &str = " font-family=\"monospace\" font-size=\"12\">
 <style>rect{fill:#eef2f6;stroke:#8896a5}path{fill:none;stroke-width:1.5}
 .n{stroke:#52606d}.a{stroke:#b7791f;stroke-dasharray:6 3}

@@ -22,7 +22,7 @@ use std::collections::BTreeMap;
 type Made = BTreeMap<RelPath, Bytes>;
 
 /// The reply of a kind that makes these files, of which the later counts where two have one path, and prints
-/// these lines. Asked for changes it looks at none of them: it goes by what stands.
+/// these lines. Asked for changes it looks at none of them: it goes by the files that are there.
 pub fn reply_anew(
     alloc: Global,
     request: &Request,

@@ -30,7 +30,7 @@ use std::marker::PhantomData;
 
 /// The one kind that makes a file of each file as `K` does, or fails. It follows the changes of `src`, and
 /// prints a line for each. Asked for changes it tries all files, since each of them may fail, writes those
-/// that do not stand so already, and removes what it makes no more.
+/// that differ, and removes what it makes no more.
 #[derive(Drop)]
 pub struct TryByFile<K>(PhantomData<K>);
 

@@ -8,7 +8,7 @@ use std::alloc::{AllocError, Global};
 
 /// A kind that makes a file of each file of `src`, at the same path beneath `out`, or fails with a text: the
 /// task fails then with the path of the first file that failed, `: ` and the text, and writes nothing. A
-/// value of it is what the arguments of one call come to: it is made once a run, and then makes all files.
+/// value of it is made from the arguments of one call: it is made once a run, and then makes all files.
 pub trait TryFileKind: Drop {
     ghost use Rattle.std.specs.Prelude.{◌≡◌, ℕ, List, Result, true, Ok, IfOk, MatchResult};
     ghost use Rattle.gb_core.specs.declared.value.Value.{Value};
