@@ -41,7 +41,8 @@ const SCRIPTS: [Case; 9] = [
     (
         "named set { inputFiles from from from include \"0123456789012345678901234567890123456789\",\
          \"0123456789012345678901234567890123456789\" }",
-        "named set {\n    inputFiles from from from include \"0123456789012345678901234567890123456789\",\n        \
+        "named set {\n    inputFiles from from from include \
+         \"0123456789012345678901234567890123456789\",\n        \
          \"0123456789012345678901234567890123456789\"\n}\n",
     ),
 ];
