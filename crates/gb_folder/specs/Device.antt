@@ -1,6 +1,6 @@
 -- What folders of one type say of their calls, and calls one after another as a value.
-use Rattle.std.specs.Prelude.{ℕ, ◌≡◌, ◌≢◌, ◌<◌, ◌≤◌, Bool, List, [], ◌∷◌, Some, Result, Ok, Err, IsTrue, length}
-use Rattle.std.specs.Prelude.{⊤}
+use Rattle.std.specs.Prelude.{ℕ, ◌≡◌, ◌≢◌, ◌<◌, ◌≤◌, Bool, List, [], ◌∷◌, Some, Result, Ok, Err, IsTrue}
+use Rattle.std.specs.Prelude.{⊤, length}
 use Rattle.std.specs.List.{AllPass}
 use Rattle.std.specs.List.Sorted.{IsStrictlySortedBy}
 use Rattle.gb_core.specs.Lists.{byte_order}

@@ -11,8 +11,8 @@ abbrev pub OrStops : {E Y : Type 0} → Ended E → Type 0 → List Call → Lis
 OrStops (Ok done) next later more result = next
 OrStops (Err fault) next later more result = (later ≡ []) × (more ≡ []) × (result ≡ Err fault)
 
--- Something was done with each item by these calls, and yielded these things, up to the first item that failed.
--- `One` says of an item which calls it takes, what it yields, and how it ended.
+-- Something was done with each item by these calls, and yielded these things, up to the first item that
+-- failed. `One` says of an item which calls it takes, what it yields, and how it ended.
 abbrev pub Each : {E X Y : Type 0} → (X → List Call → List Y → Ended E → Type 0) → List X → List Call
     → List Y → Ended E → Type 0
 Each One [] calls made result = (calls ≡ []) × (made ≡ []) × (result ≡ Ok tt)

@@ -1,5 +1,5 @@
-//! The prediction of a build: what each task of a plan would come to on the folder as it is, and why it
-//! would run. Nothing is changed.
+//! The prediction of a build: the outcome of each task of a plan on the folder as it is, and why it would
+//! run. Nothing is changed.
 //!
 //! How it works: a task is decided by what builds decide on, and there is no second definition of that. Its
 //! reasons are the differences between its record and what it has now. A task is marked if it reads an

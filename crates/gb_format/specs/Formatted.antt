@@ -27,8 +27,8 @@ pub record IsFormatted (text out : List ℕ) : Type 0 where
   -- these are the pieces of both
   pub cut : IsCut text (pieces_of text) []
   pub out_cut : IsCut out (pieces_of out) []
-  -- Both have the same comments and tokens in one order, comments without the blanks at their ends. So each comment
-  -- is between the same two tokens.
+  -- Both have the same comments and tokens in one order, comments without the blanks at their ends. So each
+  -- comment is between the same two tokens.
   pub same : kept (pieces_of out) ≡ map tidy (kept (pieces_of text))
   -- formatted once more it is the same
   pub again : formatted out ≡ out

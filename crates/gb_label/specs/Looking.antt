@@ -1,4 +1,4 @@
--- What a task's turn is found to come to before its record is looked at.
+-- The outcome of a task as far as it is known before its record is read.
 use Rattle.std.specs.Prelude.{ℕ, ◌≡◌, ◌⊎◌, ◌||◌, ◌&&◌, not, Bool, true, false, List, [], Some}
 use Rattle.std.specs.List.{list_any, list_all, zip}
 use Rattle.gb_core.specs.Lists.{first_of}

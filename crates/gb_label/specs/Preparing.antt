@@ -31,7 +31,7 @@ MayPrepare task prepared.HasNoSource =
     × (list_any (λ property. property.skip_when_empty) task.files ≡ true)
 MayPrepare task (prepared.Decided decision seen) = (task.runs ≡ true) × (is_empty task.actions ≡ false)
 
--- what may be decided over any folder, where that is what it comes to
+-- what may be decided over any folder, where that is the outcome
 abbrev pub MayDecideAs : Options → Task → Prepared → Type 0
 MayDecideAs options task prepared.Skips = ⊤
 MayDecideAs options task prepared.HasNoActions = ⊤

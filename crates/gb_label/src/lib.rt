@@ -1,5 +1,5 @@
-//! What a started task comes to, decided before anything is changed: it is skipped, has no source, is up to
-//! date, or has to run, by changes or in full.
+//! The outcome of a task that starts, decided before anything is changed: it is skipped, has no source, is up
+//! to date, or has to run, incrementally or in full.
 //!
 //! Why: the decision and the run must go by one reading of the files. A decision needs digests alone, a run
 //! needs contents.

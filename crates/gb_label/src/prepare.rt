@@ -1,4 +1,4 @@
-//! What a started task's turn comes to, before anything is changed.
+//! The outcome of a task that starts, before anything is changed.
 ghost use Rattle.std.specs.Prelude.{◌≡◌, ◌||◌, true, false, IsTrue, IfOk, IfErr, OnErr, option_copied};
 ghost use Rattle.gb_folder.specs.Calls.{Asks, no_change};
 ghost use Rattle.gb_folder.specs.Files.{is_empty};
@@ -21,7 +21,7 @@ use gb_report::report::Options;
 use gb_tree::kept::Reading;
 use std::alloc::Global;
 
-/// What a started task's turn comes to.
+/// The outcome of a task that starts.
 #[derive(Drop)]
 pub enum Prepared {
     /// `enabled` or a test is false.
@@ -46,7 +46,7 @@ pub struct Seen {
 /// How many bytes of a task's inputs are kept for its run, and as many of its outputs.
 const KEPT: u64 = 67_108_864;
 
-/// What a task's turn comes to, by its record, its inputs and its outputs as they stand. Nothing is changed,
+/// The outcome of a task by its record, its inputs and its outputs as they are. Nothing is changed,
 /// also not by an error: the first of what hinders reading its inputs or listing its outputs, or the
 /// machine's.
 pub fn prepare<F: Folder>(

@@ -14,7 +14,7 @@ is_hidden c =
     nat_lt c 0x20 || is_between 0x7F 0x9F c || (c == 0x61C) || is_between 0x200E 0x200F c
     || is_between 0x2028 0x202E c || is_between 0x2066 0x2069 c
 
--- U+FFFD stands in the place of a character that is not shown
+-- U+FFFD in place of a character that is not shown
 abbrev pub shown_char : ℕ → ℕ
 shown_char c = if is_hidden c then 0xFFFD else c
 

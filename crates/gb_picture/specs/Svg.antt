@@ -67,7 +67,7 @@ abbrev pub size_text : Frame → List ℕ
 size_text frame =
     codes " width=\"" ++ decimal frame.width ++ codes "\" height=\"" ++ decimal frame.height ++ codes "\""
 
--- the styles of its curves, and what each style stands for
+-- the styles of its curves, and the meaning of each
 abbrev pub legend_text : List ℕ
 legend_text =
     line (codes " font-family=\"monospace\" font-size=\"12\">")

@@ -37,7 +37,7 @@ use Rattle.gb_run.specs.Doing.{Does, Ending}
 use Rattle.gb_run.specs.Work.{DoesParts, OrPrints, Work, files_of, or_stop, part_of, with_part, work_of}
 use Rattle.gb_run.proofs.Follows.{cut_short, leaves}
 
--- ---- what an action comes to by itself
+-- ---- the result of one action by itself
 
 module _ (outputs : List Output) (rest held : Files) where
   abbrev pub FailsAlone : Result (List Written) Text → Type 0

@@ -66,7 +66,7 @@ module _ (kinds : Kinds) (task : Task) (trees : Trees) (changes : List Changes) 
         fails_further kinds task trees changes start seen old goes_on fitting action left cur.files lines going may_leave may_leave before before after fault new lines (SameTearing-same may_leave) (omega arith) rises
         unread unwritten refl
 
-    -- the writer begins with what stood
+    -- the writer begins with the files that were there
     stands : kinds.writes (kind_of action) ≡ true → IsItsTurn kinds task action trees changes seen cur.files → cur.files ≡ start
     stands writes turn = stands_old kinds task trees changes start cur.files lines action left going writes turn.writes
 

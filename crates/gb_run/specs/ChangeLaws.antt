@@ -1,4 +1,4 @@
--- What a reply to changes comes to.
+-- The effect of a reply to changes.
 use Rattle.std.specs.Prelude.{◌≡◌, List, [], ◌∷◌, Ok, IsTrue}
 use Rattle.std.specs.List.{AllByRecursion}
 use Rattle.std.specs.FinMap.Entries.{is_sorted}

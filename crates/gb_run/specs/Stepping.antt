@@ -60,7 +60,7 @@ abbrev pub FailsByMachine : Tearing → ℕ → Files → List Step → Fault �
 FailsByMachine may_leave before old behind fault after new =
     ((fault ≡ faults.OutOfMemory) × (new ≡ old)) ⊎ IsStopped may_leave before old behind fault after new
 
--- An action stops over these files, by itself, where this is what it comes to, or by the machine: of its
+-- An action stops over these files, by itself, where this is its result, or by the machine: of its
 -- steps some first ones are done.
 pub record StopsAt (AreSteps : List Step → Type 0) (comes_to : Result Files Fault) (may_leave : Tearing)
     (before : ℕ) (old : Files) (fault : Fault) (after : ℕ) (new : Files) : Type 0 where

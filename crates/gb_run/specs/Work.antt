@@ -1,4 +1,4 @@
--- What a run in full comes to, worked out before anything is changed, and what it is to do that.
+-- The steps and lines of a full rebuild, worked out before anything is changed, and what it is to do them.
 use Rattle.std.specs.Prelude.{◌≡◌, ◌⊎◌, ◌++◌, List, [], ◌∷◌, Option, None, Some, Result, Ok, Err}
 use Rattle.gb_core.specs.Lists.{first_of}
 use Rattle.gb_folder.specs.Calls.{Call}
@@ -21,7 +21,7 @@ pub record Part : Type 0 where
   pub steps : List Step
   pub lines : List Text
 
--- What a run comes to: the parts of its actions up to the first that fails, and with what that one fails.
+-- The result of the actions: the parts of those up to the first that fails, and the fault of that one.
 pub record Work : Type 0 where
   pub parts : List Part
   pub fault : Option Fault
@@ -44,7 +44,7 @@ part_of course action = record {
   lines = printed_by course.kinds course.task action course.trees course.changes;
 }
 
--- what these actions come to, over the files that the task holds by then
+-- the result of these actions, given the files that the task holds by then
 abbrev pub work_of : Course → Files → List Action → Work
 work_of course held [] = record { parts = []; fault = None }
 work_of course held (action ∷ actions) =

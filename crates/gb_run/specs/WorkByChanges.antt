@@ -1,4 +1,4 @@
--- What a run by changes comes to, worked out before anything is changed.
+-- The steps and lines of an incremental execution, worked out before anything is changed.
 use Rattle.std.specs.Prelude.{◌≡◌, ◌⊎◌, ◌++◌, true, false, List, [], ◌∷◌, Option, None, Some, Ok, Err}
 use Rattle.std.specs.List.{AllZip}
 use Rattle.gb_core.specs.Lists.{first_of}
@@ -74,7 +74,7 @@ abbrev pub EndsSo : Increment → List Action → Option Fault → Type 0
 EndsSo run [] own = own ≡ None
 EndsSo run (action ∷ later) own = (fault : Fault) × (own ≡ Some fault) × FailsWith run action fault
 
--- What the actions come to: the parts of some first ones, and the fault of the next, if one is left.
+-- The result of the actions: the parts of some first ones, and the fault of the next, if one is left.
 pub record IsWorkByChanges (run : Increment) (work : Work) : Type 0 where
   pub done : List Action
   pub left : List Action
@@ -82,8 +82,8 @@ pub record IsWorkByChanges (run : Increment) (work : Work) : Type 0 where
   pub parts : AllZip (IsPart run) done work.parts
   pub ends : EndsSo run left work.fault
 
--- The actions ran by changes by these calls: memory ran out before the first of them, or what the actions
--- come to was done, and it ends with its own fault where it has one.
+-- The actions ran by changes by these calls: memory ran out before the first of them, or the result of
+-- the actions was done, and it ends with its own fault where it has one.
 abbrev pub RunsByChanges : Increment → List Call → List Text → Ending → Type 0
 RunsByChanges run calls lines result =
     ((calls ≡ []) × (lines ≡ []) × (result ≡ Err faults.OutOfMemory))

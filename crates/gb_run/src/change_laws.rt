@@ -1,4 +1,4 @@
-//! What a reply to changes comes to, each law the contract of a function that does nothing.
+//! The effect of a reply to changes; each law is the contract of a function that does nothing.
 ghost use Rattle.gb_run.specs.ChangeLaws.{RepliesAreMade, RepliesLeadOn};
 
 /// The files that stand once a reply to changes is done are those that a run in full makes.

@@ -74,8 +74,8 @@ impl Digests {
         self.hold(place, Sha256::digest(bytes.as_slice()))
     }
 
-    /// Follows these steps, one after another: the digest of what is written is put, and that of what is
-    /// removed is taken out.
+    /// Follows these steps, one after another: stores the digest of what is written, and drops that of what
+    /// is removed.
     pub fn follow(&mut self, steps: &[(Place, Option<Bytes>)]) -> Result<(), AllocError>
         ensures { OnOk result ((files : Files) → self.old ≡ digests_of files
             → self.new ≡ digests_of (after_steps files steps.now)) }

@@ -1,4 +1,4 @@
-//! What a reply comes to: all that the task then holds is checked, and the steps stand in their turn.
+//! The steps of a reply, in their order, once all files that the task will hold are checked.
 ghost use Rattle.std.specs.Prelude.{◌≡◌, ◌⊎◌, [], Some, IfOk, IfErr, OnOk};
 ghost use Rattle.std.specs.Option.{option_copied};
 ghost use Rattle.gb_core.specs.Lists.{first_of};

@@ -1,4 +1,4 @@
-//! What a run in full comes to, worked out before anything is changed. Nothing here knows a folder.
+//! The steps and lines of a full rebuild, worked out before anything is changed. Nothing here knows a folder.
 ghost use Rattle.std.specs.Prelude.{◌≡◌, ◌≢◌, ◌⊎◌, ◌++◌, ℕ, List, [], Ok, Err, Some, IsTrue, IfOk, IfErr};
 ghost use Rattle.std.specs.Prelude.{OnOk, map};
 ghost use Rattle.std.specs.List.{AllByRecursion};
@@ -41,8 +41,8 @@ pub struct Part {
     pub lines: Lines,
 }
 
-/// What a run comes to: the parts of its actions up to the first that fails, and the digests of what they
-/// make, or with what that one fails.
+/// The result of a run: the parts of its actions up to the first that fails, and the digests of what they
+/// make, or the fault of that one.
 #[derive(Drop)]
 pub struct Work {
     pub parts: Vec<Part>,

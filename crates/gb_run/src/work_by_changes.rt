@@ -1,4 +1,4 @@
-//! What a run by changes comes to, worked out before anything is changed. Nothing here knows a folder.
+//! The steps and lines of an incremental execution, worked out before anything is changed. Nothing here knows a folder.
 ghost use Rattle.std.specs.Prelude.{◌≡◌, ◌≢◌, ◌⊎◌, ◌++◌, ℕ, List, [], Ok, Err, Some, IsTrue, IfOk, IfErr};
 ghost use Rattle.std.specs.Prelude.{OnOk, map, true, false};
 ghost use Rattle.std.specs.FinMap.Entries.{is_sorted};
@@ -40,8 +40,8 @@ use gb_tree::prints::Prints;
 use std::alloc::{AllocError, Global};
 use std::mem;
 
-/// What is at hand as a run is worked out: the request, in which outputs have no files, the outputs as they
-/// were seen, for the one action that is asked by changes, and the digests of what they come to hold.
+/// The state while a run is worked out: the request, in which outputs have no files; the outputs as they
+/// were read, for the one action that is asked by changes; and the digests of what they will hold.
 #[derive(Drop)]
 struct Working {
     request: Request,

@@ -1,4 +1,4 @@
--- Kinds that make all their files anew: what they reply to changes goes by what stands, not by the changes.
+-- Kinds that make all their files again: their reply to changes depends on the files that are there.
 use Rattle.std.specs.Prelude.{◌≡◌, ℕ, true, false, List, [], ◌∷◌, if◌then◌else◌, is_some, IsTrue}
 use Rattle.std.specs.List.{flat_map}
 use Rattle.std.specs.FinMap.Entries.{is_sorted}
@@ -21,12 +21,12 @@ abbrev pub unless_made : Tree → List ℕ → List OutputPath
 unless_made made path =
     if is_some (file_at made path) then [] else record { output = target; path = path } ∷ []
 
--- of the files that stand those that are made no more
+-- of the files that are there, those that are made no more
 abbrev pub made_no_more : Tree → Tree → List OutputPath
 made_no_more stood made = flat_map (λ file. unless_made made file.0) stood
 
--- The reply that takes what stands to these files: it removes those that stand and are made no more, and
--- writes those that do not stand so already. Each path is looked at once, by what is made there in the end,
+-- The reply that leaves exactly these files: it removes those that are there and are made no more, and
+-- writes those that differ from what is there. Each path is looked at once, by what is made there in the end,
 -- in the order of paths.
 pub record IsDifference (files : Tree) (lines : List (List ℕ)) (outputs : List OutputFiles)
     (reply : Reply) : Type 0 where
@@ -38,7 +38,7 @@ pub record IsDifference (files : Tree) (lines : List (List ℕ)) (outputs : List
   pub prints : reply.lines ≡ lines
 
 -- The reply of a kind that makes these files and prints these lines: all of them, or the difference to what
--- stands.
+-- is there.
 pub record IsAnew (files : Tree) (lines : List (List ℕ)) (request : Request) (reply : Reply) : Type 0 where
   pub in_full : request.changes.incremental ≡ false → reply ≡ all_of files lines
   pub by_changes : request.changes.incremental ≡ true → IsDifference files lines request.outputs reply
