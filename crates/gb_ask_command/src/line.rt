@@ -1,6 +1,6 @@
 //! The line of a task.
 ghost use Rattle.std.specs.Prelude.{◌≡◌, ◌++◌, OnOk, string_bytes};
-ghost use Rattle.gb_ask_command.specs.Line.{after_text, coming_text, line_text, more_text, reasons_text};
+ghost use Rattle.gb_ask_command.specs.Line.{coming_text, line_text, mark_text, more_text, reasons_text};
 ghost use Rattle.gb_ask_command.specs.Line.{runs_text, way};
 
 use gb_core::path::TaskPath;
@@ -17,18 +17,18 @@ pub(crate) fn push_line(text: &mut String, told: &Foretold) -> Result<(), AllocE
     let path = &told.path;
     write!(text, "{path}")?;
     push_coming(text, &told.coming)?;
-    push_after(text, &told.after)?;
+    push_mark(text, &told.needs, &told.after)?;
     text.push('\n')
 }
 
-/// What a task comes to.
+/// The outcome of a task.
 fn push_coming(text: &mut String, coming: &Coming) -> Result<(), AllocError>
     ensures { OnOk result (string_bytes text.new ≡ string_bytes text.old ++ coming_text coming.now) }
 {
     match coming {
         Coming::Skips => write!(text, " SKIPPED: onlyIf is false"),
         Coming::HasNoActions => write!(text, " has no actions"),
-        Coming::HasNoSource => write!(text, " NO-SOURCE"),
+        Coming::HasNoSource(_) => write!(text, " NO-SOURCE"),
         Coming::CannotRead(fault) => write!(text, " cannot be read: {fault}"),
         Coming::UpToDate => write!(text, " UP-TO-DATE"),
         Coming::HasGrown => write!(text, " runs: outputs are too large or too many"),
@@ -76,12 +76,18 @@ fn push_more(text: &mut String, count: usize) -> Result<(), AllocError>
     write!(text, ", and {count} more")
 }
 
-/// After which other task it is told.
-fn push_after(text: &mut String, after: &Option<TaskPath>) -> Result<(), AllocError>
-    ensures { OnOk result (string_bytes text.new ≡ string_bytes text.old ++ after_text after.now) }
+/// The task that keeps it from starting, or else the one after which its outcome may be another.
+fn push_mark(
+    text: &mut String,
+    needs: &Option<TaskPath>,
+    after: &Option<TaskPath>,
+) -> Result<(), AllocError>
+    ensures { OnOk result
+        (string_bytes text.new ≡ string_bytes text.old ++ mark_text needs.now after.now) }
 {
-    match after {
-        Some(path) => write!(text, " (after {path})"),
-        None => Ok(()),
+    match (needs, after) {
+        (Some(path), _) => write!(text, " (needs {path})"),
+        (None, Some(path)) => write!(text, " (after {path})"),
+        (None, None) => Ok(()),
     }
 }

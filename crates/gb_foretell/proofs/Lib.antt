@@ -1,2 +1,5 @@
+mod Finding
+mod Keeping
+mod Digested
 mod Marking
 pub mod Telling

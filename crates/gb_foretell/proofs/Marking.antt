@@ -1,4 +1,4 @@
--- What is told before a task, pair by pair.
+-- The marks that earlier tasks give to a task, pair by pair.
 use Rattle.std.specs.Prelude.{ℕ, zero, suc, ◌≡◌, ◌<◌, ◌≤◌, ◌+◌, ◌||◌, Bool, true, false, List, [], ◌∷◌, ◌++◌, map, length, take, get_or, None, Some, find}
 use Rattle.std.specs.List.{AllZip, flat_map, list_any, zip}
 use Rattle.std.proofs.Common.{refl, sym, ap, subst, ◌∙◌, arith, cond, append_assoc}
@@ -6,7 +6,7 @@ use Rattle.std.proofs.lemmas.List.{map-append, take_all, take_more}
 use Rattle.std.proofs.lemmas.List.Folds.{list_any-append}
 use Rattle.gb_meaning.proofs.Common.{none_some}
 use Rattle.gb_plan.specs.declared.plan.Planned.{Planned}
-use Rattle.gb_foretell.specs.Marks.{AreMarkedAfter, mark}
+use Rattle.gb_foretell.specs.Marks.{AreMarkedAfter, lack, mark}
 use Rattle.gb_foretell.specs.declared.coming.Foretold.{Foretold}
 
 -- a test of what elements give, given in a row
@@ -69,27 +69,45 @@ zip_more (w ∷ xs) (v ∷ ys) (suc i) x y less long is =
     ap (λ n. zip (take n (w ∷ xs)) ((v ∷ ys) ++ y ∷ [])) (one_later i)
     ∙ ap (λ ps. (w, v) ∷ ps) (zip_more xs ys i x y (omega (arith, less)) (omega (arith, long)) is)
 
+abbrev told_in : List (Planned × Foretold) → List Foretold
+told_in pairs = map (λ (pair : Planned × Foretold). pair.1) pairs
+
 marked_push : (before pairs : List (Planned × Foretold)) (pair : Planned × Foretold) → AreMarkedAfter before pairs
-    → pair.1.after ≡ mark (before ++ pairs) pair.0.task pair.1.coming → AreMarkedAfter before (pairs ++ pair ∷ [])
-marked_push before [] pair all is = (is ∙ ap (λ ps. mark ps pair.0.task pair.1.coming) (append_nil before), tt)
+    → pair.1.after ≡ mark (before ++ pairs) pair.0.task pair.1.coming → pair.1.needs ≡ lack pair.0.task (told_in (before ++ pairs))
+    → AreMarkedAfter before (pairs ++ pair ∷ [])
+marked_push before [] pair all is lacks =
+    (is ∙ ap (λ ps. mark ps pair.0.task pair.1.coming) (append_nil before), lacks ∙ ap (λ ps. lack pair.0.task (told_in ps)) (append_nil before), tt)
   where
     append_nil : (ps : List (Planned × Foretold)) → ps ++ [] ≡ ps
     append_nil [] = refl
     append_nil (p ∷ ps) = ap (λ l. p ∷ l) (append_nil ps)
-marked_push before (p ∷ pairs) pair all is =
-    (all.0, marked_push (before ++ p ∷ []) pairs pair all.1 (is ∙ ap (λ ps. mark ps pair.0.task pair.1.coming) (sym (append_assoc before (p ∷ []) pairs))))
-
--- one task more is marked
-pub marked_more : (plan : List Planned) (told : List Foretold) (i : ℕ) (planned : Planned) (one : Foretold) → i < length plan → length told ≡ i
-    → planned ≡ get_or plan i planned → AreMarkedAfter [] (zip (take i plan) told) → one.after ≡ mark (zip (take i plan) told) planned.task one.coming
-    → AreMarkedAfter [] (zip (take (i + 1) plan) (told ++ one ∷ []))
-marked_more plan told i planned one less long is all here =
-    subst (AreMarkedAfter []) (sym (zip_more plan told i planned one less long is)) (marked_push [] (zip (take i plan) told) (planned, one) all here)
+marked_push before (p ∷ pairs) pair all is lacks = (
+  all.0,
+  all.1,
+  marked_push (before ++ p ∷ []) pairs pair all.2 (is ∙ ap (λ ps. mark ps pair.0.task pair.1.coming) (sym (append_assoc before (p ∷ []) pairs)))
+      (lacks ∙ ap (λ ps. lack pair.0.task (told_in ps)) (sym (append_assoc before (p ∷ []) pairs))),
+)
 
 front_long : {X : Type 0} (xs : List X) (i : ℕ) → i < length xs → length (take i xs) ≡ i
 front_long [] i less = absurd (omega (arith, less))
 front_long (x ∷ xs) zero less = refl
 front_long (x ∷ xs) (suc i) less = ap suc (front_long xs i (omega (arith, less)))
+
+-- the second parts of pairs
+seconds : {X Y : Type 0} (xs : List X) (ys : List Y) → length ys ≡ length xs → map (λ (pair : X × Y). pair.1) (zip xs ys) ≡ ys
+seconds [] [] long = refl
+seconds [] (y ∷ ys) long = absurd (omega (arith, long))
+seconds (x ∷ xs) [] long = refl
+seconds (x ∷ xs) (y ∷ ys) long = ap (λ (l : List _). y ∷ l) (seconds xs ys (omega (arith, long)))
+
+-- one task more is marked
+pub marked_more : (plan : List Planned) (told : List Foretold) (i : ℕ) (planned : Planned) (one : Foretold) → i < length plan → length told ≡ i
+    → planned ≡ get_or plan i planned → AreMarkedAfter [] (zip (take i plan) told) → one.after ≡ mark (zip (take i plan) told) planned.task one.coming
+    → one.needs ≡ lack planned.task told → AreMarkedAfter [] (zip (take (i + 1) plan) (told ++ one ∷ []))
+marked_more plan told i planned one less long is all here lacks =
+    subst (AreMarkedAfter []) (sym (zip_more plan told i planned one less long is))
+    (marked_push [] (zip (take i plan) told) (planned, one) all here
+    (lacks ∙ ap (lack planned.task) (sym (seconds (take i plan) told (long ∙ sym (front_long plan i less))))))
 
 -- as many as in the front
 pub front_each : {X Y : Type 0} (xs : List X) (ys : List Y) (i : ℕ) → i < length xs → length ys ≡ i → length ys ≡ length (take i xs)

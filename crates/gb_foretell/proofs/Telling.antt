@@ -1,5 +1,5 @@
--- From what is decided of a task to what is told of it.
-use Rattle.std.specs.Prelude.{ℕ, ◌≡◌, ◌≢◌, ◌≤◌, ◌⊎◌, Bool, true, false, List, [], ◌∷◌, ◌++◌, map, if◌then◌else◌, Option, None, Some, Result, Ok, Err, IfOk, IfErr, OnOk}
+-- From the decision on a task to its prediction.
+use Rattle.std.specs.Prelude.{ℕ, ◌≡◌, ◌≢◌, ◌≤◌, ◌⊎◌, Bool, true, false, not, List, [], ◌∷◌, ◌++◌, map, if◌then◌else◌, Option, None, Some, Result, Ok, Err, IfOk, IfErr, OnOk}
 use Rattle.std.specs.List.{AllZip, flat_map}
 use Rattle.std.proofs.Common.{refl, sym, ap, subst, ◌∙◌, inl, inr, true≢false}
 use Rattle.gb_turn.specs.Turns.{goes_by_changes}
@@ -16,7 +16,8 @@ use Rattle.gb_label.specs.Looking.{IsHindered}
 use Rattle.gb_label.proofs.Cases.{by_source, cannot_before, hindered_at_outputs}
 use Rattle.gb_label.proofs.Growth.{CannotPrint}
 use Rattle.gb_meaning.specs.Kinds.{Kinds}
-use Rattle.gb_meaning.specs.Label.{early_case}
+use Rattle.gb_meaning.specs.Label.{HasNoSource, early_case}
+use Rattle.gb_meaning.specs.Memory.{output_files}
 use Rattle.gb_meaning.specs.Tree.{has_no_source, input_faults, listing_faults, trees_of}
 use Rattle.gb_meaning.proofs.Common.{none_some}
 use Rattle.gb_plan.specs.declared.task.TaskDeclaration.{TaskDeclaration as Task}
@@ -28,6 +29,7 @@ use Rattle.gb_report.specs.declared.report.Options.{Options}
 use Rattle.gb_store.specs.Faults.{IsOfMachine}
 use Rattle.gb_store.proofs.Machine.{machine_after, machine_before}
 use Rattle.gb_label.specs.Reading.{CannotRead, digests_in, print_faults, recorded_of}
+use Rattle.gb_foretell.proofs.Finding.{case_by}
 use Rattle.gb_foretell.specs.Explained.{IsExplained}
 use Rattle.gb_foretell.specs.Foretold.{AreReasons, IsForetold, IsFound, IsReasoned, IsRun, RunsFor, is_of_machine, told_of}
 use Rattle.gb_foretell.specs.declared.coming.Coming.{Coming}
@@ -62,7 +64,7 @@ module _ (kinds : Kinds) (options : Options) (task : Task) (folder : Contents) w
       → IsExplained kinds task run present coming → IsFound kinds options task folder (Some run) coming
   found_of run present comings.Skips is never = absurd never
   found_of run present comings.HasNoActions is never = absurd never
-  found_of run present comings.HasNoSource is never = absurd never
+  found_of run present (comings.HasNoSource removes) is never = absurd never
   found_of run present (comings.CannotRead fault) is never = absurd never
   found_of run present comings.UpToDate is from = by_record present is from
   found_of run present comings.HasGrown is never = absurd never
@@ -79,7 +81,7 @@ module _ (kinds : Kinds) (options : Options) (task : Task) (folder : Contents) w
       → IsFound kinds options task folder old coming
   runs_found old reason comings.Skips never full why = absurd never
   runs_found old reason comings.HasNoActions never full why = absurd never
-  runs_found old reason comings.HasNoSource never full why = absurd never
+  runs_found old reason (comings.HasNoSource removes) never full why = absurd never
   runs_found old reason (comings.CannotRead fault) never full why = absurd never
   runs_found old reason comings.UpToDate never full why = absurd never
   runs_found old reason comings.HasGrown never full why = absurd never
@@ -91,8 +93,18 @@ module _ (kinds : Kinds) (options : Options) (task : Task) (folder : Contents) w
     reasons = λ present is_present. is.1 ∙ why present is_present;
   }
 
-  pub forgotten_found : (coming : Coming) → RunsFor reasons.NoRecord coming → IsFound kinds options task folder None coming
-  forgotten_found coming is = runs_found None reasons.NoRecord coming is forgotten (λ present is_present. refl)
+  abbrev pub why_without : Bool → Reason
+  why_without none = if none then reasons.NoOutputs else reasons.NoRecord
+
+  empty_mapped : {X Y : Type 0} (f : X → Y) (xs : List X) → is_empty (map f xs) ≡ is_empty xs
+  empty_mapped f [] = refl
+  empty_mapped f (x ∷ xs) = refl
+
+  pub forgotten_found : (coming : Coming) → RunsFor (why_without (is_empty task.outputs)) coming → IsFound kinds options task folder None coming
+  forgotten_found coming is =
+      runs_found None (why_without (is_empty task.outputs)) coming is forgotten
+      (λ present is_present. ap (λ none. why_without none ∷ [])
+      (sym (ap (λ (now : Record). is_empty now.outputs) is_present.now ∙ empty_mapped (recorded_of folder.files) task.outputs)))
 
   pub rerun_found : (run : Record) (coming : Coming) → options.rerun ≡ true → RunsFor reasons.Rerun coming
       → IsFound kinds options task folder (Some run) coming
@@ -114,7 +126,7 @@ module _ (kinds : Kinds) (options : Options) (task : Task) (folder : Contents) w
         → IsForetold kinds options task folder old before after coming
     foretold_of before after comings.Skips none never = absurd never
     foretold_of before after comings.HasNoActions none never = absurd never
-    foretold_of before after comings.HasNoSource none never = absurd never
+    foretold_of before after (comings.HasNoSource removes) none never = absurd never
     foretold_of before after (comings.CannotRead fault) none never = absurd never
     foretold_of before after comings.UpToDate none found = (none, found)
     foretold_of before after comings.HasGrown none found = (none, found)
@@ -131,12 +143,33 @@ module _ (kinds : Kinds) (options : Options) (task : Task) (folder : Contents) w
     sourced_foretold before mid after (Err fault) le more runs acts inputs source none is err =
         hindered_at_outputs task folder before after fault runs acts inputs (cannot_before task folder folder before mid after fault refl le more err)
 
+    no_hindrance : (runs idle dry : Bool) (hindrances : List Fault) → case_by runs idle hindrances dry ≡ Some HasNoSource → hindrances ≡ []
+    no_hindrance false idle dry hindrances e = absurd (cc)
+    no_hindrance true true dry hindrances e = absurd (cc)
+    no_hindrance true false dry [] e = refl
+    no_hindrance true false dry (fault ∷ hindrances) e = absurd (cc)
+
+    last_none : (xs ys : List Fault) → xs ++ ys ≡ [] → ys ≡ []
+    last_none [] ys e = e
+    last_none (x ∷ xs) ys e = absurd (cc)
+
+    -- whether files are removed of a task without source, or what hinders listing its outputs
+    pub sourceless_foretold : (before mid after : ℕ) (found : Result Coming Fault) → before ≤ mid → mid ≤ after → early_case task folder ≡ Some HasNoSource
+        → IfOk found (λ coming. (removes : Bool) × (coming ≡ comings.HasNoSource removes) × (removes ≡ not (is_empty (output_files task folder.files))))
+        → IfErr found (CannotRead mid after (listing_faults task folder)) → IsForetold kinds options task folder old before after (told_of found)
+    sourceless_foretold before mid after (Ok coming) le more case is err =
+        subst (λ (c : Coming). IsForetold kinds options task folder old before after c) (sym is.1) (case, is.2)
+    sourceless_foretold before mid after (Err fault) le more case is (inl machine) = inl (machine_before before mid after fault le more machine)
+    sourceless_foretold before mid after (Err fault) le more case is (inr first) =
+        none_some (sym (ap first_of (last_none (input_faults task folder) (listing_faults task folder)
+        (no_hindrance task.runs (is_empty task.actions) (has_no_source task folder.files) (input_faults task folder ++ listing_faults task folder) case))) ∙ first)
+
     -- the machine's counts before and after other calls
     pub foretold_wider : (first second third fourth : ℕ) (coming : Coming) → first ≤ second → second ≤ third → third ≤ fourth
         → IsForetold kinds options task folder old second third coming → IsForetold kinds options task folder old first fourth coming
     foretold_wider first second third fourth comings.Skips ab bc cd is = is
     foretold_wider first second third fourth comings.HasNoActions ab bc cd is = is
-    foretold_wider first second third fourth comings.HasNoSource ab bc cd is = is
+    foretold_wider first second third fourth (comings.HasNoSource removes) ab bc cd is = is
     foretold_wider first second third fourth (comings.CannotRead fault) ab bc cd (inl machine) =
         inl (machine_after first third fourth fault cd (machine_before first second third fault ab bc machine))
     foretold_wider first second third fourth (comings.CannotRead fault) ab bc cd (inr first_of_all) = inr first_of_all
@@ -148,7 +181,7 @@ module _ (kinds : Kinds) (options : Options) (task : Task) (folder : Contents) w
 pub runs_reasoned : (reason : Reason) (coming : Coming) → RunsFor reason coming → IsReasoned coming
 runs_reasoned reason comings.Skips never = absurd never
 runs_reasoned reason comings.HasNoActions never = absurd never
-runs_reasoned reason comings.HasNoSource never = absurd never
+runs_reasoned reason (comings.HasNoSource removes) never = absurd never
 runs_reasoned reason (comings.CannotRead fault) never = absurd never
 runs_reasoned reason comings.UpToDate never = absurd never
 runs_reasoned reason comings.HasGrown never = absurd never
@@ -177,7 +210,7 @@ with_present (Err fault) B A Q present is each = tt
 
 -- ---- Outputs that cannot be compared
 
-by_machine : (before after : ℕ) (fault : Fault) → IsOfMachine before after fault → is_of_machine fault ≡ true
+pub by_machine : (before after : ℕ) (fault : Fault) → IsOfMachine before after fault → is_of_machine fault ≡ true
 by_machine before after fault (inl memory) = ap is_of_machine memory
 by_machine before after fault (inr device) = ap is_of_machine device.1
 

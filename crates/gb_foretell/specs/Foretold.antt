@@ -1,5 +1,5 @@
 -- What a task's turn comes to on a folder as it stands, in the words of builds.
-use Rattle.std.specs.Prelude.{ℕ, ◌≡◌, ◌≢◌, Bool, false, true, List, []}
+use Rattle.std.specs.Prelude.{ℕ, ◌≡◌, ◌≢◌, Bool, false, true, not, List, []}
 use Rattle.std.specs.Prelude.{◌∷◌, map, Option, Some, None, Result, Ok, Err, ⊤}
 use Rattle.std.specs.List.{AllZip, flat_map, zip}
 use Rattle.gb_turn.specs.Turns.{goes_by_changes}
@@ -12,6 +12,7 @@ use Rattle.gb_label.specs.Deciding.{IsDecided, IsPresentOf}
 use Rattle.gb_label.specs.Looking.{IsHindered}
 use Rattle.gb_meaning.specs.Kinds.{Kinds}
 use Rattle.gb_meaning.specs.Label.{HasNoActions, HasNoSource, Skips, early_case}
+use Rattle.gb_meaning.specs.Memory.{output_files}
 use Rattle.gb_meaning.specs.Tree.{trees_of}
 use Rattle.gb_plan.specs.Graph.{Plan}
 use Rattle.gb_plan.specs.declared.task.TaskDeclaration.{TaskDeclaration as Task}
@@ -56,8 +57,9 @@ abbrev pub IsForetold : Kinds → Options → Task → Contents → Option Recor
 IsForetold kinds options task folder old before after comings.Skips = early_case task folder ≡ Some Skips
 IsForetold kinds options task folder old before after comings.HasNoActions =
     early_case task folder ≡ Some HasNoActions
-IsForetold kinds options task folder old before after comings.HasNoSource =
-    early_case task folder ≡ Some HasNoSource
+IsForetold kinds options task folder old before after (comings.HasNoSource removes) =
+    (early_case task folder ≡ Some HasNoSource)
+    × (removes ≡ not (is_empty (output_files task folder.files)))
 IsForetold kinds options task folder old before after (comings.CannotRead fault) =
     IsHindered task folder before after fault
 IsForetold kinds options task folder old before after other =

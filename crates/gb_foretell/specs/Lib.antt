@@ -1,3 +1,4 @@
 pub mod Explained
 pub mod Foretold
 pub mod Marks
+pub mod Predicted

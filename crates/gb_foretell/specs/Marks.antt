@@ -1,35 +1,37 @@
--- After which other task a task is told.
-use Rattle.std.specs.Prelude.{◌≡◌, ◌||◌, ◌&&◌, ◌++◌, ◌∷◌, [], Bool, true}
-use Rattle.std.specs.Prelude.{false, List, Option, None, if◌then◌else◌, find, is_some, option_map, ⊤}
+-- Which earlier task may change what a task finds, and which one keeps it from starting.
+use Rattle.std.specs.Prelude.{◌≡◌, ◌||◌, ◌&&◌, ◌++◌, ◌∷◌, [], Bool, true, map}
+use Rattle.std.specs.Prelude.{false, List, Option, None, Some, if◌then◌else◌, find, is_some, option_map, ⊤}
 use Rattle.std.specs.List.{zip}
 use Rattle.gb_plan.specs.Graph.{Plan, reads_output_of}
-use Rattle.gb_plan.specs.Task.{Path}
+use Rattle.gb_plan.specs.Task.{Path, has_path}
 use Rattle.gb_plan.specs.declared.plan.Planned.{Planned}
 use Rattle.gb_plan.specs.declared.task.TaskDeclaration.{TaskDeclaration as Task}
 use Rattle.gb_foretell.specs.declared.coming.Coming.{Coming}
 use Rattle.gb_foretell.specs.declared.coming.Coming.TheVariants as comings
 use Rattle.gb_foretell.specs.declared.coming.Foretold.{Foretold}
 
--- what is told hangs on files
+-- the prediction depends on files
 abbrev pub reads_files : Coming → Bool
 reads_files comings.Skips = false
 reads_files comings.HasNoActions = false
 reads_files other = true
 
-abbrev pub runs : Coming → Bool
-runs comings.HasGrown = true
-runs (comings.Runs by_changes reasons) = true
-runs other = false
+-- its execution writes or removes files at its outputs
+abbrev pub changes_files : Coming → Bool
+changes_files (comings.HasNoSource removes) = removes
+changes_files comings.HasGrown = true
+changes_files (comings.Runs by_changes reasons) = true
+changes_files other = false
 
--- it runs, or is told after one that may change
+-- it changes files, or reads an output of one that may
 abbrev pub may_change : Foretold → Bool
-may_change told = runs told.coming || is_some told.after
+may_change told = changes_files told.coming || is_some told.after
 
 -- an earlier task may change, and the task reads an output of it
 abbrev pub changes_for : Task → Planned × Foretold → Bool
 changes_for task pair = may_change pair.1 && reads_output_of task pair.0.task
 
--- the first of these that may change what the task reads, if what is told of it hangs on files
+-- the first of these that may change what the task reads, if its prediction depends on files
 abbrev pub mark : List (Planned × Foretold) → Task → Coming → Option Path
 mark before task coming =
     if reads_files coming
@@ -37,11 +39,35 @@ mark before task coming =
     (find (changes_for task) before)
     else None
 
--- each of these tasks is told after the first of those before it that may change what it reads
+-- its execution fails before it runs
+abbrev pub is_unread : Coming → Bool
+is_unread (comings.CannotRead fault) = true
+is_unread other = false
+
+-- the task that fails, if no task that needs this one starts
+abbrev pub culprit : Foretold → Option Path
+culprit told = if is_unread told.coming then Some told.path else told.needs
+
+-- the culprit of an earlier task, if this one needs it
+abbrev pub culprit_for : Task → Foretold → Option Path
+culprit_for task told = if has_path task.needs told.path then culprit told else None
+
+abbrev pub or_else : Option Path → Option Path → Option Path
+or_else (Some path) other = Some path
+or_else None other = other
+
+-- the first culprit among those before it that the task needs
+abbrev pub lack : Task → List Foretold → Option Path
+lack task [] = None
+lack task (told ∷ before) = or_else (culprit_for task told) (lack task before)
+
+-- each of these tasks has the marks that those before it give it
 abbrev pub AreMarkedAfter : List (Planned × Foretold) → List (Planned × Foretold) → Type 0
 AreMarkedAfter before [] = ⊤
 AreMarkedAfter before (pair ∷ pairs) =
-    (pair.1.after ≡ mark before pair.0.task pair.1.coming) × AreMarkedAfter (before ++ pair ∷ []) pairs
+    (pair.1.after ≡ mark before pair.0.task pair.1.coming)
+    × (pair.1.needs ≡ lack pair.0.task (map (λ earlier. earlier.1) before))
+    × AreMarkedAfter (before ++ pair ∷ []) pairs
 
 abbrev pub AreMarked : Plan → List Foretold → Type 0
 AreMarked plan told = AreMarkedAfter [] (zip plan told)

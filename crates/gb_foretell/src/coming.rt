@@ -1,28 +1,29 @@
-//! What is told of a task.
-ghost use Rattle.std.specs.Prelude.{◌≡◌};
-ghost use Rattle.gb_foretell.specs.Marks.{may_change, reads_files, runs};
+//! What is predicted of a task.
+ghost use Rattle.std.specs.Prelude.{◌≡◌, option_copied};
+ghost use Rattle.gb_foretell.specs.Marks.{changes_files, culprit, is_unread, may_change, reads_files};
 
 use gb_core::path::TaskPath;
 use gb_reason::reason::Reason;
 use gb_report::fault::Fault;
 
-/// What a task's turn comes to.
+/// The outcome of a task, if it were executed now.
 #[derive(Drop)]
 pub enum Coming {
     /// `enabled` or a test is false.
     Skips,
     /// It runs nothing.
     HasNoActions,
-    /// All file properties that skip the task when empty are empty.
-    HasNoSource,
-    /// Its turn would fail with this before it runs: something hinders reading its inputs or listing its
+    /// All file properties that skip the task when empty are empty. `true`: there are files at its outputs,
+    /// and its execution removes them.
+    HasNoSource(bool),
+    /// Its execution would fail with this before it runs: something hinders reading its inputs or listing its
     /// outputs; or the machine failed here.
     CannotRead(Fault),
     /// Its inputs and outputs are as its record says.
     UpToDate,
     /// It runs in full, as its outputs are such as no run leaves: a file is too large, or there are too many.
     HasGrown,
-    /// It runs for these reasons; by changes, where that is true, and else in full.
+    /// It runs for these reasons: incrementally if `true`, else in full.
     Runs(bool, Vec<Reason>),
 }
 
@@ -34,31 +35,55 @@ impl Coming {
         !matches!(self, Coming::Skips | Coming::HasNoActions)
     }
 
-    /// Whether the task runs.
-    pub(crate) fn runs(&self) -> bool
-        ensures { result ≡ runs self.now }
+    /// Whether its execution writes or removes files at its outputs.
+    fn changes_files(&self) -> bool
+        ensures { result ≡ changes_files self.now }
     {
-        matches!(self, Coming::HasGrown | Coming::Runs(_, _))
+        match self {
+            Coming::HasNoSource(removes) => *removes,
+            Coming::HasGrown | Coming::Runs(_, _) => true,
+            _ => false,
+        }
+    }
+
+    /// Whether its execution fails before it runs.
+    fn is_unread(&self) -> bool
+        ensures { result ≡ is_unread self.now }
+    {
+        matches!(self, Coming::CannotRead(_))
     }
 }
 
-/// What is told of a task of a plan.
+/// The prediction for a task of a plan.
 #[derive(Drop)]
 pub struct Foretold {
-    /// The task of which this is told.
+    /// The path of the task.
     pub path: TaskPath,
-    /// What its turn comes to, as the files stand now.
+    /// Its outcome, if it were executed now.
     pub coming: Coming,
-    /// The first task before it in the plan whose output it reads and that runs or is itself told after one:
-    /// once that has run, the task may come to something else.
+    /// The first task before it in the plan whose output it reads and that may change its outputs: once that
+    /// was executed, the outcome may be another.
     pub after: Option<TaskPath>,
+    /// The task that it needs, by needs of needs too, and that cannot be read: it will not start.
+    pub needs: Option<TaskPath>,
 }
 
 impl Foretold {
-    /// Whether the task's outputs may be others by its turn.
+    /// Whether the task may change its outputs in a build.
     pub(crate) fn may_change(&self) -> bool
         ensures { result ≡ may_change self.now }
     {
-        self.coming.runs() || self.after.is_some()
+        self.coming.changes_files() || self.after.is_some()
+    }
+
+    /// The task that fails, if no task that needs this one starts.
+    pub(crate) fn culprit(&self) -> Option<&TaskPath>
+        ensures { option_copied result ≡ culprit self.now }
+    {
+        if self.coming.is_unread() {
+            Some(&self.path)
+        } else {
+            self.needs.as_ref()
+        }
     }
 }

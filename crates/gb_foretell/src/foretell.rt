@@ -1,28 +1,30 @@
-//! What the tasks of a plan come to.
+//! The prediction for the tasks of a plan.
 ghost use Rattle.std.specs.Prelude.{◌≡◌, false, IfOk, IsTrue, length, map, option_copied};
 ghost use Rattle.std.specs.List.{AllByRecursion, list_any, zip};
 ghost use Rattle.gb_folder.specs.Calls.{Asks, no_change};
 ghost use Rattle.gb_folder.specs.Files.{is_own};
 ghost use Rattle.gb_foretell.specs.Foretold.{AreForetold, IsForetold, IsReasoned};
-ghost use Rattle.gb_foretell.specs.Marks.{AreMarked, mark};
+ghost use Rattle.gb_foretell.specs.Marks.{AreMarked, lack, mark};
 ghost use Rattle.gb_label.specs.Deciding.{HasNamesInOrder};
 ghost use Rattle.gb_meaning.specs.Headline.{Agrees};
 ghost use Rattle.gb_meaning.specs.Kinds.{Kinds};
 ghost use Rattle.gb_plan.specs.Graph.{order};
 ghost use Rattle.gb_plan.specs.Ready.{IsReady};
 
-use crate::coming::Foretold;
-use crate::marks::mark;
+use crate::coming::{Coming, Foretold};
+use crate::marks::{lack, mark};
 use crate::task::coming_of;
 use gb_action::actions::Actions;
 use gb_action::table::ActionTable;
 use gb_folder::folder::Folder;
+use gb_core::path::TaskPath;
 use gb_history::record::Record;
 use gb_plan::plan::Planned;
+use gb_plan::task::TaskDeclaration;
 use gb_report::report::Options;
 use std::alloc::{AllocError, Global};
 
-/// What each task of a plan would come to if its turn started on the folder as it stands, in the order of the
+/// The outcome of each task of a plan, if it were executed on the folder as it is, in the order of the
 /// plan. `records` has what was read of their records, in that order. Nothing is changed.
 pub fn foretell<A: Actions, F: Folder>(
     alloc: Global,
@@ -66,7 +68,7 @@ pub fn foretell<A: Actions, F: Folder>(
     Ok(told)
 }
 
-/// What is told of a task, of which those before it are told so.
+/// The prediction for a task, given those for the tasks before it.
 fn foretold<A: Actions, F: Folder>(
     alloc: Global,
     folder: &mut F,
@@ -87,21 +89,39 @@ fn foretold<A: Actions, F: Folder>(
     ensures reasoned { IfOk result (λ one. IsReasoned one.coming) }
     ensures marked { IfOk result (λ one.
         one.after ≡ mark (zip before.now told.now) planned.now.task one.coming) }
+    ensures needs { IfOk result (λ one. one.needs ≡ lack planned.now.task told.now) }
     ensures foretold { IsTrue F.tells → (kinds : Kinds) → Agrees A.meanings table.now kinds
         → IfOk result (λ one. IsForetold kinds options planned.now.task (F.contents folder.old)
         (option_copied last.entry) (F.failures folder.old) (F.failures folder.new) one.coming) }
 {
     let path = planned.task.path.copy()?;
     let coming = coming_of::<A, F>(alloc, folder, &planned.task, table, options, last);
-    match mark(before, told, &planned.task, &coming) {
-        Ok(after) => Ok(Foretold {
+    match marks(before, told, &planned.task, &coming) {
+        Ok((after, needs)) => Ok(Foretold {
             path,
             coming,
             after,
+            needs,
         }),
         Err(fault) => {
             drop(coming);
             Err(fault)
         }
     }
+}
+
+/// Both marks of a task: which task may change what it finds, and which one keeps it from starting.
+fn marks(
+    before: &[Planned],
+    told: &[Foretold],
+    task: &TaskDeclaration,
+    coming: &Coming,
+) -> Result<(Option<TaskPath>, Option<TaskPath>), AllocError>
+    requires each { length told.now ≡ length before.now }
+    ensures { IfOk result (λ found.
+        (found.0 ≡ mark (zip before.now told.now) task.now coming.now) × (found.1 ≡ lack task.now told.now)) }
+{
+    let after = mark(before, told, task, coming)?;
+    let needs = lack(task, told)?;
+    Ok((after, needs))
 }

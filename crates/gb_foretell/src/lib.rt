@@ -9,6 +9,7 @@
 pub mod coming;
 mod compared;
 pub mod foretell;
+pub mod laws;
 mod marks;
 mod sourced;
 mod task;

@@ -1,8 +1,8 @@
-//! After which other task a task is told.
-ghost use Rattle.std.specs.Prelude.{◌≡◌, ◌&&◌, IfOk, find, length, map, option_map};
+//! Which earlier task may change what a task finds, and which one keeps it from starting.
+ghost use Rattle.std.specs.Prelude.{◌≡◌, ◌&&◌, IfOk, find, length, map, option_copied, option_map};
 ghost use Rattle.std.specs.List.{list_any, zip};
 ghost use Rattle.gb_core.specs.Place.{overlaps};
-ghost use Rattle.gb_foretell.specs.Marks.{changes_for, mark};
+ghost use Rattle.gb_foretell.specs.Marks.{changes_for, culprit_for, lack, mark};
 ghost use Rattle.gb_plan.specs.Graph.{reads_output_of};
 
 use crate::coming::{Coming, Foretold};
@@ -12,7 +12,7 @@ use gb_plan::plan::Planned;
 use gb_plan::task::{FileProperty, Output, TaskDeclaration};
 use std::alloc::AllocError;
 
-/// The first of these tasks that may change and whose output the task reads, if what is told of it hangs on
+/// The first of these tasks that may change and whose output the task reads, if its prediction depends on
 /// files.
 pub(crate) fn mark(
     before: &[Planned],
@@ -45,6 +45,32 @@ fn first_read(
         }
     }
     Ok(None)
+}
+
+/// The task that cannot be read and keeps this one from starting, by needs of needs too.
+pub(crate) fn lack(
+    task: &TaskDeclaration,
+    before: &[Foretold],
+) -> Result<Option<TaskPath>, AllocError>
+    ensures { IfOk result (λ found. found ≡ lack task.now before.now) }
+{
+    for earlier in before {
+        if let Some(culprit) = culprit_for(task, earlier) {
+            return Ok(Some(culprit.copy()?));
+        }
+    }
+    Ok(None)
+}
+
+/// The culprit of an earlier task, if this one needs it.
+fn culprit_for<'a>(task: &TaskDeclaration, earlier: &'a Foretold) -> Option<&'a TaskPath>
+    ensures { option_copied result ≡ culprit_for task.now earlier.now }
+{
+    if task.needs.iter().any(|path| earlier.path == *path) {
+        earlier.culprit()
+    } else {
+        None
+    }
 }
 
 /// Whether the earlier task may change what the task reads.

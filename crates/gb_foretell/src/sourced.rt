@@ -1,8 +1,8 @@
 //! A task that has a source.
-ghost use Rattle.std.specs.Prelude.{◌≡◌, ◌∷◌, [], IfErr, IfOk, IsTrue, OnOk, false, option_copied};
+ghost use Rattle.std.specs.Prelude.{◌≡◌, ◌∷◌, [], if◌then◌else◌, IfErr, IfOk, IsTrue, OnOk, false, option_copied};
 ghost use Rattle.std.specs.List.{list_any};
 ghost use Rattle.gb_folder.specs.Calls.{Asks, no_change};
-ghost use Rattle.gb_folder.specs.Files.{is_own};
+ghost use Rattle.gb_folder.specs.Files.{is_empty, is_own};
 ghost use Rattle.gb_foretell.specs.Foretold.{IsFound, IsReasoned, RunsFor};
 ghost use Rattle.gb_label.specs.Deciding.{HasNamesInOrder};
 ghost use Rattle.gb_meaning.specs.Headline.{Agrees};
@@ -25,7 +25,7 @@ use gb_report::report::Options;
 use gb_tree::kept::Reading;
 use std::alloc::Global;
 
-/// What a task that has a source comes to, by its record and by what it has now.
+/// The outcome of a task that has a source, by its record and by what it has now.
 pub(crate) fn sourced<A: Actions, F: Folder>(
     alloc: Global,
     folder: &mut F,
@@ -51,7 +51,7 @@ pub(crate) fn sourced<A: Actions, F: Folder>(
         (listing_faults task.now (F.contents folder.old))) }
 {
     let Some(run) = old else {
-        return anew(alloc, folder, task, Reason::NoRecord);
+        return anew(alloc, folder, task, reason_without(task));
     };
     if options.rerun {
         return anew(alloc, folder, task, Reason::Rerun);
@@ -60,6 +60,17 @@ pub(crate) fn sourced<A: Actions, F: Folder>(
         return anew(alloc, folder, task, Reason::Stale);
     }
     compared::<A, F>(alloc, folder, task, table, options, run, inputs)
+}
+
+/// The reason why a task runs that has no record.
+fn reason_without(task: &TaskDeclaration) -> Reason
+    ensures { result ≡ (if is_empty task.now.outputs then Reason.NoOutputs else Reason.NoRecord) }
+{
+    if task.outputs.as_slice().is_empty() {
+        Reason::NoOutputs
+    } else {
+        Reason::NoRecord
+    }
 }
 
 /// That it runs in full for this one reason, whatever it has.

@@ -1,12 +1,15 @@
-//! What one task comes to.
-ghost use Rattle.std.specs.Prelude.{◌≡◌, IsTrue, false, option_copied};
+//! The outcome of one task, if it were executed now.
+ghost use Rattle.std.specs.Prelude.{◌≡◌, Bool, IfErr, IfOk, IsTrue, false, not, option_copied};
 ghost use Rattle.std.specs.List.{list_any};
 ghost use Rattle.gb_folder.specs.Calls.{Asks, no_change};
-ghost use Rattle.gb_folder.specs.Files.{is_own};
+ghost use Rattle.gb_folder.specs.Files.{is_empty, is_own};
 ghost use Rattle.gb_foretell.specs.Foretold.{IsForetold, IsReasoned, told_of};
 ghost use Rattle.gb_label.specs.Deciding.{HasNamesInOrder};
 ghost use Rattle.gb_meaning.specs.Headline.{Agrees};
 ghost use Rattle.gb_meaning.specs.Kinds.{Kinds};
+ghost use Rattle.gb_meaning.specs.Memory.{output_files};
+ghost use Rattle.gb_meaning.specs.Tree.{listing_faults};
+ghost use Rattle.gb_label.specs.Reading.{CannotRead};
 ghost use Rattle.gb_plan.specs.Ready.{IsReady};
 
 use crate::coming::Coming;
@@ -19,9 +22,10 @@ use gb_label::look::{Look, looked_at};
 use gb_plan::task::TaskDeclaration;
 use gb_report::fault::Fault;
 use gb_report::report::Options;
+use gb_run::emptying::listed_outputs;
 use std::alloc::Global;
 
-/// What the turn of a task comes to on the folder as it stands. `old` is the record that was read of it.
+/// The outcome of a task on the folder as it is. `old` is the record that was read of it.
 pub(crate) fn coming_of<A: Actions, F: Folder>(
     alloc: Global,
     folder: &mut F,
@@ -44,7 +48,7 @@ pub(crate) fn coming_of<A: Actions, F: Folder>(
     match looked_at(alloc, folder, task, 0) {
         Ok(Look::Skips) => Coming::Skips,
         Ok(Look::HasNoActions) => Coming::HasNoActions,
-        Ok(Look::HasNoSource) => Coming::HasNoSource,
+        Ok(Look::HasNoSource) => told(sourceless(alloc, folder, task)),
         Ok(Look::Goes(inputs)) => {
             let found = sourced::<A, F>(
                 alloc,
@@ -61,7 +65,26 @@ pub(crate) fn coming_of<A: Actions, F: Folder>(
     }
 }
 
-/// What is told of a task that was to be read.
+/// The prediction for a task that has no source: whether files at its outputs are removed.
+fn sourceless<F: Folder>(
+    alloc: Global,
+    folder: &mut F,
+    task: &TaskDeclaration,
+) -> Result<Coming, Fault>
+    ensures asks { Asks F.failures F.may_leave F.asked no_change folder.old folder.new }
+    ensures same { IsTrue F.tells → F.contents folder.new ≡ F.contents folder.old }
+    ensures reasoned { IfOk result IsReasoned }
+    ensures removes { IsTrue F.tells → IfOk result (λ coming. (removes : Bool)
+        × (coming ≡ Coming.HasNoSource removes)
+        × (removes ≡ not (is_empty (output_files task.now (F.contents folder.old).files)))) }
+    ensures err { IsTrue F.tells → IfErr result (CannotRead (F.failures folder.old) (F.failures folder.new)
+        (listing_faults task.now (F.contents folder.old))) }
+{
+    let places = listed_outputs(alloc, folder, task.outputs.as_slice())?;
+    Ok(Coming::HasNoSource(!places.is_empty()))
+}
+
+/// The prediction for a task that was to be read.
 fn told(found: Result<Coming, Fault>) -> Coming
     ensures { result ≡ told_of found }
 {

@@ -1,8 +1,8 @@
 -- What is the same, and what changed, of the parts of a record.
-use Rattle.std.proofs.Common.{◌≡◌, ◌≢◌, ◌↔◌, ◌==◌, ℕ, Bool, T, true, false, true≢false, ◌&&◌, cond, List, [], ◌∷◌, map, Option, Some, None, refl, sym, ap, ap₂, subst, ◌∙◌, bytes_eq}
+use Rattle.std.proofs.Common.{◌≡◌, ◌≢◌, ◌↔◌, ℕ, Bool, T, true, false, true≢false, ◌&&◌, cond, List, [], ◌∷◌, map, Option, Some, None, refl, sym, ap, ap₂, subst, ◌∙◌, bytes_eq}
 use Rattle.std.proofs.lemmas.Bool.{and_parts}
 use Rattle.std.specs.Prelude.{IsTrue, is_some}
-use Rattle.std.specs.Cmp.{booleans_Decides, unsigned_Decides}
+use Rattle.std.specs.Cmp.{booleans_Decides}
 use Rattle.std.specs.Cmp.Lexicographic.{bytes_decides, nat_list_cmp_total, pointwise}
 use Rattle.std.specs.FinMap.Entries.{is_sorted, same_entries}
 use Rattle.std.specs.List.{Contains}
@@ -20,10 +20,9 @@ use Rattle.gb_action.specs.declared.output.Form.{Form}
 use Rattle.gb_action.specs.declared.output.Form.TheVariants as forms
 use Rattle.gb_history.specs.Record.{Prints}
 use Rattle.gb_history.specs.declared.record.OutputRecord.{OutputRecord}
-use Rattle.gb_plan.specs.declared.task.Action.{Action}
 use Rattle.gb_reason.specs.Real.{declared}
 use Rattle.gb_reason.specs.Reasons.{has_name, is_output, of_files, of_output, of_value}
-use Rattle.gb_reason.specs.Same.{is_action, is_value}
+use Rattle.gb_reason.specs.Same.{is_value}
 use Rattle.gb_reason.specs.declared.reason.Reason.TheVariants as reasons
 use Rattle.gb_reason.proofs.Lists.{contains_first, none_mapped, none_of, own_pairs}
 
@@ -37,13 +36,13 @@ all_back E back (x ∷ xs) (y ∷ ys) e =
     let parts = and_parts (E x y) (pointwise E xs ys) e in
     ap₂ (λ a (l : List _). a ∷ l) (back x y parts.0) (all_back E back xs ys parts.1)
 
-bytes_own : (xs : List ℕ) → bytes_eq xs xs ≡ true
+pub bytes_own : (xs : List ℕ) → bytes_eq xs xs ≡ true
 bytes_own xs = (bytes_decides xs xs).1 refl
 
-bytes_back : (xs ys : List ℕ) → bytes_eq xs ys ≡ true → xs ≡ ys
+pub bytes_back : (xs ys : List ℕ) → bytes_eq xs ys ≡ true → xs ≡ ys
 bytes_back xs ys e = (bytes_decides xs ys).0 e
 
-value_back : (a b : Value) → is_value a b ≡ true → a ≡ b
+pub value_back : (a b : Value) → is_value a b ≡ true → a ≡ b
 value_back (values.Text a) (values.Text b) e = ap (λ x. values.Text x) (bytes_back a b e)
 value_back (values.Flag a) (values.Flag b) e = ap (λ x. values.Flag x) ((booleans_Decides a b).0 e)
 value_back (values.List a) (values.List b) e = ap (λ x. values.List x) (all_back bytes_eq bytes_back a b e)
@@ -51,32 +50,12 @@ value_back (values.Place a) (values.Place b) e = ap (λ x. values.Place x) (byte
 value_back (values.Task a) (values.Task b) e = ap (λ x. values.Task x) (bytes_back a b e)
 value_back a b e = absurd (true≢false (sym e))
 
-value_own : (a : Value) → is_value a a ≡ true
+pub value_own : (a : Value) → is_value a a ≡ true
 value_own (values.Text a) = bytes_own a
 value_own (values.Flag a) = (booleans_Decides a a).1 refl
 value_own (values.List a) = own_pairs bytes_eq bytes_own a
 value_own (values.Place a) = bytes_own a
 value_own (values.Task a) = bytes_own a
-
-action_back : (a b : Action) → is_action a b ≡ true → a ≡ b
-action_back a b e =
-    let first = and_parts (bytes_eq a.kind b.kind && (a.version == b.version)) (pointwise is_value a.args b.args) e in
-    let front = and_parts (bytes_eq a.kind b.kind) (a.version == b.version) first.0 in
-    let kind : a.kind ≡ b.kind = bytes_back a.kind b.kind front.0 in
-    let version : a.version ≡ b.version = (unsigned_Decides a.version b.version).0 front.1 in
-    let args : a.args ≡ b.args = all_back is_value value_back a.args b.args first.1 in
-    λ i. record { kind = kind i; version = version i; args = args i }
-
-action_own : (a : Action) → is_action a a ≡ true
-action_own a =
-    ap₂ (λ (x y : Bool). x && y) (ap₂ (λ (x y : Bool). x && y) (bytes_own a.kind) ((unsigned_Decides a.version a.version).1 refl))
-    (own_pairs is_value value_own a.args)
-
-pub actions_back : (xs ys : List Action) → pointwise is_action xs ys ≡ true → xs ≡ ys
-actions_back xs ys e = all_back is_action action_back xs ys e
-
-pub actions_own : (xs : List Action) → pointwise is_action xs xs ≡ true
-actions_own xs = own_pairs is_action action_own xs
 
 -- ---- What a test of sameness answers
 
@@ -88,9 +67,6 @@ tested false false says back own = refl
 
 pub value_tested : (b : Bool) (x y : Value) → (IsTrue b ↔ (x ≡ y)) → b ≡ is_value x y
 value_tested b x y says = tested b (is_value x y) says (value_back x y) (λ same. subst (λ z. is_value x z ≡ true) same (value_own x))
-
-pub actions_tested : (b : Bool) (xs ys : List Action) → (IsTrue b ↔ (xs ≡ ys)) → b ≡ pointwise is_action xs ys
-actions_tested b xs ys says = tested b (pointwise is_action xs ys) says (actions_back xs ys) (λ same. subst (λ zs. pointwise is_action xs zs ≡ true) same (actions_own xs))
 
 form_back : (a b : Form) → is_form a b ≡ true → a ≡ b
 form_back forms.File forms.File e = refl

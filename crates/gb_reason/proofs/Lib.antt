@@ -1,4 +1,5 @@
 pub mod Lists
+mod Actions
 pub mod Elements
 pub mod Parts
 pub mod Loops

@@ -1,6 +1,7 @@
 -- All reasons: each is true, and there is none exactly where a task is up to date.
-use Rattle.std.proofs.Common.{◌≡◌, ℕ, Bool, true, false, true≢false, cond, inl, inr, List, [], ◌∷◌, ◌++◌, Some, None, refl, sym, ap, ap₂, subst, ◌∙◌}
+use Rattle.std.proofs.Common.{◌≡◌, ◌==◌, ℕ, Bool, true, false, true≢false, not, cond, inl, inr, List, [], ◌∷◌, ◌++◌, length, Option, Some, None, refl, sym, ap, ap₂, subst, ◌∙◌}
 use Rattle.std.proofs.lemmas.List.Elements.{Contains-append_cases}
+use Rattle.std.specs.Cmp.{unsigned_Decides}
 use Rattle.std.specs.Cmp.Lexicographic.{pointwise}
 use Rattle.std.specs.List.{AllByRecursion, Contains}
 use Rattle.std.specs.Prelude.{◌↔◌}
@@ -13,12 +14,14 @@ use Rattle.gb_history.specs.declared.decide.Decision.{Decision}
 use Rattle.gb_history.specs.declared.decide.Decision.TheVariants as decisions
 use Rattle.gb_history.specs.declared.decide.Present.{Present}
 use Rattle.gb_history.specs.declared.record.OutputRecord.{OutputRecord}
-use Rattle.gb_reason.specs.Real.{EachIsReal, HasPathsInOrder, IsRealFrom, NoneIsUpToDate, declared}
-use Rattle.gb_reason.specs.Reasons.{differences, has_name, is_output, of_files, of_output, of_value, part, reasons_from}
-use Rattle.gb_reason.specs.Same.{is_action, is_value}
+use Rattle.gb_reason.specs.Real.{EachIsReal, HasPathsInOrder, IsReal, IsRealFrom, NoneIsUpToDate, declared}
+use Rattle.gb_plan.specs.declared.task.Action.{Action}
+use Rattle.gb_reason.specs.Reasons.{differences, first_other, has_kind, has_name, is_output, kind_by, kind_reason, of_action, of_arguments, of_files, of_output, of_value, part, reasons_from}
+use Rattle.gb_reason.specs.Same.{is_value}
 use Rattle.gb_reason.specs.declared.reason.Reason.{Reason}
 use Rattle.gb_reason.specs.declared.reason.Reason.TheVariants as reasons
-use Rattle.gb_reason.proofs.Elements.{HasOrder, actions_back, actions_own, files_none, files_same, name_alike, name_back, name_own, output_alike, output_back, output_none, output_own, output_same, value_none, value_other, value_same}
+use Rattle.gb_reason.proofs.Elements.{HasOrder, files_none, files_same, name_alike, name_back, name_own, output_alike, output_back, output_none, output_own, output_same, value_none, value_other, value_same}
+use Rattle.gb_reason.proofs.Actions.{action_none, action_same, argument_is, argument_of, argument_was, first_is, kind_back, kind_own, kinds_alike}
 use Rattle.gb_reason.proofs.Lists.{Told, alike_pairs, both_none, contains_none, contains_one, from_map}
 use Rattle.gb_reason.proofs.Parts.{part_none, part_same, part_told}
 
@@ -33,7 +36,7 @@ orders [] all = tt
 orders (output ∷ outputs) all = (all.0, orders outputs all.1)
 
 abbrev of_actions : Record → Record → List Reason
-of_actions old new = cond (pointwise is_action old.actions new.actions) [] (reasons.Actions ∷ [])
+of_actions old new = part has_kind of_action (kind_reason old.actions new.actions) old.actions new.actions
 
 abbrev of_values : Record → Record → List Reason
 of_values old new = part has_name of_value reasons.ValueNames old.values new.values
@@ -45,20 +48,15 @@ abbrev of_inputs : Record → Record → List Reason
 of_inputs old new = part has_name of_files reasons.FileNames old.inputs new.inputs
 
 module _ (old new : Record) where
-  actions_same : of_actions old new ≡ [] → old.actions ≡ new.actions
-  actions_same none = by (pointwise is_action old.actions new.actions) refl none
-    where
-      by : (b : Bool) → pointwise is_action old.actions new.actions ≡ b → cond b [] (reasons.Actions ∷ []) ≡ [] → old.actions ≡ new.actions
-      by true e n = actions_back old.actions new.actions e
-      by false e n = absurd (cc)
-
   -- runs of which no difference is told are the same
   pub no_difference : HasPathsInOrder old → HasPathsInOrder new → differences old new ≡ [] → old ≡ new
   no_difference p q none =
       let front = both_none ((of_actions old new ++ of_values old new) ++ of_outputs old new) (of_inputs old new) none in
       let middle = both_none (of_actions old new ++ of_values old new) (of_outputs old new) front.0 in
       let first = both_none (of_actions old new) (of_values old new) middle.0 in
-      let actions : old.actions ≡ new.actions = actions_same first.0 in
+      let actions : old.actions ≡ new.actions =
+      part_same has_kind of_action (kind_reason old.actions new.actions) (λ _. Unit {0}) (λ x y _ _ e n. action_same x y e n) old.actions new.actions
+      (always old.actions) (always new.actions) first.0 in
       let values : old.values ≡ new.values =
       part_same has_name of_value reasons.ValueNames (λ _. Unit {0}) (λ x y _ _ e n. value_same x y e n) old.values new.values
       (always old.values) (always new.values) first.1 in
@@ -73,7 +71,7 @@ pub none_differs : (run : Record) → differences run run ≡ []
 none_differs run =
     ap₂ (λ (a b : List Reason). a ++ b)
     (ap₂ (λ (a b : List Reason). a ++ b)
-    (ap₂ (λ (a b : List Reason). a ++ b) (ap (λ b. cond b [] (reasons.Actions ∷ [])) (actions_own run.actions))
+    (ap₂ (λ (a b : List Reason). a ++ b) (part_none has_kind of_action (kind_reason run.actions run.actions) kind_own action_none run.actions)
     (part_none has_name of_value reasons.ValueNames name_own value_none run.values))
     (part_none is_output of_output reasons.OutputNames output_own output_none run.outputs))
     (part_none has_name of_files reasons.FileNames name_own files_none run.inputs)
@@ -121,13 +119,51 @@ module _ (run : Record) (present : Present) where
   Real = IsRealFrom run present
 
   real_action : (reason : Reason) → Contains (of_actions run present.now) reason → Real reason
-  real_action reason h = by (pointwise is_action run.actions present.now.actions) refl h
+  real_action reason h = elim (part_told has_kind of_action (kind_reason old new) old new reason h) [
+    | inl other ↦ subst Real other.0 (by_kind (first_other old new) (first_other new old) refl refl other.1)
+    | inr told ↦ pair told (told.old.version == told.new.version) (length told.old.args == length told.new.args) refl refl told.told
+  ]
     where
-      by : (b : Bool) → pointwise is_action run.actions present.now.actions ≡ b → Contains (cond b [] (reasons.Actions ∷ [])) reason → Real reason
-      by true e c = absurd (contains_none reason c)
-      by false e c =
-          subst Real (contains_one reasons.Actions reason c)
-          (λ same. true≢false (sym (subst (λ xs. pointwise is_action run.actions xs ≡ true) same (actions_own run.actions)) ∙ e))
+      old : List Action
+      old = run.actions
+
+      new : List Action
+      new = present.now.actions
+
+      by_kind : (one gone : Option (List ℕ)) → first_other old new ≡ one → first_other new old ≡ gone → pointwise has_kind old new ≡ false
+          → Real (kind_by one gone)
+      by_kind (Some kind) left e f others = first_is old new kind e
+      by_kind None (Some kind) e f others = first_is new old kind f
+      by_kind None None e f others = λ same. true≢false (sym (kinds_alike old new same) ∙ others)
+
+      pair : (told : Told has_kind of_action old new reason) (version long : Bool) → (told.old.version == told.new.version) ≡ version
+          → (length told.old.args == length told.new.args) ≡ long
+          → Contains (cond (not version) (reasons.ActionVersion told.old.kind ∷ [])
+          (cond (not long) (reasons.ArgumentCount told.old.kind ∷ []) (of_arguments told.old.kind 1 told.old.args told.new.args))) reason → Real reason
+      pair told false long one two c =
+          subst Real (contains_one (reasons.ActionVersion told.old.kind) reason c) (
+            told.old,
+            told.new,
+            (told.in_old, told.in_new, refl, sym (kind_back told.old told.new told.declared)),
+            λ same. true≢false (sym ((unsigned_Decides told.old.version told.new.version).1 same) ∙ one),
+          )
+      pair told true false one two c =
+          subst Real (contains_one (reasons.ArgumentCount told.old.kind) reason c) (
+            told.old,
+            told.new,
+            (told.in_old, told.in_new, refl, sym (kind_back told.old told.new told.declared)),
+            λ same. true≢false (sym ((unsigned_Decides (length told.old.args) (length told.new.args)).1 same) ∙ two),
+          )
+      pair told true true one two c =
+          let found = argument_of told.old.kind 1 told.old.args told.new.args reason c in
+          subst Real found.says (
+            told.old,
+            told.new,
+            (told.in_old, told.in_new, refl, sym (kind_back told.old told.new told.declared)),
+            argument_was told.old.kind told.old.args told.new.args reason found,
+            argument_is told.old.kind told.old.args told.new.args reason found,
+            found.other,
+          )
 
   real_value : (reason : Reason) → Contains (of_values run present.now) reason → Real reason
   real_value reason h = elim (part_told has_name of_value reasons.ValueNames run.values present.now.values reason h) [
@@ -197,6 +233,15 @@ module _ (run : Record) (present : Present) where
   real_if reason false false false rerun stale bare h = real_difference reason h
 
 pub each_is_real : EachIsReal
-each_is_real None present reason h = sym (contains_one reasons.NoRecord reason h)
+each_is_real None present reason h = by (is_empty present.now.outputs) refl h
+  where
+    none : (outputs : List OutputRecord) → is_empty outputs ≡ true → outputs ≡ []
+    none [] e = refl
+    none (output ∷ outputs) e = absurd (true≢false (sym e))
+
+    by : (b : Bool) → is_empty present.now.outputs ≡ b → Contains (cond b reasons.NoOutputs reasons.NoRecord ∷ []) reason → IsReal None present reason
+    by true e c = subst (IsReal None present) (contains_one reasons.NoOutputs reason c) (none present.now.outputs e)
+    by false e c =
+        subst (IsReal None present) (contains_one reasons.NoRecord reason c) (λ same. true≢false (sym (ap is_empty same) ∙ e))
 each_is_real (Some run) present reason h =
     real_if run present reason present.rerun present.is_stale (is_empty present.now.outputs) refl refl refl h

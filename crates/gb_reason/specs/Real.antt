@@ -1,5 +1,6 @@
 -- What a reason says, and what follows from the definition of reasons.
-use Rattle.std.specs.Prelude.{◌≡◌, ◌≢◌, ◌↔◌, ℕ, true, List, [], map, Option, Some, None, IsTrue, Contains}
+use Rattle.std.specs.Prelude.{◌≡◌, ◌≢◌, ◌↔◌, ◌+◌, ℕ, true, List, [], ◌∷◌, ◌++◌, map, length, Option, Some}
+use Rattle.std.specs.Prelude.{None, IsTrue, Contains}
 use Rattle.std.specs.List.{AllByRecursion}
 use Rattle.std.specs.FinMap.Entries.{is_sorted}
 use Rattle.gb_core.specs.Lists.{byte_order}
@@ -14,6 +15,7 @@ use Rattle.gb_history.specs.declared.decide.Decision.{Decision}
 use Rattle.gb_history.specs.declared.decide.Decision.TheVariants as decisions
 use Rattle.gb_history.specs.declared.decide.Present.{Present}
 use Rattle.gb_history.specs.declared.record.OutputRecord.{OutputRecord}
+use Rattle.gb_plan.specs.declared.task.Action.{Action}
 use Rattle.gb_reason.specs.Reasons.{reasons_of}
 use Rattle.gb_reason.specs.declared.reason.Reason.{Reason}
 use Rattle.gb_reason.specs.declared.reason.Reason.TheVariants as reasons
@@ -25,6 +27,26 @@ names rows = map (λ row. row.0) rows
 -- an output without its files
 abbrev pub declared : OutputRecord → List ℕ × Form × List ℕ
 declared output = (output.prints.0, output.form, output.place)
+
+-- its kind
+abbrev pub kind_of : Action → List ℕ
+kind_of action = action.kind
+
+-- one of the second actions is of this kind, and none of the first
+abbrev pub IsOfOne : List Action → List Action → List ℕ → Type 0
+IsOfOne without with kind =
+    Contains (map kind_of with) kind × (¬ Contains (map kind_of without) kind)
+
+-- an action of the one record and an action of the other, both of this kind
+abbrev pub AreOfKind : Record → Record → List ℕ → Action → Action → Type 0
+AreOfKind old new kind was is =
+    Contains old.actions was × Contains new.actions is × (was.kind ≡ kind) × (is.kind ≡ kind)
+
+-- the value of this number, counted from 1
+abbrev pub IsArgument : List Value → ℕ → Value → Type 0
+IsArgument args number value =
+    (before : List Value) × (behind : List Value) × (args ≡ before ++ value ∷ behind)
+    × (number ≡ length before + 1)
 
 -- an input value of this name is not what it was
 abbrev pub IsOtherValue : Record → Record → List ℕ → Value → Value → Type 0
@@ -49,7 +71,16 @@ IsRealFrom run present reasons.NoRecord = ⊥
 IsRealFrom run present reasons.Rerun = present.rerun ≡ true
 IsRealFrom run present reasons.Stale = present.is_stale ≡ true
 IsRealFrom run present reasons.NoOutputs = present.now.outputs ≡ []
-IsRealFrom run present reasons.Actions = run.actions ≢ present.now.actions
+IsRealFrom run present (reasons.ActionAdded kind) = IsOfOne run.actions present.now.actions kind
+IsRealFrom run present (reasons.ActionRemoved kind) = IsOfOne present.now.actions run.actions kind
+IsRealFrom run present reasons.ActionOrder = map kind_of run.actions ≢ map kind_of present.now.actions
+IsRealFrom run present (reasons.ActionVersion kind) = (old : Action) × (new : Action)
+    × AreOfKind run present.now kind old new × (old.version ≢ new.version)
+IsRealFrom run present (reasons.ArgumentCount kind) = (old : Action) × (new : Action)
+    × AreOfKind run present.now kind old new × (length old.args ≢ length new.args)
+IsRealFrom run present (reasons.Argument kind number was is) = (old : Action) × (new : Action)
+    × AreOfKind run present.now kind old new × IsArgument old.args number was
+    × IsArgument new.args number is × (was ≢ is)
 IsRealFrom run present reasons.ValueNames = names run.values ≢ names present.now.values
 IsRealFrom run present (reasons.Value name was is) = IsOtherValue run present.now name was is
 IsRealFrom run present reasons.OutputNames = map declared run.outputs ≢ map declared present.now.outputs
@@ -58,7 +89,9 @@ IsRealFrom run present reasons.FileNames = names run.inputs ≢ names present.no
 IsRealFrom run present (reasons.File name change) = IsFileChange run present.now name change
 
 abbrev pub IsReal : Option Record → Present → Reason → Type 0
-IsReal None present reason = reason ≡ reasons.NoRecord
+IsReal None present reasons.NoOutputs = present.now.outputs ≡ []
+IsReal None present reasons.NoRecord = present.now.outputs ≢ []
+IsReal None present other = ⊥
 IsReal (Some run) present reason = IsRealFrom run present reason
 
 -- each reason is true

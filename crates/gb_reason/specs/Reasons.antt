@@ -1,8 +1,8 @@
 -- Why a task runs, in their order: its record against what it has now.
-use Rattle.std.specs.Prelude.{ℕ, ◌&&◌, Bool, List, [], ◌∷◌, ◌++◌, map, if◌then◌else◌, bytes_eq}
-use Rattle.std.specs.Prelude.{Option, Some, None}
+use Rattle.std.specs.Prelude.{ℕ, ◌&&◌, ◌==◌, ◌+◌, Bool, not, List, [], ◌∷◌, ◌++◌, map, length, find}
+use Rattle.std.specs.Prelude.{Option, Some, None, option_map, if◌then◌else◌, bytes_eq}
 use Rattle.std.specs.Cmp.Lexicographic.{pointwise}
-use Rattle.std.specs.List.{flat_map, zip}
+use Rattle.std.specs.List.{flat_map, list_any, zip}
 use Rattle.gb_folder.specs.Files.{is_empty}
 use Rattle.gb_core.specs.declared.value.Value.{Value}
 use Rattle.gb_action.specs.Changes.{changes_between}
@@ -10,7 +10,8 @@ use Rattle.gb_action.specs.Shapes.{is_form}
 use Rattle.gb_history.specs.Record.{Prints, Record}
 use Rattle.gb_history.specs.declared.decide.Present.{Present}
 use Rattle.gb_history.specs.declared.record.OutputRecord.{OutputRecord}
-use Rattle.gb_reason.specs.Same.{is_action, is_value}
+use Rattle.gb_plan.specs.declared.task.Action.{Action}
+use Rattle.gb_reason.specs.Same.{is_value}
 use Rattle.gb_reason.specs.declared.reason.Reason.{Reason}
 use Rattle.gb_reason.specs.declared.reason.Reason.TheVariants as reasons
 
@@ -38,13 +39,52 @@ of_output pair = map (reasons.Output pair.0.place) (changes_between pair.0.print
 abbrev pub of_files : Prints × Prints → List Reason
 of_files pair = map (reasons.File pair.0.0) (changes_between pair.0.1 pair.1.1)
 
+-- actions of one kind
+abbrev pub has_kind : Action → Action → Bool
+has_kind old new = bytes_eq old.kind new.kind
+
+-- the arguments that differ, the first of which has this number
+abbrev pub of_arguments : List ℕ → ℕ → List Value → List Value → List Reason
+of_arguments kind number [] new = []
+of_arguments kind number (was ∷ old) [] = []
+of_arguments kind number (was ∷ old) (is ∷ new) =
+    (if is_value was is then [] else reasons.Argument kind number was is ∷ [])
+    ++ of_arguments kind (number + 1) old new
+
+abbrev pub of_action : Action × Action → List Reason
+of_action pair =
+    if not (pair.0.version == pair.1.version) then reasons.ActionVersion pair.0.kind ∷ []
+    else if not (length pair.0.args == length pair.1.args) then reasons.ArgumentCount pair.0.kind ∷ []
+    else of_arguments pair.0.kind 1 pair.0.args pair.1.args
+
+-- the kind of the first of the actions of whose kind none of the others is
+abbrev pub first_other : List Action → List Action → Option (List ℕ)
+first_other others actions =
+    option_map (λ action. action.kind)
+    (find (λ action. not (list_any (has_kind action) others)) actions)
+
+-- by the first kind that is new, and the first that is gone
+abbrev pub kind_by : Option (List ℕ) → Option (List ℕ) → Reason
+kind_by (Some kind) left = reasons.ActionAdded kind
+kind_by None (Some kind) = reasons.ActionRemoved kind
+kind_by None None = reasons.ActionOrder
+
+-- how actions differ that are not of the same kinds in order
+abbrev pub kind_reason : List Action → List Action → Reason
+kind_reason old new = kind_by (first_other old new) (first_other new old)
+
 -- how a record differs from another: its actions, input values, outputs and file properties, in this order
 abbrev pub differences : Record → Record → List Reason
 differences old new =
-    (if pointwise is_action old.actions new.actions then [] else reasons.Actions ∷ [])
+    part has_kind of_action (kind_reason old.actions new.actions) old.actions new.actions
     ++ part has_name of_value reasons.ValueNames old.values new.values
     ++ part is_output of_output reasons.OutputNames old.outputs new.outputs
     ++ part has_name of_files reasons.FileNames old.inputs new.inputs
+
+-- A task without outputs runs whenever it is asked for: that is its reason.
+abbrev pub reason_without : Present → Reason
+reason_without present =
+    if is_empty present.now.outputs then reasons.NoOutputs else reasons.NoRecord
 
 -- Where a task runs whatever its record says, that is the one reason; and else how it differs.
 abbrev pub reasons_from : Record → Present → List Reason
@@ -55,5 +95,5 @@ reasons_from run present =
     else differences run present.now
 
 abbrev pub reasons_of : Option Record → Present → List Reason
-reasons_of None present = reasons.NoRecord ∷ []
+reasons_of None present = reason_without present ∷ []
 reasons_of (Some run) present = reasons_from run present

@@ -1,5 +1,5 @@
 -- The text of a reason.
-use Rattle.std.specs.Prelude.{ℕ, List, [], ◌∷◌, ◌++◌, if◌then◌else◌, codes}
+use Rattle.std.specs.Prelude.{ℕ, List, [], ◌∷◌, ◌++◌, if◌then◌else◌, codes, decimal}
 use Rattle.std.specs.List.{flat_map}
 use Rattle.gb_action.specs.declared.change.Change.{Change}
 use Rattle.gb_action.specs.declared.change.Change.TheVariants.{Added, Modified, Removed}
@@ -42,8 +42,14 @@ abbrev pub reason_text : Reason → List ℕ
 reason_text reasons.NoRecord = codes "no record"
 reason_text reasons.Rerun = codes "--rerun-tasks"
 reason_text reasons.Stale = codes "upToDateWhen is false"
-reason_text reasons.NoOutputs = codes "no outputs"
-reason_text reasons.Actions = codes "an action differs"
+reason_text reasons.NoOutputs = codes "it has no outputs"
+reason_text (reasons.ActionAdded kind) = codes "action " ++ kind ++ codes " was added"
+reason_text (reasons.ActionRemoved kind) = codes "action " ++ kind ++ codes " was removed"
+reason_text reasons.ActionOrder = codes "actions are in another order or number"
+reason_text (reasons.ActionVersion kind) = codes "action " ++ kind ++ codes " has another version"
+reason_text (reasons.ArgumentCount kind) = codes "action " ++ kind ++ codes " has more or fewer arguments"
+reason_text (reasons.Argument kind number was is) =
+    codes "argument " ++ decimal number ++ codes " of " ++ kind ++ codes " was " ++ difference_text was is
 reason_text reasons.ValueNames = codes "input values are declared otherwise"
 reason_text (reasons.Value name was is) =
     codes "input value " ++ name ++ codes " was " ++ difference_text was is

@@ -1,8 +1,8 @@
 //! How parts of two runs differ.
-ghost use Rattle.std.specs.Prelude.{◌≡◌, ◌++◌, length, OnOk};
+ghost use Rattle.std.specs.Prelude.{◌≡◌, ◌∷◌, ◌++◌, [], if◌then◌else◌, length, IfOk, OnOk};
 ghost use Rattle.std.specs.Cmp.Lexicographic.{pointwise};
-ghost use Rattle.std.specs.List.{flat_map, zip};
-ghost use Rattle.gb_reason.specs.Reasons.{part};
+ghost use Rattle.std.specs.List.{flat_map, list_any, zip};
+ghost use Rattle.gb_reason.specs.Reasons.{first_other, has_kind, kind_reason, of_action, of_arguments, part};
 ghost use Rattle.gb_reason.specs.Same.{is_value};
 
 use crate::reason::{Reason, copied};
@@ -10,6 +10,7 @@ use gb_core::name::Name;
 use gb_core::value::Value;
 use gb_history::record::OutputRecord;
 use gb_history::same::Same;
+use gb_plan::task::Action;
 use gb_tree::changes::compare;
 use gb_tree::prints::Prints;
 use std::alloc::{AllocError, Global};
@@ -81,6 +82,93 @@ pub(crate) fn tell_part<T: Part>(
     Ok(())
 }
 
+/// Tells how actions differ: one by one where they are of the same kinds in order, and else by their kinds.
+pub(crate) fn tell_actions(
+    alloc: Global,
+    old: &[Action],
+    new: &[Action],
+    reasons: &mut Vec<Reason>,
+) -> Result<(), AllocError>
+    ensures { OnOk result (reasons.new.items ≡ reasons.old.items
+        ++ part has_kind of_action (kind_reason old.now new.now) old.now new.now) }
+{
+    if are_declared_as(old, new) {
+        return tell_each(alloc, old, new, reasons);
+    }
+    reasons.push(kind_reason(old, new)?)?;
+    Ok(())
+}
+
+/// How actions differ of which not all are of the same kinds in order.
+fn kind_reason(old: &[Action], new: &[Action]) -> Result<Reason, AllocError>
+    ensures { IfOk result (λ reason. reason ≡ kind_reason old.now new.now) }
+{
+    if let Some(kind) = first_other(old, new)? {
+        return Ok(Reason::ActionAdded(kind));
+    }
+    Ok(match first_other(new, old)? {
+        Some(kind) => Reason::ActionRemoved(kind),
+        None => Reason::ActionOrder,
+    })
+}
+
+/// The kind of the first of the actions of whose kind none of the others is.
+fn first_other(others: &[Action], actions: &[Action]) -> Result<Option<Name>, AllocError>
+    ensures { IfOk result (λ found. found ≡ first_other others.now actions.now) }
+{
+    for action in actions {
+        if !has_one_like(others, action) {
+            return Ok(Some(action.kind.copy()?));
+        }
+    }
+    Ok(None)
+}
+
+/// Whether one of the actions is of this one's kind.
+fn has_one_like(actions: &[Action], action: &Action) -> bool
+    ensures { result ≡ list_any (has_kind action.now) actions.now }
+{
+    actions.iter().any(|other| action.kind == other.kind)
+}
+
+/// Tells which arguments differ.
+fn tell_arguments(
+    alloc: Global,
+    kind: &Name,
+    old: &[Value],
+    new: &[Value],
+    reasons: &mut Vec<Reason>,
+) -> Result<(), AllocError>
+    requires { length old.now ≡ length new.now }
+    ensures { OnOk result (reasons.new.items
+        ≡ reasons.old.items ++ of_arguments kind.now 1 old.now new.now) }
+{
+    for (at, was) in old.iter().enumerate() {
+        tell_argument(alloc, kind, at + 1, was, &new[at], reasons)?;
+    }
+    Ok(())
+}
+
+/// Tells an argument, if it differs.
+fn tell_argument(
+    alloc: Global,
+    kind: &Name,
+    number: usize,
+    was: &Value,
+    is: &Value,
+    reasons: &mut Vec<Reason>,
+) -> Result<(), AllocError>
+    ensures { OnOk result (reasons.new.items ≡ reasons.old.items
+        ++ (if is_value was.now is.now then [] else Reason.Argument kind.now number was.now is.now ∷ [])) }
+{
+    if is_value(was, is) {
+        return Ok(());
+    }
+    let kind = kind.copy()?;
+    reasons.push(Reason::Argument(kind, number, was.copy(alloc)?, is.copy(alloc)?))?;
+    Ok(())
+}
+
 /// Whether the two values are the same.
 fn is_value(one: &Value, other: &Value) -> bool
     ensures { result ≡ is_value one.now other.now }
@@ -110,6 +198,36 @@ impl Part for (Name, Value) {
             reasons.push(Reason::Value(name, self.1.copy(alloc)?, other.1.copy(alloc)?))?;
         }
         Ok(())
+    }
+}
+
+impl Part for Action {
+    ghost use Rattle.gb_reason.specs.Reasons.{has_kind, of_action};
+
+    ghost is_declared = { has_kind };
+
+    ghost told = { of_action };
+
+    fn is_declared_as(&self, other: &Action) -> bool {
+        self.kind == other.kind
+    }
+
+    fn tell(
+        &self,
+        other: &Action,
+        alloc: Global,
+        reasons: &mut Vec<Reason>,
+    ) -> Result<(), AllocError> {
+        if self.version != other.version {
+            reasons.push(Reason::ActionVersion(self.kind.copy()?))?;
+            return Ok(());
+        }
+        let (was, is) = (self.args.as_slice(), other.args.as_slice());
+        if was.len() != is.len() {
+            reasons.push(Reason::ArgumentCount(self.kind.copy()?))?;
+            return Ok(());
+        }
+        tell_arguments(alloc, &self.kind, was, is, reasons)
     }
 }
 

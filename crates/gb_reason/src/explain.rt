@@ -1,6 +1,5 @@
 //! Why a task runs.
 ghost use Rattle.std.specs.Prelude.{◌≡◌, ◌↔◌, ◌++◌, [], IsTrue, IfOk};
-ghost use Rattle.std.specs.Cmp.Lexicographic.{pointwise};
 ghost use Rattle.std.specs.List.{AllByRecursion};
 ghost use Rattle.std.specs.Option.{option_copied};
 ghost use Rattle.std.specs.FinMap.Entries.{is_sorted};
@@ -9,16 +8,13 @@ ghost use Rattle.gb_history.specs.Record.{prints_in};
 ghost use Rattle.gb_history.specs.Decision.{Decides};
 ghost use Rattle.gb_history.specs.declared.decide.Decision.{Decision};
 ghost use Rattle.gb_reason.specs.Real.{HasPathsInOrder};
-ghost use Rattle.gb_reason.specs.Reasons.{differences, reasons_from, reasons_of};
-ghost use Rattle.gb_reason.specs.Same.{is_action};
+ghost use Rattle.gb_reason.specs.Reasons.{differences, reason_without, reasons_from, reasons_of};
 
-use crate::differing::tell_part;
+use crate::differing::{tell_actions, tell_part};
 use crate::laws::none_is_up_to_date;
 use crate::reason::Reason;
 use gb_history::decide::Present;
 use gb_history::record::{OutputRecord, Record};
-use gb_history::same::are_same;
-use gb_plan::task::Action;
 use gb_tree::prints::Prints;
 use std::alloc::{AllocError, Global};
 
@@ -38,11 +34,22 @@ pub fn explain(
     none_is_up_to_date();
     paths_rise(&present.now);
     match old {
-        None => Ok(vec![in alloc; Reason::NoRecord]?),
+        None => Ok(vec![in alloc; reason_without(present)]?),
         Some(run) => {
             paths_rise(run);
             explain_from(alloc, run, present)
         }
+    }
+}
+
+/// The reason why a task runs that has no record.
+fn reason_without(present: &Present) -> Reason
+    ensures { result ≡ reason_without present.entry.now }
+{
+    if present.now.outputs().is_empty() {
+        Reason::NoOutputs
+    } else {
+        Reason::NoRecord
     }
 }
 
@@ -88,21 +95,12 @@ fn explain_from(alloc: Global, run: &Record, present: &Present) -> Result<Vec<Re
     differences(alloc, run, &present.now)
 }
 
-/// Whether the actions are the same, in one order.
-fn are_actions(old: &[Action], new: &[Action]) -> bool
-    ensures { result ≡ pointwise is_action old.now new.now }
-{
-    are_same(old, new)
-}
-
 /// How a run differs from another.
 fn differences(alloc: Global, old: &Record, new: &Record) -> Result<Vec<Reason>, AllocError>
     ensures { IfOk result (λ found. found.items ≡ differences old.now new.now) }
 {
     let mut reasons = Vec::new(alloc);
-    if !are_actions(old.actions(), new.actions()) {
-        reasons.push(Reason::Actions)?;
-    }
+    tell_actions(alloc, old.actions(), new.actions(), &mut reasons)?;
     let (was, is) = (old.values().as_slice(), new.values().as_slice());
     tell_part(alloc, was, is, Reason::ValueNames, &mut reasons)?;
     let (was, is) = (old.outputs(), new.outputs());

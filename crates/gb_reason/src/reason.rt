@@ -10,7 +10,7 @@ use std::alloc::AllocError;
 /// Why a task is not up to date.
 #[derive(Drop)]
 pub enum Reason {
-    /// It has no record.
+    /// It has outputs and no record.
     NoRecord,
     /// Every task is to run.
     Rerun,
@@ -18,8 +18,18 @@ pub enum Reason {
     Stale,
     /// It has no output that could be as it was left.
     NoOutputs,
-    /// Its actions are others, in another version, or with other arguments.
-    Actions,
+    /// An action of this kind is among its actions, and none was.
+    ActionAdded(Name),
+    /// An action of this kind was among its actions, and none is.
+    ActionRemoved(Name),
+    /// Its actions are of the same kinds, in another order or number.
+    ActionOrder,
+    /// An action of this kind has another version.
+    ActionVersion(Name),
+    /// An action of this kind has more or fewer arguments.
+    ArgumentCount(Name),
+    /// An argument differs: the kind of the action, the argument's number from 1, its old and its new value.
+    Argument(Name, usize, Value, Value),
     /// Its input values have other names.
     ValueNames,
     /// An input value differs: its name, what it was, and what it is.

@@ -24,8 +24,13 @@ pub fn push_reason(text: &mut String, reason: &Reason) -> Result<(), AllocError>
         Reason::NoRecord => write!(text, "no record"),
         Reason::Rerun => write!(text, "--rerun-tasks"),
         Reason::Stale => write!(text, "upToDateWhen is false"),
-        Reason::NoOutputs => write!(text, "no outputs"),
-        Reason::Actions => write!(text, "an action differs"),
+        Reason::NoOutputs => write!(text, "it has no outputs"),
+        Reason::ActionAdded(kind) => write!(text, "action {kind} was added"),
+        Reason::ActionRemoved(kind) => write!(text, "action {kind} was removed"),
+        Reason::ActionOrder => write!(text, "actions are in another order or number"),
+        Reason::ActionVersion(kind) => write!(text, "action {kind} has another version"),
+        Reason::ArgumentCount(kind) => write!(text, "action {kind} has more or fewer arguments"),
+        Reason::Argument(kind, number, was, is) => push_argument(text, kind, *number, was, is),
         Reason::ValueNames => write!(text, "input values are declared otherwise"),
         Reason::Value(name, was, is) => push_other(text, name, was, is),
         Reason::OutputNames => write!(text, "outputs are declared otherwise"),
@@ -33,6 +38,21 @@ pub fn push_reason(text: &mut String, reason: &Reason) -> Result<(), AllocError>
         Reason::FileNames => write!(text, "input files are declared otherwise"),
         Reason::File(name, change) => push_file(text, name, change),
     }
+}
+
+/// An argument of an action that differs.
+fn push_argument(
+    text: &mut String,
+    kind: &Name,
+    number: usize,
+    was: &Value,
+    is: &Value,
+) -> Result<(), AllocError>
+    ensures { OnOk result (string_bytes text.new
+        ≡ string_bytes text.old ++ reason_text (Reason.Argument kind.now number was.now is.now)) }
+{
+    write!(text, "argument {number} of {kind} was ")?;
+    push_difference(text, was, is)
 }
 
 /// An input value that differs.

@@ -9,7 +9,7 @@ use Rattle.gb_plan.specs.Graph.{order}
 use Rattle.gb_plan.specs.declared.plan.Planned.{Planned}
 use Rattle.gb_store.proofs.Loops.{all_at}
 use Rattle.gb_foretell.specs.Foretold.{IsForetold, IsReasoned}
-use Rattle.gb_foretell.specs.Marks.{AreMarkedAfter, mark}
+use Rattle.gb_foretell.specs.Marks.{AreMarkedAfter, lack, mark}
 use Rattle.gb_foretell.specs.declared.coming.Foretold.{Foretold}
 use Rattle.gb_foretell.proofs.Marking.{all_pairs, front_each, marked_more, path_more, related_more}
 use Rattle.gb_foretell.proofs.Telling.{all_related, foretold_wider}
@@ -47,6 +47,7 @@ loop-at-preserved g c =
     let here =
     subst (λ (ones : List Foretold). one.after ≡ mark (zip (take at plan) ones) planned.task one.coming) c.as_slice.ensures.value
     c.in_ok-one.ensures.marked in
+    let lacks = subst (λ (ones : List Foretold). one.needs ≡ lack planned.task ones) c.as_slice.ensures.value c.in_ok-one.ensures.needs in
     record {
       asks = asks_then inv.asks c.foretold.ensures.asks;
       same = λ tells. c.foretold.ensures.same tells ∙ inv.same tells;
@@ -57,7 +58,7 @@ loop-at-preserved g c =
       reasoned = subst (AllByRecursion (λ (f : Foretold). IsReasoned f.coming)) (sym more) (AllByRecursion-push (λ (f : Foretold). IsReasoned f.coming) told one inv.reasoned c.in_ok-one.ensures.reasoned);
       marked =
           subst (λ (l : List Foretold). AreMarkedAfter [] (zip (take (at + 1) plan) l)) (sym more)
-          (marked_more plan told at planned one c.loop-at-test.true inv.count c.index-plan-at.is inv.marked here);
+          (marked_more plan told at planned one c.loop-at-test.true inv.count c.index-plan-at.is inv.marked here lacks);
       foretold = λ tells kinds agrees.
           let Is : ℕ → Planned × Option Record → Foretold → Type 0 = λ until pair f. IsForetold kinds c.args.options pair.0.task old pair.1 begun until f.coming in
           subst (AllZip (Is new) (take (at + 1) (zip plan records))) (sym more)

@@ -1,12 +1,14 @@
-use Rattle.std.proofs.Common.{◌≡◌, [], IfErr, IfOk, OnOk, List, option_copied, sym, ap, subst, ◌∙◌}
-use Rattle.gb_folder.specs.Files.{Contents}
+use Rattle.std.proofs.Common.{◌≡◌, Bool, not, [], IfErr, IfOk, OnOk, List, option_copied, sym, ap, subst, ◌∙◌}
+use Rattle.gb_folder.specs.Files.{Contents, is_empty}
 use Rattle.gb_label.specs.Looking.{IsCase, MayBe}
 use Rattle.gb_label.specs.declared.look.Look.{Look}
+use Rattle.gb_meaning.specs.Memory.{output_files}
 use Rattle.gb_meaning.specs.Tree.{listing_faults, trees_of}
 use Rattle.gb_label.specs.Reading.{AreInputs, CannotRead, Read, digests_in, prints_read}
 use Rattle.gb_foretell.specs.Foretold.{IsForetold, IsFound, IsReasoned}
 use Rattle.gb_foretell.specs.declared.coming.Coming.{Coming}
-use Rattle.gb_foretell.proofs.Telling.{sourced_foretold, told_reasoned}
+use Rattle.gb_foretell.specs.declared.coming.Coming.TheVariants as comings
+use Rattle.gb_foretell.proofs.Telling.{sourced_foretold, sourceless_foretold, told_reasoned}
 use Rattle.gb_foretell.proofs.task.coming_of.Goals as goal
 
 pub returns-in-Ok-Skips-clause-foretold : goal.returns-in-Ok-Skips-clause-foretold
@@ -17,9 +19,26 @@ pub returns-in-Ok-HasNoActions-clause-foretold : goal.returns-in-Ok-HasNoActions
 returns-in-Ok-HasNoActions-clause-foretold g c = λ tells kinds agrees.
     subst (λ (look : Look). IsCase c.args.task.now (g.F.Folder.contents c.args.folder.now) look) c.in-Ok-HasNoActions.field-0-is (c.in-Ok-HasNoActions.ensures.case tells)
 
+pub returns-in-Ok-HasNoSource-clause-reasoned : goal.returns-in-Ok-HasNoSource-clause-reasoned
+returns-in-Ok-HasNoSource-clause-reasoned g c =
+    subst (λ (coming : Coming). IsReasoned coming) (sym c.told.ensures) (told_reasoned c.sourceless.result c.sourceless.ensures.reasoned)
+
 pub returns-in-Ok-HasNoSource-clause-foretold : goal.returns-in-Ok-HasNoSource-clause-foretold
 returns-in-Ok-HasNoSource-clause-foretold g c = λ tells kinds agrees.
-    subst (λ (look : Look). IsCase c.args.task.now (g.F.Folder.contents c.args.folder.now) look) c.in-Ok-HasNoSource.field-0-is (c.in-Ok-HasNoSource.ensures.case tells)
+    let F = g.F.Folder in
+    let task = c.args.task.now in
+    let old : Contents = F.contents c.args.folder.now in
+    let now : Contents = F.contents c.looked_at.new.folder in
+    let same : now ≡ old = c.looked_at.ensures.same tells in
+    let before = F.failures c.args.folder.now in
+    let mid = F.failures c.looked_at.new.folder in
+    let after = F.failures c.sourceless.new.folder in
+    let found = c.sourceless.result in
+    let case = subst (λ (look : Look). IsCase task old look) c.in-Ok-HasNoSource.field-0-is (c.in-Ok-HasNoSource.ensures.case tells) in
+    subst (λ (coming : Coming). IsForetold kinds c.args.options task old (option_copied c.args.old) before after coming) (sym c.told.ensures)
+    (sourceless_foretold kinds c.args.options task old (option_copied c.args.old) before mid after found c.looked_at.ensures.asks.count c.sourceless.ensures.asks.count case
+    (subst (λ (folder : Contents). IfOk found (λ coming. (removes : Bool) × (coming ≡ comings.HasNoSource removes) × (removes ≡ not (is_empty (output_files task folder.files))))) same (c.sourceless.ensures.removes tells))
+    (subst (λ (folder : Contents). IfErr found (CannotRead mid after (listing_faults task folder))) same (c.sourceless.ensures.err tells)))
 
 pub sourced-found-requires-clause-read : goal.sourced-found-requires-clause-read
 sourced-found-requires-clause-read g c =

@@ -1,0 +1,100 @@
+-- What is predicted by digests is predicted by whole contents, if the records of the folder are true.
+use Rattle.std.specs.Prelude.{ℕ, ◌≡◌, Bool, true, false, not, List, [], ◌∷◌, Option, None, Some, map}
+use Rattle.std.specs.List.{AllByRecursion, AllZip, list_any, zip}
+use Rattle.std.proofs.Common.{refl, sym, ap, ◌∙◌, inl, inr}
+use Rattle.gb_folder.specs.Files.{Contents, Files, is_empty, is_own}
+use Rattle.gb_history.specs.Record.{Record}
+use Rattle.gb_history.specs.declared.decide.Decision.{Decision}
+use Rattle.gb_history.specs.declared.decide.Decision.TheVariants as decisions
+use Rattle.gb_label.specs.declared.prepare.Prepared.TheVariants as prepared
+use Rattle.gb_label.specs.declared.prepare.Seen.{Seen}
+use Rattle.gb_meaning.specs.Kinds.{Kinds}
+use Rattle.gb_meaning.specs.Memory.{Memory, World, output_files}
+use Rattle.gb_meaning.specs.TrueRecord.{outside}
+use Rattle.gb_meaning.specs.Turn.{Rules}
+use Rattle.gb_plan.proofs.Tests.{not_true}
+use Rattle.gb_plan.specs.Graph.{order}
+use Rattle.gb_plan.specs.Task.{is_output_of}
+use Rattle.gb_plan.specs.declared.plan.Planned.{Planned}
+use Rattle.gb_plan.specs.declared.task.Output.{Output}
+use Rattle.gb_plan.specs.declared.task.TaskDeclaration.{TaskDeclaration as Task}
+use Rattle.gb_records.specs.Said.{IsReadAt}
+use Rattle.gb_report.specs.declared.fault.Fault.{Fault}
+use Rattle.gb_report.specs.declared.report.Options.{Options}
+use Rattle.gb_run.proofs.Owned.{narrowed}
+use Rattle.gb_turn.specs.Case.{DecisionIsCase, IsCaseFor, IsKnown, OutsideIsEnough}
+use Rattle.gb_turn.specs.Known.{AreWorth, WhatIsReadIsKnown}
+use Rattle.gb_turn.specs.Turns.{IsRunFor, RunsAreOfCase, goes_by_changes}
+use Rattle.gb_turn.proofs.Outside.{early_outside}
+use Rattle.gb_turn.proofs.Own.{is_kept, kept_at}
+use Rattle.gb_foretell.specs.Foretold.{AreForetold, IsForetold, IsRun}
+use Rattle.gb_foretell.specs.Predicted.{FolderPredictionsAreKept, IsOfFolder, IsPredicted, RunsThisWay, world_of}
+use Rattle.gb_foretell.specs.declared.coming.Coming.{Coming}
+use Rattle.gb_foretell.specs.declared.coming.Coming.TheVariants as comings
+use Rattle.gb_foretell.specs.declared.coming.Foretold.{Foretold}
+use Rattle.gb_foretell.proofs.Keeping.{predictions_are_kept}
+use Rattle.gb_foretell.proofs.Telling.{by_machine}
+
+module _ (decision_is_case : DecisionIsCase) (outside_is_enough : OutsideIsEnough) (runs_are_of_case : RunsAreOfCase) (seen : Seen)
+    (kinds : Kinds) (options : Options) (task : Task) (folder : Contents) (memory : Memory) where
+  world : World
+  world = world_of folder memory
+
+  module _ (out : list_any (λ (output : Output). is_own output.place) task.outputs ≡ false) (read : Option Record) (known : IsKnown kinds task (world_of folder memory) read) where
+    way : (decision : Decision) (by_changes : Bool) → goes_by_changes kinds task decision ≡ by_changes → IsCaseFor kinds options task (world_of folder memory) decision
+        → IsRunFor kinds options task (world_of folder memory) decision → RunsThisWay kinds options task (world_of folder memory) by_changes
+    way decision false goes case run = (run.not_current, run.full goes)
+    way decisions.UpToDate true goes case run = not_true goes
+    way (decisions.Incremental changes) true goes case run = (run.not_current, (case.1 goes).0)
+    way decisions.Full true goes case run = not_true goes
+
+    outputs_outside : output_files task (outside folder).files ≡ output_files task folder.files
+    outputs_outside = narrowed (is_output_of task) is_kept (kept_at task.outputs out) folder.files
+
+    machine_or_not : (b : Bool) → b ≡ true → b ≡ false → {A : Type 0} → A
+    machine_or_not true e f {A} = not_true (sym f)
+    machine_or_not false e f {A} = not_true e
+
+    pub predicted_of : (before after : ℕ) (coming : Coming) → IsOfFolder coming → IsForetold kinds options task folder read before after coming
+        → IsPredicted kinds options task (world_of folder memory) coming
+    predicted_of before after comings.Skips of is = early_outside task folder ∙ is
+    predicted_of before after comings.HasNoActions of is = early_outside task folder ∙ is
+    predicted_of before after (comings.HasNoSource removes) of is =
+        (early_outside task folder ∙ is.0, is.1 ∙ ap (λ (files : Files). not (is_empty files)) (sym outputs_outside))
+    predicted_of before after (comings.CannotRead fault) of (inl machine) = not_true (sym of ∙ by_machine before after fault machine)
+    predicted_of before after (comings.CannotRead fault) of (inr first) = (first.0, early_outside task folder ∙ first.1, first.2)
+    predicted_of before after comings.UpToDate of is =
+        let there = outside_is_enough options task folder read (prepared.Decided decisions.UpToDate seen) out is in
+        (there.0, decision_is_case kinds options task (world_of folder memory) read decisions.UpToDate known there.0 there.1)
+    predicted_of before after comings.HasGrown of is =
+        let there = outside_is_enough options task folder read (prepared.Decided decisions.Full seen) out (is.0, is.1.0) in
+        (there.0, decision_is_case kinds options task (world_of folder memory) read decisions.Full known there.0 there.1)
+    predicted_of before after (comings.Runs by_changes reasons) of is =
+        let run = is.1 in
+        let there = outside_is_enough options task folder read (prepared.Decided run.decision seen) out (is.0, run.decided) in
+        let case = decision_is_case kinds options task (world_of folder memory) read run.decision known there.0 there.1 in
+        (there.0, way run.decision by_changes run.by_changes case (runs_are_of_case kinds options task (world_of folder memory) run.decision run.due case))
+
+module _ (decision_is_case : DecisionIsCase) (outside_is_enough : OutsideIsEnough) (what_is_read_is_known : WhatIsReadIsKnown) (runs_are_of_case : RunsAreOfCase) (seen : Seen)
+    (rules : Rules) where
+  module _ (folder : Contents) (memory : Memory) (before after : ℕ) where
+    all_predicted : (plan : List Planned) (records : List (Option Record)) (told : List Foretold)
+        → AllByRecursion (λ (planned : Planned). AreWorth rules.kinds planned.task folder.files memory (world_of folder memory)) plan
+        → AllZip (IsReadAt folder.files) (order plan) records
+        → AllZip (λ (pair : Planned × Option Record) (one : Foretold). IsForetold rules.kinds rules.options pair.0.task folder pair.1 before after one.coming) (zip plan records) told
+        → AllByRecursion (λ (one : Foretold). IsOfFolder one.coming) told
+        → AllZip (λ (planned : Planned) (one : Foretold). IsPredicted rules.kinds rules.options planned.task (world_of folder memory) one.coming) plan told
+    all_predicted [] records [] worth read told of = tt
+    all_predicted [] records (one ∷ more) worth read told of = absurd told
+    all_predicted (planned ∷ plan) [] told worth read is of = absurd read
+    all_predicted (planned ∷ plan) (record_of ∷ records) [] worth read told of = absurd told
+    all_predicted (planned ∷ plan) (record_of ∷ records) (one ∷ more) worth read told of = (
+      predicted_of decision_is_case outside_is_enough runs_are_of_case seen rules.kinds rules.options planned.task folder memory worth.0.not_own record_of
+          (what_is_read_is_known rules.kinds planned.task folder.files memory (world_of folder memory) record_of worth.0 read.0) before after one.coming of.0 told.0,
+      all_predicted plan records more worth.1 read.1 told.1 of.1,
+    )
+
+  pub folder_predictions : FolderPredictionsAreKept rules
+  folder_predictions folder memory records before after told seen_before failures reports new once sound worth read foretold of marked turns =
+      predictions_are_kept rules seen_before (record { world = world_of folder memory; failures = failures }) new told reports once sound
+      (all_predicted folder memory before after rules.plan records told worth read foretold of) marked turns

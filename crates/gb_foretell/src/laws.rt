@@ -1,0 +1,41 @@
+//! Laws of predictions, each the contract of a function that does nothing.
+ghost use Rattle.gb_foretell.specs.Predicted.{FolderPredictionsAreKept, PredictionsAreKept};
+
+use gb_label::prepare::Seen;
+use gb_turn::case_laws::{decision_is_case, outside_is_enough, runs_are_of_case, what_is_read_is_known};
+use std::alloc::Global;
+
+/// The rules of a build.
+pub trait Build {
+    ghost use Rattle.gb_meaning.specs.Turn.{Rules};
+
+    /// What its kinds of actions mean, its options, what the machine may do, and its plan.
+    ghost rules: { Rules };
+}
+
+/// A task that is predicted without a mark ends in a build as it was predicted, up to the first task that
+/// fails.
+pub fn predictions_are_kept<B: Build>()
+    ensures { PredictionsAreKept B.rules }
+{}
+
+/// The same of predictions by the records of a folder.
+pub fn folder_predictions_are_kept<B: Build>(alloc: Global)
+    ensures { FolderPredictionsAreKept B.rules }
+{
+    let nothing = Seen {
+        inputs: Vec::new(alloc),
+        outputs: Vec::new(alloc),
+    };
+    kept_by::<B>(&nothing);
+}
+
+/// The same, by the laws of what is decided; it wants some value of what is read of a task.
+fn kept_by<B: Build>(seen: &Seen)
+    ensures { FolderPredictionsAreKept B.rules }
+{
+    decision_is_case();
+    outside_is_enough();
+    what_is_read_is_known();
+    runs_are_of_case();
+}
