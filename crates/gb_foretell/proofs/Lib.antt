@@ -1,5 +1,6 @@
 mod Finding
 mod Keeping
 mod Digested
+mod Least
 mod Marking
 pub mod Telling

@@ -9,54 +9,8 @@ use Rattle.gb_plan.specs.declared.plan.Planned.{Planned}
 use Rattle.gb_foretell.specs.Marks.{AreMarkedAfter, lack, mark}
 use Rattle.gb_foretell.specs.declared.coming.Foretold.{Foretold}
 
--- a test of what elements give, given in a row
-pub any_flat : {X Y : Type 0} (t : Y → Bool) (f : X → List Y) (xs : List X)
-    → list_any (λ x. list_any t (f x)) xs ≡ list_any t (flat_map f xs)
-any_flat t f [] = refl
-any_flat t f (x ∷ xs) = ap (λ b. list_any t (f x) || b) (any_flat t f xs) ∙ sym (list_any-append t (f x) (flat_map f xs))
-
--- tests that agree on each element
-pub any_alike : {X : Type 0} (t s : X → Bool) → ((x : X) → t x ≡ s x) → (xs : List X) → list_any t xs ≡ list_any s xs
-any_alike t s same [] = refl
-any_alike t s same (x ∷ xs) = ap (λ b. b || list_any t xs) (same x) ∙ ap (λ b. s x || b) (any_alike t s same xs)
-
 one_later : (n : ℕ) → suc n + 1 ≡ suc (n + 1)
 one_later n = omega arith
-
-behind : {X : Type 0} (t : X → Bool) (x : X) (xs : List X) → find t (x ∷ xs) ≡ None → (t x ≡ false) × (find t xs ≡ None)
-behind t x xs none = by (t x) none
-  where
-    by : (b : Bool) → cond b (Some x) (find t xs) ≡ None → (b ≡ false) × (find t xs ≡ None)
-    by true e = none_some (sym e)
-    by false e = (refl, e)
-
--- no pair before is the one, nor is this
-pub none_more : {X Y : Type 0} (t : X × Y → Bool) (xs : List X) (ys : List Y) (i : ℕ) (x : X) (y : Y) → i < length xs → i < length ys
-    → x ≡ get_or xs i x → y ≡ get_or ys i y → find t (take i (zip xs ys)) ≡ None → t (x, y) ≡ false
-    → find t (take (i + 1) (zip xs ys)) ≡ None
-none_more t [] ys i x y less short is at none fails = absurd (omega (arith, less))
-none_more t (w ∷ xs) [] i x y less short is at none fails = absurd (omega (arith, short))
-none_more t (w ∷ xs) (v ∷ ys) zero x y less short is at none fails =
-    ap (λ b. cond b (Some (w, v)) None) (ap (λ z. t (z, v)) (sym is) ∙ ap (λ z. t (x, z)) (sym at) ∙ fails)
-none_more t (w ∷ xs) (v ∷ ys) (suc i) x y less short is at none fails =
-    let parts = behind t (w, v) (take i (zip xs ys)) none in
-    ap (λ n. find t (take n ((w, v) ∷ zip xs ys))) (one_later i)
-    ∙ ap (λ b. cond b (Some (w, v)) (find t (take (i + 1) (zip xs ys)))) parts.0
-    ∙ none_more t xs ys i x y (omega (arith, less)) (omega (arith, short)) is at parts.1 fails
-
--- no pair before is the one, and this is
-pub found_here : {X Y : Type 0} (t : X × Y → Bool) (xs : List X) (ys : List Y) (i : ℕ) (x : X) (y : Y) → i < length xs → i < length ys
-    → x ≡ get_or xs i x → y ≡ get_or ys i y → find t (take i (zip xs ys)) ≡ None → t (x, y) ≡ true
-    → find t (zip xs ys) ≡ Some (x, y)
-found_here t [] ys i x y less short is at none passes = absurd (omega (arith, less))
-found_here t (w ∷ xs) [] i x y less short is at none passes = absurd (omega (arith, short))
-found_here t (w ∷ xs) (v ∷ ys) zero x y less short is at none passes =
-    ap (λ b. cond b (Some (w, v)) (find t (zip xs ys))) (ap (λ z. t (z, v)) (sym is) ∙ ap (λ z. t (x, z)) (sym at) ∙ passes)
-    ∙ ap (λ z. Some (z, v)) (sym is) ∙ ap (λ z. Some (x, z)) (sym at)
-found_here t (w ∷ xs) (v ∷ ys) (suc i) x y less short is at none passes =
-    let parts = behind t (w, v) (take i (zip xs ys)) none in
-    ap (λ b. cond b (Some (w, v)) (find t (zip xs ys))) parts.0
-    ∙ found_here t xs ys i x y (omega (arith, less)) (omega (arith, short)) is at parts.1 passes
 
 -- one pair more
 pub zip_more : {X Y : Type 0} (xs : List X) (ys : List Y) (i : ℕ) (x : X) (y : Y) → i < length xs → length ys ≡ i → x ≡ get_or xs i x
@@ -92,6 +46,15 @@ front_long : {X : Type 0} (xs : List X) (i : ℕ) → i < length xs → length (
 front_long [] i less = absurd (omega (arith, less))
 front_long (x ∷ xs) zero less = refl
 front_long (x ∷ xs) (suc i) less = ap suc (front_long xs i (omega (arith, less)))
+
+-- pairs with the front of a list that is as long
+pub zip_front : {X Y : Type 0} (xs : List X) (ys : List Y) (i : ℕ) → length ys ≡ i → zip (take i xs) ys ≡ zip xs ys
+zip_front [] ys zero long = refl
+zip_front [] ys (suc i) long = refl
+zip_front (x ∷ xs) [] zero long = refl
+zip_front (x ∷ xs) (y ∷ ys) zero long = absurd (omega (arith, long))
+zip_front (x ∷ xs) [] (suc i) long = refl
+zip_front (x ∷ xs) (y ∷ ys) (suc i) long = ap (λ (l : List _). (x, y) ∷ l) (zip_front xs ys i (omega (arith, long)))
 
 -- the second parts of pairs
 seconds : {X Y : Type 0} (xs : List X) (ys : List Y) → length ys ≡ length xs → map (λ (pair : X × Y). pair.1) (zip xs ys) ≡ ys

@@ -1,4 +1,5 @@
 pub mod Explained
 pub mod Foretold
+pub mod Least
 pub mod Marks
 pub mod Predicted

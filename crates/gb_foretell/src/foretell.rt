@@ -1,5 +1,5 @@
 //! The prediction for the tasks of a plan.
-ghost use Rattle.std.specs.Prelude.{◌≡◌, false, IfOk, IsTrue, length, map, option_copied};
+ghost use Rattle.std.specs.Prelude.{◌≡◌, ◌≤◌, [], false, IfOk, IsTrue, length, map, option_copied};
 ghost use Rattle.std.specs.List.{AllByRecursion, list_any, zip};
 ghost use Rattle.gb_folder.specs.Calls.{Asks, no_change};
 ghost use Rattle.gb_folder.specs.Files.{is_own};
@@ -9,14 +9,17 @@ ghost use Rattle.gb_label.specs.Deciding.{HasNamesInOrder};
 ghost use Rattle.gb_meaning.specs.Headline.{Agrees};
 ghost use Rattle.gb_meaning.specs.Kinds.{Kinds};
 ghost use Rattle.gb_plan.specs.Graph.{order};
+ghost use Rattle.gb_graph.specs.Places.{AreSamePlaces, IsRising, places_from, with_places};
 ghost use Rattle.gb_plan.specs.Ready.{IsReady};
+ghost use Rattle.gb_plan.specs.Task.{output_places};
 
 use crate::coming::{Coming, Foretold};
-use crate::marks::{lack, mark};
+use crate::marks::{lack, mark, outputs_by_place};
 use crate::task::coming_of;
 use gb_action::actions::Actions;
 use gb_action::table::ActionTable;
 use gb_folder::folder::Folder;
+use gb_graph::places::TaskPlace;
 use gb_core::path::TaskPath;
 use gb_history::record::Record;
 use gb_plan::plan::Planned;
@@ -49,14 +52,15 @@ pub fn foretell<A: Actions, F: Folder>(
         → IfOk result (λ told. AreForetold kinds options (F.contents folder.old) (F.failures folder.old)
         (F.failures folder.new) plan.now records.now told.items) }
 {
+    let row = outputs_by_place(alloc, plan)?;
     let mut told = Vec::new(alloc);
     for (at, planned) in plan.iter().enumerate() {
         let last = records[at].as_ref();
-        let before = &plan[..at];
         let one = foretold::<A, F>(
             alloc,
             folder,
-            before,
+            row.as_slice(),
+            plan,
             told.as_slice(),
             planned,
             table,
@@ -72,7 +76,8 @@ pub fn foretell<A: Actions, F: Folder>(
 fn foretold<A: Actions, F: Folder>(
     alloc: Global,
     folder: &mut F,
-    before: &[Planned],
+    row: &[TaskPlace],
+    plan: &[Planned],
     told: &[Foretold],
     planned: &Planned,
     table: &ActionTable<A::Stored>,
@@ -82,13 +87,15 @@ fn foretold<A: Actions, F: Folder>(
     requires ready { IsReady A.meanings table.now planned.now.task }
     requires in_order { HasNamesInOrder planned.now.task }
     requires not_own { list_any (λ output. is_own output.place) planned.now.task.outputs ≡ false }
-    requires each { length told.now ≡ length before.now }
+    requires rising { IsRising row.now }
+    requires of_plan { AreSamePlaces (with_places [] (places_from output_places 0 plan.now)) row.now }
+    requires each { length told.now ≤ length plan.now }
     ensures asks { Asks F.failures F.may_leave F.asked no_change folder.old folder.new }
     ensures same { IsTrue F.tells → F.contents folder.new ≡ F.contents folder.old }
     ensures path { IfOk result (λ one. one.path ≡ planned.now.task.path) }
     ensures reasoned { IfOk result (λ one. IsReasoned one.coming) }
     ensures marked { IfOk result (λ one.
-        one.after ≡ mark (zip before.now told.now) planned.now.task one.coming) }
+        one.after ≡ mark (zip plan.now told.now) planned.now.task one.coming) }
     ensures needs { IfOk result (λ one. one.needs ≡ lack planned.now.task told.now) }
     ensures foretold { IsTrue F.tells → (kinds : Kinds) → Agrees A.meanings table.now kinds
         → IfOk result (λ one. IsForetold kinds options planned.now.task (F.contents folder.old)
@@ -96,7 +103,7 @@ fn foretold<A: Actions, F: Folder>(
 {
     let path = planned.task.path.copy()?;
     let coming = coming_of::<A, F>(alloc, folder, &planned.task, table, options, last);
-    match marks(before, told, &planned.task, &coming) {
+    match marks(alloc, row, plan, told, &planned.task, &coming) {
         Ok((after, needs)) => Ok(Foretold {
             path,
             coming,
@@ -112,16 +119,20 @@ fn foretold<A: Actions, F: Folder>(
 
 /// Both marks of a task: which task may change what it finds, and which one keeps it from starting.
 fn marks(
-    before: &[Planned],
+    alloc: Global,
+    row: &[TaskPlace],
+    plan: &[Planned],
     told: &[Foretold],
     task: &TaskDeclaration,
     coming: &Coming,
 ) -> Result<(Option<TaskPath>, Option<TaskPath>), AllocError>
-    requires each { length told.now ≡ length before.now }
-    ensures { IfOk result (λ found.
-        (found.0 ≡ mark (zip before.now told.now) task.now coming.now) × (found.1 ≡ lack task.now told.now)) }
+    requires rising { IsRising row.now }
+    requires of_plan { AreSamePlaces (with_places [] (places_from output_places 0 plan.now)) row.now }
+    requires each { length told.now ≤ length plan.now }
+    ensures { IfOk result (λ found. (found.0 ≡ mark (zip plan.now told.now) task.now coming.now)
+        × (found.1 ≡ lack task.now told.now)) }
 {
-    let after = mark(before, told, task, coming)?;
+    let after = mark(alloc, row, plan, told, task, coming)?;
     let needs = lack(task, told)?;
     Ok((after, needs))
 }

@@ -1,50 +1,131 @@
 //! Which earlier task may change what a task finds, and which one keeps it from starting.
-ghost use Rattle.std.specs.Prelude.{◌≡◌, ◌&&◌, IfOk, find, length, map, option_copied, option_map};
-ghost use Rattle.std.specs.List.{list_any, zip};
-ghost use Rattle.gb_core.specs.Place.{overlaps};
-ghost use Rattle.gb_foretell.specs.Marks.{changes_for, culprit_for, lack, mark};
-ghost use Rattle.gb_plan.specs.Graph.{reads_output_of};
+ghost use Rattle.std.specs.Prelude.{◌≡◌, ◌≤◌, [], IfOk, length, option_copied};
+ghost use Rattle.std.specs.List.{zip};
+ghost use Rattle.gb_foretell.specs.Least.{ByOne, IsChanged, IsLeast, IsReadAt, IsReadBy, lesser};
+ghost use Rattle.gb_foretell.specs.Marks.{culprit_for, lack, mark};
+ghost use Rattle.gb_graph.specs.Places.{AreSamePlaces, IsRising, places_from, with_places};
+ghost use Rattle.gb_plan.specs.Task.{has_path, output_places};
 
 use crate::coming::{Coming, Foretold};
 use gb_core::path::TaskPath;
 use gb_core::place::Place;
+use gb_core::tasks::TaskPaths;
+use gb_graph::overlaps::overlapped;
+use gb_graph::places::{TaskPlace, outputs_of, sort_by_place};
 use gb_plan::plan::Planned;
-use gb_plan::task::{FileProperty, Output, TaskDeclaration};
-use std::alloc::AllocError;
+use gb_plan::task::{FileProperty, TaskDeclaration};
+use std::alloc::{AllocError, Global};
 
-/// The first of these tasks that may change and whose output the task reads, if its prediction depends on
-/// files.
+/// The outputs of a plan's tasks, sorted by their places.
+pub(crate) fn outputs_by_place(
+    alloc: Global,
+    plan: &[Planned],
+) -> Result<Vec<TaskPlace>, AllocError>
+    ensures rising { IfOk result (λ row. IsRising row.items) }
+    ensures of_plan { IfOk result (λ row.
+        AreSamePlaces (with_places [] (places_from output_places 0 plan.now)) row.items) }
+{
+    let mut row = outputs_of(alloc, plan)?;
+    sort_by_place(&mut row);
+    Ok(row)
+}
+
+/// The first of the tasks with a prediction that may change and whose output the task reads, if the
+/// prediction for it depends on files.
 pub(crate) fn mark(
-    before: &[Planned],
+    alloc: Global,
+    row: &[TaskPlace],
+    plan: &[Planned],
     told: &[Foretold],
     task: &TaskDeclaration,
     coming: &Coming,
 ) -> Result<Option<TaskPath>, AllocError>
-    requires { length told.now ≡ length before.now }
-    ensures { IfOk result (λ found. found ≡ mark (zip before.now told.now) task.now coming.now) }
+    requires rising { IsRising row.now }
+    requires of_plan { AreSamePlaces (with_places [] (places_from output_places 0 plan.now)) row.now }
+    requires each { length told.now ≤ length plan.now }
+    ensures { IfOk result (λ found. found ≡ mark (zip plan.now told.now) task.now coming.now) }
 {
     if !coming.reads_files() {
         return Ok(None);
     }
-    first_read(before, told, task)
+    match first_read(alloc, row, told, task.files.as_slice())? {
+        Some(number) => Ok(Some(plan[number].task.path.copy()?)),
+        None => Ok(None),
+    }
 }
 
-/// The first of these tasks that may change and whose output the task reads.
+/// The number of the first task that may change an output which one of the properties reads.
 fn first_read(
-    before: &[Planned],
+    alloc: Global,
+    row: &[TaskPlace],
     told: &[Foretold],
-    task: &TaskDeclaration,
-) -> Result<Option<TaskPath>, AllocError>
-    requires { length told.now ≡ length before.now }
-    ensures { IfOk result (λ found. found ≡ option_map (λ pair. pair.0.task.path)
-        (find (changes_for task.now) (zip before.now told.now))) }
+    files: &[FileProperty],
+) -> Result<Option<usize>, AllocError>
+    requires { IsRising row.now }
+    ensures { IfOk result (IsLeast (IsReadBy row.now told.now files.now)) }
 {
-    for (at, earlier) in before.iter().enumerate() {
-        if changes(earlier, &told[at], task) {
-            return Ok(Some(earlier.task.path.copy()?));
-        }
+    let mut first = None;
+    for property in files {
+        let found = first_at_roots(alloc, row, told, property.roots.as_slice())?;
+        first = lesser(first, found);
     }
-    Ok(None)
+    Ok(first)
+}
+
+/// The same for the roots of one property.
+fn first_at_roots(
+    alloc: Global,
+    row: &[TaskPlace],
+    told: &[Foretold],
+    roots: &[Place],
+) -> Result<Option<usize>, AllocError>
+    requires { IsRising row.now }
+    ensures { IfOk result (IsLeast (ByOne (IsReadAt row.now told.now) roots.now)) }
+{
+    let mut first = None;
+    for root in roots {
+        first = lesser(first, first_at(alloc, row, told, root)?);
+    }
+    Ok(first)
+}
+
+/// The same for one root.
+fn first_at(
+    alloc: Global,
+    row: &[TaskPlace],
+    told: &[Foretold],
+    root: &Place,
+) -> Result<Option<usize>, AllocError>
+    requires { IsRising row.now }
+    ensures { IfOk result (IsLeast (IsReadAt row.now told.now root.now)) }
+{
+    let found = overlapped(alloc, row, root)?;
+    let mut first = None;
+    for index in &found {
+        first = lesser(first, changed(told, &row[*index]));
+    }
+    Ok(first)
+}
+
+/// The number of the task whose output this is, if it may change it.
+fn changed(told: &[Foretold], at: &TaskPlace) -> Option<usize>
+    ensures { IsLeast (IsChanged told.now at.now) result }
+{
+    if at.task < told.len() && told[at.task].may_change() {
+        Some(at.task)
+    } else {
+        None
+    }
+}
+
+fn lesser(one: Option<usize>, other: Option<usize>) -> Option<usize>
+    ensures { result ≡ lesser one other }
+{
+    match (one, other) {
+        (Some(number), Some(less)) if less < number => Some(less),
+        (Some(number), _) => Some(number),
+        (None, other) => other,
+    }
 }
 
 /// The task that cannot be read and keeps this one from starting, by needs of needs too.
@@ -66,53 +147,15 @@ pub(crate) fn lack(
 fn culprit_for<'a>(task: &TaskDeclaration, earlier: &'a Foretold) -> Option<&'a TaskPath>
     ensures { option_copied result ≡ culprit_for task.now earlier.now }
 {
-    if task.needs.iter().any(|path| earlier.path == *path) {
+    if has_path(&task.needs, &earlier.path) {
         earlier.culprit()
     } else {
         None
     }
 }
 
-/// Whether the earlier task may change what the task reads.
-fn changes(earlier: &Planned, told: &Foretold, task: &TaskDeclaration) -> bool
-    ensures { result ≡ changes_for task.now (earlier.now, told.now) }
+fn has_path(paths: &TaskPaths, path: &TaskPath) -> bool
+    ensures { result ≡ has_path paths.now path.now }
 {
-    told.may_change() && reads_output_of(task, &earlier.task)
-}
-
-/// Whether some root of the first task overlaps an output of the second.
-fn reads_output_of(reader: &TaskDeclaration, writer: &TaskDeclaration) -> bool
-    ensures { result ≡ reads_output_of reader.now writer.now }
-{
-    reads_any(reader.files.as_slice(), writer.outputs.as_slice())
-}
-
-/// Whether some root of the properties overlaps one of the outputs.
-fn reads_any(properties: &[FileProperty], outputs: &[Output]) -> bool
-    ensures { result ≡ list_any (λ property.
-        list_any (λ root. list_any (λ output. overlaps root output.place) outputs.now) property.roots)
-        properties.now }
-{
-    properties
-        .iter()
-        .any(|property| reads_one(property, outputs))
-}
-
-/// Whether some root of the property overlaps one of the outputs.
-fn reads_one(property: &FileProperty, outputs: &[Output]) -> bool
-    ensures { result ≡ list_any (λ root. list_any (λ output. overlaps root output.place) outputs.now)
-        property.now.roots }
-{
-    property
-        .roots
-        .as_slice()
-        .iter()
-        .any(|root| overlaps(root, outputs))
-}
-
-/// Whether the root overlaps one of the outputs.
-fn overlaps(root: &Place, outputs: &[Output]) -> bool
-    ensures { result ≡ list_any (λ output. overlaps root.now output.place) outputs.now }
-{
-    outputs.iter().any(|output| root.overlaps(&output.place))
+    paths.iter().any(|other| *path == *other)
 }

@@ -11,7 +11,7 @@ use Rattle.gb_store.proofs.Loops.{all_at}
 use Rattle.gb_foretell.specs.Foretold.{IsForetold, IsReasoned}
 use Rattle.gb_foretell.specs.Marks.{AreMarkedAfter, lack, mark}
 use Rattle.gb_foretell.specs.declared.coming.Foretold.{Foretold}
-use Rattle.gb_foretell.proofs.Marking.{all_pairs, front_each, marked_more, path_more, related_more}
+use Rattle.gb_foretell.proofs.Marking.{all_pairs, marked_more, path_more, related_more, zip_front}
 use Rattle.gb_foretell.proofs.Telling.{all_related, foretold_wider}
 use Rattle.gb_foretell.proofs.foretell.foretell.Goals as goal
 
@@ -26,7 +26,9 @@ foretold-requires-clause-not_own g c = all_at _ c.args.plan.now c.loop-at.at c.i
 
 pub foretold-requires-clause-each : goal.foretold-requires-clause-each
 foretold-requires-clause-each g c =
-    ap length c.as_slice.ensures.value ∙ front_each c.args.plan.now c.loop-at.told.items c.loop-at.at c.loop-at-test.true c.loop-at.invariant.count
+    let long = ap length c.as_slice-told.ensures.value ∙ c.loop-at.invariant.count in
+    let less = c.loop-at-test.true in
+    omega (arith, long, less)
 
 pub loop-at-preserved : goal.loop-at-preserved
 loop-at-preserved g c =
@@ -45,9 +47,9 @@ loop-at-preserved g c =
     let new = F.failures c.foretold.new.folder in
     let more = c.in_ok-push.ensures.items in
     let here =
-    subst (λ (ones : List Foretold). one.after ≡ mark (zip (take at plan) ones) planned.task one.coming) c.as_slice.ensures.value
-    c.in_ok-one.ensures.marked in
-    let lacks = subst (λ (ones : List Foretold). one.needs ≡ lack planned.task ones) c.as_slice.ensures.value c.in_ok-one.ensures.needs in
+    subst (λ (ones : List Foretold). one.after ≡ mark (zip plan ones) planned.task one.coming) c.as_slice-told.ensures.value
+    c.in_ok-one.ensures.marked ∙ ap (λ pairs. mark pairs planned.task one.coming) (sym (zip_front plan told at inv.count)) in
+    let lacks = subst (λ (ones : List Foretold). one.needs ≡ lack planned.task ones) c.as_slice-told.ensures.value c.in_ok-one.ensures.needs in
     record {
       asks = asks_then inv.asks c.foretold.ensures.asks;
       same = λ tells. c.foretold.ensures.same tells ∙ inv.same tells;

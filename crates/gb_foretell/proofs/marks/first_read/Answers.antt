@@ -1,24 +1,20 @@
-use Rattle.std.proofs.Common.{Some, arith, sym, ap, ◌∙◌}
-use Rattle.std.specs.Prelude.{find, option_map}
-use Rattle.gb_plan.specs.declared.plan.Planned.{Planned}
-use Rattle.gb_foretell.specs.Marks.{changes_for}
-use Rattle.gb_foretell.specs.declared.coming.Foretold.{Foretold}
-use Rattle.gb_foretell.proofs.Marking.{all_pairs, found_here, none_more}
+use Rattle.std.proofs.Common.{◌≡◌, ◌+◌, ℕ, List, Option, take, sym, ap, subst, arith}
+use Rattle.std.proofs.lemmas.List.{take_all}
+use Rattle.gb_folder.specs.Files.{Place}
+use Rattle.gb_plan.specs.declared.task.FileProperty.{FileProperty}
+use Rattle.gb_foretell.specs.Least.{ByOne, IsLeast, IsReadAt, IsReadBy}
+use Rattle.gb_foretell.proofs.Least.{least_more}
 use Rattle.gb_foretell.proofs.marks.first_read.Goals as goal
 
-pub loop-at-preserved : goal.loop-at-preserved
-loop-at-preserved c =
-    none_more (changes_for c.args.task.now) c.args.before.now c.args.told.now c.loop-at.at c.index-before-at.result c.index-told-at.result c.loop-at-test.true
-    (omega (arith, c.loop-at-test.true, c.requires)) c.index-before-at.is c.index-told-at.is c.loop-at.invariant (sym c.changes.ensures ∙ c.if-changes.false)
+pub loop-property-preserved : goal.loop-property-preserved
+loop-property-preserved c =
+    let Read : FileProperty → ℕ → Type 0 = λ property. ByOne (IsReadAt c.args.row.now c.args.told.now) property.roots in
+    let files = c.args.files.now in
+    subst (λ (o : Option ℕ). IsLeast (ByOne Read (take (c.loop-property.property-index + 1) files)) o) (sym c.lesser-first.ensures)
+    (least_more Read files c.loop-property.property-index c.property-item.result c.loop-property.first c.in_ok-found.found c.loop-property-test.true c.property-item.is c.loop-property.invariant
+    (subst (λ (roots : List Place). IsLeast (ByOne (IsReadAt c.args.row.now c.args.told.now) roots) c.in_ok-found.found) c.as_slice.ensures c.in_ok-found.ensures))
 
 pub returns : goal.returns
 returns c =
-    sym (ap (option_map (λ (pair : Planned × Foretold). pair.0.task.path))
-    (sym (ap (find (changes_for c.args.task.now)) (all_pairs c.args.before.now c.args.told.now c.loop-at.at c.loop-at-test.false)) ∙ c.loop-at.invariant))
-
-pub returns-then-changes : goal.returns-then-changes
-returns-then-changes c =
-    ap Some c.in_ok-copy.ensures
-    ∙ sym (ap (option_map (λ (pair : Planned × Foretold). pair.0.task.path))
-    (found_here (changes_for c.args.task.now) c.args.before.now c.args.told.now c.loop-at.at c.index-before-at.result c.index-told-at.result c.loop-at-test.true
-    (omega (arith, c.loop-at-test.true, c.requires)) c.index-before-at.is c.index-told-at.is c.loop-at.invariant (sym c.changes.ensures ∙ c.if-changes.true)))
+    subst (λ (files : List FileProperty). IsLeast (IsReadBy c.args.row.now c.args.told.now files) c.loop-property.first)
+    (take_all c.loop-property.property-index c.args.files.now c.loop-property-test.false) c.loop-property.invariant

@@ -1,0 +1,37 @@
+-- The first task of a plan that may change an output which a task reads.
+use Rattle.std.specs.Prelude.{ℕ, ◌≡◌, ◌≤◌, ◌⊎◌, true, List, [], ◌∷◌, Option, None, Some, Contains, IsTrue}
+use Rattle.std.specs.Prelude.{if◌then◌else◌, nat_lt, slice_get}
+use Rattle.gb_core.specs.Place.{overlaps}
+use Rattle.gb_folder.specs.Files.{Place}
+use Rattle.gb_graph.specs.declared.places.TaskPlace.{TaskPlace}
+use Rattle.gb_plan.specs.declared.task.FileProperty.{FileProperty}
+use Rattle.gb_foretell.specs.Marks.{may_change}
+use Rattle.gb_foretell.specs.declared.coming.Foretold.{Foretold}
+
+-- it is the least number of which this holds; or it holds of none
+abbrev pub IsLeast : (ℕ → Type 0) → Option ℕ → Type 0
+IsLeast Holds None = (number : ℕ) → ¬ Holds number
+IsLeast Holds (Some number) = Holds number × ((other : ℕ) → Holds other → number ≤ other)
+
+abbrev pub lesser : Option ℕ → Option ℕ → Option ℕ
+lesser None other = other
+lesser (Some number) None = Some number
+lesser (Some number) (Some other) = if nat_lt other number then Some other else Some number
+
+-- it holds by one of these
+abbrev pub ByOne : {X : Type 0} → (X → ℕ → Type 0) → List X → ℕ → Type 0
+ByOne Holds [] number = ⊥
+ByOne Holds (x ∷ xs) number = Holds x number ⊎ ByOne Holds xs number
+
+-- the task of this number, whose output this is, may change it
+abbrev pub IsChanged : List Foretold → TaskPlace → ℕ → Type 0
+IsChanged told at number =
+    (at.task ≡ number) × (one : Foretold) × (slice_get told number ≡ Some one) × (may_change one ≡ true)
+
+-- it is one of these outputs, and overlaps the root
+abbrev pub IsReadAt : List TaskPlace → List Foretold → Place → ℕ → Type 0
+IsReadAt row told root number =
+    (at : TaskPlace) × Contains row at × IsTrue (overlaps root at.place) × IsChanged told at number
+
+abbrev pub IsReadBy : List TaskPlace → List Foretold → List FileProperty → ℕ → Type 0
+IsReadBy row told files number = ByOne (λ property. ByOne (IsReadAt row told) property.roots) files number
