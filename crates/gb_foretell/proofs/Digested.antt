@@ -1,7 +1,7 @@
 -- What is predicted by digests is predicted by whole contents, if the records of the folder are true.
-use Rattle.std.specs.Prelude.{ℕ, ◌≡◌, Bool, true, false, not, List, [], ◌∷◌, Option, None, Some, map}
+use Rattle.std.specs.Prelude.{ℕ, ◌≡◌, Bool, true, false, not, List, [], ◌∷◌, Option}
 use Rattle.std.specs.List.{AllByRecursion, AllZip, list_any, zip}
-use Rattle.std.proofs.Common.{refl, sym, ap, ◌∙◌, inl, inr}
+use Rattle.std.proofs.Common.{sym, ap, ◌∙◌, inl, inr}
 use Rattle.gb_folder.specs.Files.{Contents, Files, is_empty, is_own}
 use Rattle.gb_history.specs.Record.{Record}
 use Rattle.gb_history.specs.declared.decide.Decision.{Decision}
@@ -19,7 +19,6 @@ use Rattle.gb_plan.specs.declared.plan.Planned.{Planned}
 use Rattle.gb_plan.specs.declared.task.Output.{Output}
 use Rattle.gb_plan.specs.declared.task.TaskDeclaration.{TaskDeclaration as Task}
 use Rattle.gb_records.specs.Said.{IsReadAt}
-use Rattle.gb_report.specs.declared.fault.Fault.{Fault}
 use Rattle.gb_report.specs.declared.report.Options.{Options}
 use Rattle.gb_run.proofs.Owned.{narrowed}
 use Rattle.gb_turn.specs.Case.{DecisionIsCase, IsCaseFor, IsKnown, OutsideIsEnough}
@@ -27,7 +26,7 @@ use Rattle.gb_turn.specs.Known.{AreWorth, WhatIsReadIsKnown}
 use Rattle.gb_turn.specs.Turns.{IsRunFor, RunsAreOfCase, goes_by_changes}
 use Rattle.gb_turn.proofs.Outside.{early_outside}
 use Rattle.gb_turn.proofs.Own.{is_kept, kept_at}
-use Rattle.gb_foretell.specs.Foretold.{AreForetold, IsForetold, IsRun}
+use Rattle.gb_foretell.specs.Foretold.{IsForetold}
 use Rattle.gb_foretell.specs.Predicted.{FolderPredictionsAreKept, IsOfFolder, IsPredicted, RunsThisWay, world_of}
 use Rattle.gb_foretell.specs.declared.coming.Coming.{Coming}
 use Rattle.gb_foretell.specs.declared.coming.Coming.TheVariants as comings

@@ -1,14 +1,13 @@
 -- What a task finds in one world and in another, and how its execution ends there.
 use Rattle.std.specs.Prelude.{ℕ, ◌≡◌, ◌⊎◌, Bool, true, false, not, cond, ◌&&◌, ◌++◌, List, [], ◌∷◌, map, Option, None, Some, if◌then◌else◌}
-use Rattle.std.specs.List.{filter, flat_map, list_all, list_any}
+use Rattle.std.specs.List.{filter, list_all, list_any}
 use Rattle.std.proofs.Common.{refl, sym, ap, ap₂, subst, ◌∙◌, inl, inr, true≢false}
 use Rattle.gb_action.specs.Changes.{Changes, changes_between}
 use Rattle.gb_action.specs.Files.{Tree, Trees, tree_at}
-use Rattle.gb_core.specs.Lists.{first_of}
 use Rattle.gb_folder.specs.Files.{Contents, Files, is_empty}
 use Rattle.gb_meaning.specs.Kinds.{Kinds}
 use Rattle.gb_meaning.specs.Label.{AreChanges, CannotRead, Early, EndsWith, HasNoActions, HasNoSource, IsCurrent, IsIncremental, IsLabel, IsLabelAt, Moment, Skips, changes_from, early_case, has_one_writer, run_of, some_outcome}
-use Rattle.gb_meaning.specs.Memory.{Entry, World, entry_of, output_files, recalled}
+use Rattle.gb_meaning.specs.Memory.{World, entry_of, output_files, recalled}
 use Rattle.gb_meaning.specs.Tree.{has_no_source, input_faults, listing_faults, tree_of, trees_of}
 use Rattle.gb_meaning.specs.Turn.{Prints, lines_of}
 use Rattle.gb_meaning.proofs.Common.{some_same}

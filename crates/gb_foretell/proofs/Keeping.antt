@@ -4,15 +4,15 @@ use Rattle.std.specs.List.{AllByRecursion, AllZip, flat_map, list_any, zip}
 use Rattle.std.proofs.Common.{refl, sym, ap, subst, ◌∙◌, inl, inr, append_assoc, append-nil, true≢false}
 use Rattle.std.proofs.lemmas.Grind.{flat_map-append}
 use Rattle.std.proofs.lemmas.List.{map-append}
-use Rattle.gb_core.specs.Place.{is_under, overlaps}
-use Rattle.gb_folder.specs.Files.{Bytes, Contents, DiffersOnlyAt, Files, Place, files_where, is_empty}
+use Rattle.gb_core.specs.Place.{is_under}
+use Rattle.gb_folder.specs.Files.{Bytes, DiffersOnlyAt, Files, Place, files_where, is_empty}
 use Rattle.gb_meaning.specs.Every.{always}
 use Rattle.gb_meaning.specs.Kinds.{Kinds}
-use Rattle.gb_meaning.specs.Label.{HasNoActions, IsLabel, Moment}
-use Rattle.gb_meaning.specs.Memory.{Entry, Memory, World, entry_of, folder_contents, forget, output_files, recalled, remember}
+use Rattle.gb_meaning.specs.Label.{IsLabel, Moment}
+use Rattle.gb_meaning.specs.Memory.{Entry, World, entry_of, folder_contents, forget, output_files, recalled, remember}
 use Rattle.gb_meaning.specs.Made.{with_outputs}
 use Rattle.gb_meaning.specs.Tree.{input_faults, listing_faults, trees_of}
-use Rattle.gb_meaning.specs.Turn.{IsOfMachine, Leaves, PassedOver, Prints, Rules, Standing, StartedTurn, Turn, Turns, first_moment, memory_after, moment_after}
+use Rattle.gb_meaning.specs.Turn.{IsOfMachine, Leaves, Prints, Rules, Standing, StartedTurn, Turn, Turns, first_moment, memory_after, moment_after}
 use Rattle.gb_meaning.proofs.Common.{none_some}
 use Rattle.gb_meaning.proofs.Lemmas.Reading.{AllUnseen, Unseen, input_faults_same, trees_same}
 use Rattle.gb_meaning.proofs.Lemmas.Sound.{unseen_of}
@@ -33,7 +33,7 @@ use Rattle.gb_report.specs.declared.report.TaskReport.{TaskReport}
 use Rattle.gb_run.proofs.Owned.{narrowed}
 use Rattle.gb_turn.proofs.Memories.{recalled-forget, recalled-remember}
 use Rattle.gb_foretell.specs.Marks.{AreMarkedAfter, changes_files, changes_for, mark, may_change, reads_files}
-use Rattle.gb_foretell.specs.Predicted.{AreKept, Fits, HasRun, IsKept, IsPredicted, MayFail, PredictionsAreKept}
+use Rattle.gb_foretell.specs.Predicted.{AreKept, Fits, IsKept, IsPredicted, PredictionsAreKept}
 use Rattle.gb_foretell.specs.declared.coming.Coming.{Coming}
 use Rattle.gb_foretell.specs.declared.coming.Coming.TheVariants as comings
 use Rattle.gb_foretell.specs.declared.coming.Foretold.{Foretold}

@@ -1,10 +1,8 @@
 -- The marks that earlier tasks give to a task, pair by pair.
-use Rattle.std.specs.Prelude.{ℕ, zero, suc, ◌≡◌, ◌<◌, ◌≤◌, ◌+◌, ◌||◌, Bool, true, false, List, [], ◌∷◌, ◌++◌, map, length, take, get_or, None, Some, find}
-use Rattle.std.specs.List.{AllZip, flat_map, list_any, zip}
-use Rattle.std.proofs.Common.{refl, sym, ap, subst, ◌∙◌, arith, cond, append_assoc}
+use Rattle.std.specs.Prelude.{ℕ, zero, suc, ◌≡◌, ◌<◌, ◌≤◌, ◌+◌, List, [], ◌∷◌, ◌++◌, map, length, take, get_or}
+use Rattle.std.specs.List.{AllZip, zip}
+use Rattle.std.proofs.Common.{refl, sym, ap, subst, ◌∙◌, arith, append_assoc}
 use Rattle.std.proofs.lemmas.List.{map-append, take_all, take_more}
-use Rattle.std.proofs.lemmas.List.Folds.{list_any-append}
-use Rattle.gb_meaning.proofs.Common.{none_some}
 use Rattle.gb_plan.specs.declared.plan.Planned.{Planned}
 use Rattle.gb_foretell.specs.Marks.{AreMarkedAfter, lack, mark}
 use Rattle.gb_foretell.specs.declared.coming.Foretold.{Foretold}
@@ -71,10 +69,6 @@ marked_more plan told i planned one less long is all here lacks =
     subst (AreMarkedAfter []) (sym (zip_more plan told i planned one less long is))
     (marked_push [] (zip (take i plan) told) (planned, one) all here
     (lacks ∙ ap (lack planned.task) (sym (seconds (take i plan) told (long ∙ sym (front_long plan i less))))))
-
--- as many as in the front
-pub front_each : {X Y : Type 0} (xs : List X) (ys : List Y) (i : ℕ) → i < length xs → length ys ≡ i → length ys ≡ length (take i xs)
-front_each xs ys i less long = long ∙ sym (front_long xs i less)
 
 -- one pair's third more
 pub related_more : {X Y Z : Type 0} (R : X × Y → Z → Type 0) (xs : List X) (ys : List Y) (zs : List Z) (i : ℕ) (x : X) (y : Y) (z : Z)

@@ -1,18 +1,15 @@
 -- From the decision on a task to its prediction.
-use Rattle.std.specs.Prelude.{ℕ, ◌≡◌, ◌≢◌, ◌≤◌, ◌⊎◌, Bool, true, false, not, List, [], ◌∷◌, ◌++◌, map, if◌then◌else◌, Option, None, Some, Result, Ok, Err, IfOk, IfErr, OnOk}
+use Rattle.std.specs.Prelude.{ℕ, ◌≡◌, ◌≤◌, Bool, true, false, not, List, [], ◌∷◌, ◌++◌, map, if◌then◌else◌, Option, None, Some, Result, Ok, Err, IfOk, IfErr, OnOk}
 use Rattle.std.specs.List.{AllZip, flat_map}
 use Rattle.std.proofs.Common.{refl, sym, ap, subst, ◌∙◌, inl, inr, true≢false}
-use Rattle.gb_turn.specs.Turns.{goes_by_changes}
 use Rattle.gb_core.specs.Lists.{first_of}
 use Rattle.gb_folder.specs.Files.{Contents, is_empty}
 use Rattle.gb_history.specs.Record.{Record}
-use Rattle.gb_history.specs.declared.decide.Decision.{Decision}
 use Rattle.gb_history.specs.declared.decide.Decision.TheVariants as decisions
 use Rattle.gb_history.specs.declared.decide.Present.{Present}
 use Rattle.gb_history.specs.declared.record.OutputRecord.{OutputRecord}
 use Rattle.gb_history.specs.Record.{Prints}
 use Rattle.gb_label.specs.Deciding.{IsDecided, IsGrown, IsPresentOf, anew, by_record, forgotten}
-use Rattle.gb_label.specs.Looking.{IsHindered}
 use Rattle.gb_label.proofs.Cases.{by_source, cannot_before, hindered_at_outputs}
 use Rattle.gb_label.proofs.Growth.{CannotPrint}
 use Rattle.gb_meaning.specs.Kinds.{Kinds}
@@ -31,7 +28,7 @@ use Rattle.gb_store.proofs.Machine.{machine_after, machine_before}
 use Rattle.gb_label.specs.Reading.{CannotRead, digests_in, print_faults, recorded_of}
 use Rattle.gb_foretell.proofs.Finding.{case_by}
 use Rattle.gb_foretell.specs.Explained.{IsExplained}
-use Rattle.gb_foretell.specs.Foretold.{AreReasons, IsForetold, IsFound, IsReasoned, IsRun, RunsFor, is_of_machine, told_of}
+use Rattle.gb_foretell.specs.Foretold.{AreReasons, IsForetold, IsFound, IsReasoned, RunsFor, is_of_machine, told_of}
 use Rattle.gb_foretell.specs.declared.coming.Coming.{Coming}
 use Rattle.gb_foretell.specs.declared.coming.Coming.TheVariants as comings
 

@@ -1,11 +1,14 @@
--- The first task of a plan that may change an output which a task reads.
+-- How marks are found: the first task that may change an output which a task reads, by sorted outputs; and
+-- the tasks that do not start, by their paths.
 use Rattle.std.specs.Prelude.{ℕ, ◌≡◌, ◌≤◌, ◌⊎◌, true, List, [], ◌∷◌, Option, None, Some, Contains, IsTrue}
-use Rattle.std.specs.Prelude.{if◌then◌else◌, nat_lt, slice_get}
+use Rattle.std.specs.Prelude.{◌<◌, ⊤, if◌then◌else◌, length, nat_lt, option_and_then, slice_get}
 use Rattle.gb_core.specs.Place.{overlaps}
 use Rattle.gb_folder.specs.Files.{Place}
 use Rattle.gb_graph.specs.declared.places.TaskPlace.{TaskPlace}
 use Rattle.gb_plan.specs.declared.task.FileProperty.{FileProperty}
-use Rattle.gb_foretell.specs.Marks.{may_change}
+use Rattle.gb_graph.specs.Ranked.{number_at}
+use Rattle.gb_plan.specs.Task.{Path}
+use Rattle.gb_foretell.specs.Marks.{culprit, culprit_at, may_change}
 use Rattle.gb_foretell.specs.declared.coming.Foretold.{Foretold}
 
 -- it is the least number of which this holds; or it holds of none
@@ -35,3 +38,19 @@ IsReadAt row told root number =
 
 abbrev pub IsReadBy : List TaskPlace → List Foretold → List FileProperty → ℕ → Type 0
 IsReadBy row told files number = ByOne (λ property. ByOne (IsReadAt row told) property.roots) files number
+
+-- ---- Tasks that do not start
+
+-- the culprit of the task of a number
+abbrev pub culprit_of : List Foretold → Option ℕ → Option Path
+culprit_of told None = None
+culprit_of told (Some number) = option_and_then culprit (slice_get told number)
+
+abbrev pub IsBelow : ℕ → Option ℕ → Type 0
+IsBelow long None = ⊤
+IsBelow long (Some number) = number < long
+
+-- the numbers of those that have a culprit, by their paths
+pub record AreLost (told : List Foretold) (lost : List (List ℕ × ℕ)) : Type 0 where
+  pub low : (path : Path) → IsBelow (length told) (number_at lost path)
+  pub culprits : (path : Path) → culprit_of told (number_at lost path) ≡ culprit_at told path

@@ -1,9 +1,9 @@
 -- Which earlier task may change what a task finds, and which one keeps it from starting.
 use Rattle.std.specs.Prelude.{◌≡◌, ◌||◌, ◌&&◌, ◌++◌, ◌∷◌, [], Bool, true, map}
-use Rattle.std.specs.Prelude.{false, List, Option, None, Some, if◌then◌else◌, find, is_some, option_map, ⊤}
+use Rattle.std.specs.Prelude.{false, List, Option, None, Some, if◌then◌else◌, bytes_eq, find, is_some, option_map, ⊤}
 use Rattle.std.specs.List.{zip}
 use Rattle.gb_plan.specs.Graph.{Plan, reads_output_of}
-use Rattle.gb_plan.specs.Task.{Path, has_path}
+use Rattle.gb_plan.specs.Task.{Path}
 use Rattle.gb_plan.specs.declared.plan.Planned.{Planned}
 use Rattle.gb_plan.specs.declared.task.TaskDeclaration.{TaskDeclaration as Task}
 use Rattle.gb_foretell.specs.declared.coming.Coming.{Coming}
@@ -48,18 +48,24 @@ is_unread other = false
 abbrev pub culprit : Foretold → Option Path
 culprit told = if is_unread told.coming then Some told.path else told.needs
 
--- the culprit of an earlier task, if this one needs it
-abbrev pub culprit_for : Task → Foretold → Option Path
-culprit_for task told = if has_path task.needs told.path then culprit told else None
-
 abbrev pub or_else : Option Path → Option Path → Option Path
 or_else (Some path) other = Some path
 or_else None other = other
 
--- the first culprit among those before it that the task needs
+-- the culprit of the task at a path, if it has one
+abbrev pub culprit_at : List Foretold → Path → Option Path
+culprit_at [] path = None
+culprit_at (told ∷ later) path =
+    or_else (culprit_at later path) (if bytes_eq told.path path then culprit told else None)
+
+-- the first culprit of tasks that are needed
+abbrev pub first_culprit : List Foretold → List Path → Option Path
+first_culprit told [] = None
+first_culprit told (path ∷ paths) = or_else (culprit_at told path) (first_culprit told paths)
+
+-- the task that keeps this one from starting, given the earlier ones
 abbrev pub lack : Task → List Foretold → Option Path
-lack task [] = None
-lack task (told ∷ before) = or_else (culprit_for task told) (lack task before)
+lack task told = first_culprit told task.needs
 
 -- each of these tasks has the marks that those before it give it
 abbrev pub AreMarkedAfter : List (Planned × Foretold) → List (Planned × Foretold) → Type 0

@@ -4,6 +4,7 @@ ghost use Rattle.std.specs.List.{AllByRecursion, list_any, zip};
 ghost use Rattle.gb_folder.specs.Calls.{Asks, no_change};
 ghost use Rattle.gb_folder.specs.Files.{is_own};
 ghost use Rattle.gb_foretell.specs.Foretold.{AreForetold, IsForetold, IsReasoned};
+ghost use Rattle.gb_foretell.specs.Least.{AreLost};
 ghost use Rattle.gb_foretell.specs.Marks.{AreMarked, lack, mark};
 ghost use Rattle.gb_label.specs.Deciding.{HasNamesInOrder};
 ghost use Rattle.gb_meaning.specs.Headline.{Agrees};
@@ -14,13 +15,14 @@ ghost use Rattle.gb_plan.specs.Ready.{IsReady};
 ghost use Rattle.gb_plan.specs.Task.{output_places};
 
 use crate::coming::{Coming, Foretold};
-use crate::marks::{lack, mark, outputs_by_place};
+use crate::marks::{lack, mark, note, outputs_by_place};
 use crate::task::coming_of;
 use gb_action::actions::Actions;
 use gb_action::table::ActionTable;
-use gb_folder::folder::Folder;
-use gb_graph::places::TaskPlace;
 use gb_core::path::TaskPath;
+use gb_folder::folder::Folder;
+use gb_graph::by_path::Numbers;
+use gb_graph::places::TaskPlace;
 use gb_history::record::Record;
 use gb_plan::plan::Planned;
 use gb_plan::task::TaskDeclaration;
@@ -29,6 +31,7 @@ use std::alloc::{AllocError, Global};
 
 /// The outcome of each task of a plan, if it were executed on the folder as it is, in the order of the
 /// plan. `records` has what was read of their records, in that order. Nothing is changed.
+#[tactic(auto, using(crate::proofs::Lost::none_lost))]
 pub fn foretell<A: Actions, F: Folder>(
     alloc: Global,
     folder: &mut F,
@@ -54,6 +57,7 @@ pub fn foretell<A: Actions, F: Folder>(
 {
     let row = outputs_by_place(alloc, plan)?;
     let mut told = Vec::new(alloc);
+    let mut lost = Numbers::new(alloc);
     for (at, planned) in plan.iter().enumerate() {
         let last = records[at].as_ref();
         let one = foretold::<A, F>(
@@ -62,11 +66,13 @@ pub fn foretell<A: Actions, F: Folder>(
             row.as_slice(),
             plan,
             told.as_slice(),
+            &lost,
             planned,
             table,
             options,
             last,
         )?;
+        note(&mut lost, &planned.task.path, at, &one)?;
         told.push(one)?;
     }
     Ok(told)
@@ -79,6 +85,7 @@ fn foretold<A: Actions, F: Folder>(
     row: &[TaskPlace],
     plan: &[Planned],
     told: &[Foretold],
+    lost: &Numbers<'_>,
     planned: &Planned,
     table: &ActionTable<A::Stored>,
     options: Options,
@@ -90,6 +97,7 @@ fn foretold<A: Actions, F: Folder>(
     requires rising { IsRising row.now }
     requires of_plan { AreSamePlaces (with_places [] (places_from output_places 0 plan.now)) row.now }
     requires each { length told.now ≤ length plan.now }
+    requires lost { AreLost told.now lost.now }
     ensures asks { Asks F.failures F.may_leave F.asked no_change folder.old folder.new }
     ensures same { IsTrue F.tells → F.contents folder.new ≡ F.contents folder.old }
     ensures path { IfOk result (λ one. one.path ≡ planned.now.task.path) }
@@ -103,7 +111,7 @@ fn foretold<A: Actions, F: Folder>(
 {
     let path = planned.task.path.copy()?;
     let coming = coming_of::<A, F>(alloc, folder, &planned.task, table, options, last);
-    match marks(alloc, row, plan, told, &planned.task, &coming) {
+    match marks(alloc, row, plan, told, lost, &planned.task, &coming) {
         Ok((after, needs)) => Ok(Foretold {
             path,
             coming,
@@ -123,16 +131,18 @@ fn marks(
     row: &[TaskPlace],
     plan: &[Planned],
     told: &[Foretold],
+    lost: &Numbers<'_>,
     task: &TaskDeclaration,
     coming: &Coming,
 ) -> Result<(Option<TaskPath>, Option<TaskPath>), AllocError>
     requires rising { IsRising row.now }
     requires of_plan { AreSamePlaces (with_places [] (places_from output_places 0 plan.now)) row.now }
     requires each { length told.now ≤ length plan.now }
+    requires lost { AreLost told.now lost.now }
     ensures { IfOk result (λ found. (found.0 ≡ mark (zip plan.now told.now) task.now coming.now)
         × (found.1 ≡ lack task.now told.now)) }
 {
     let after = mark(alloc, row, plan, told, task, coming)?;
-    let needs = lack(task, told)?;
+    let needs = lack(task, told, lost)?;
     Ok((after, needs))
 }

@@ -2,7 +2,9 @@
 ghost use Rattle.gb_foretell.specs.Predicted.{FolderPredictionsAreKept, PredictionsAreKept};
 
 use gb_label::prepare::Seen;
-use gb_turn::case_laws::{decision_is_case, outside_is_enough, runs_are_of_case, what_is_read_is_known};
+use gb_turn::case_laws::{
+    decision_is_case, outside_is_enough, runs_are_of_case, what_is_read_is_known,
+};
 use std::alloc::Global;
 
 /// The rules of a build.

@@ -1,15 +1,17 @@
 //! Which earlier task may change what a task finds, and which one keeps it from starting.
-ghost use Rattle.std.specs.Prelude.{◌≡◌, ◌≤◌, [], IfOk, length, option_copied};
+ghost use Rattle.std.specs.Prelude.{◌≡◌, ◌≤◌, ◌&&◌, [], ℕ, List, Some, IfOk, OnOk, bytes_eq};
+ghost use Rattle.std.specs.Prelude.{if◌then◌else◌, is_some, length, option_copied};
 ghost use Rattle.std.specs.List.{zip};
-ghost use Rattle.gb_foretell.specs.Least.{ByOne, IsChanged, IsLeast, IsReadAt, IsReadBy, lesser};
-ghost use Rattle.gb_foretell.specs.Marks.{culprit_for, lack, mark};
+ghost use Rattle.gb_foretell.specs.Least.{AreLost, ByOne, IsChanged, IsLeast, IsReadAt, IsReadBy, lesser};
+ghost use Rattle.gb_foretell.specs.Marks.{culprit, culprit_at, lack, mark};
 ghost use Rattle.gb_graph.specs.Places.{AreSamePlaces, IsRising, places_from, with_places};
-ghost use Rattle.gb_plan.specs.Task.{has_path, output_places};
+ghost use Rattle.gb_graph.specs.Ranked.{number_at};
+ghost use Rattle.gb_plan.specs.Task.{output_places};
 
 use crate::coming::{Coming, Foretold};
 use gb_core::path::TaskPath;
 use gb_core::place::Place;
-use gb_core::tasks::TaskPaths;
+use gb_graph::by_path::Numbers;
 use gb_graph::overlaps::overlapped;
 use gb_graph::places::{TaskPlace, outputs_of, sort_by_place};
 use gb_plan::plan::Planned;
@@ -128,34 +130,48 @@ fn lesser(one: Option<usize>, other: Option<usize>) -> Option<usize>
     }
 }
 
-/// The task that cannot be read and keeps this one from starting, by needs of needs too.
+/// The task that cannot be read and keeps this one from starting, by needs of needs too. `lost` has the
+/// numbers of the earlier tasks that do not start.
 pub(crate) fn lack(
     task: &TaskDeclaration,
-    before: &[Foretold],
+    told: &[Foretold],
+    lost: &Numbers<'_>,
 ) -> Result<Option<TaskPath>, AllocError>
-    ensures { IfOk result (λ found. found ≡ lack task.now before.now) }
+    requires { AreLost told.now lost.now }
+    ensures { IfOk result (λ found. found ≡ lack task.now told.now) }
 {
-    for earlier in before {
-        if let Some(culprit) = culprit_for(task, earlier) {
+    for path in task.needs.iter() {
+        if let Some(culprit) = culprit_at(told, lost, path) {
             return Ok(Some(culprit.copy()?));
         }
     }
     Ok(None)
 }
 
-/// The culprit of an earlier task, if this one needs it.
-fn culprit_for<'a>(task: &TaskDeclaration, earlier: &'a Foretold) -> Option<&'a TaskPath>
-    ensures { option_copied result ≡ culprit_for task.now earlier.now }
+/// The culprit of the task at a path, if it has one.
+fn culprit_at<'a>(told: &'a [Foretold], lost: &Numbers<'_>, path: &TaskPath) -> Option<&'a TaskPath>
+    requires { AreLost told.now lost.now }
+    ensures { option_copied result ≡ culprit_at told.now path.now }
 {
-    if has_path(&task.needs, &earlier.path) {
-        earlier.culprit()
-    } else {
-        None
+    match lost.get(path) {
+        Some(number) => told[number].culprit(),
+        None => None,
     }
 }
 
-fn has_path(paths: &TaskPaths, path: &TaskPath) -> bool
-    ensures { result ≡ has_path paths.now path.now }
+/// Notes the number of a task, if it does not start.
+pub(crate) fn note<'a>(
+    lost: &mut Numbers<'a>,
+    path: &'a TaskPath,
+    number: usize,
+    one: &Foretold,
+) -> Result<(), AllocError>
+    ensures { OnOk result ((other : List ℕ) → number_at lost.new other
+        ≡ (if is_some (culprit one.now) && bytes_eq path.now other then Some number
+        else number_at lost.old other)) }
 {
-    paths.iter().any(|other| *path == *other)
+    if one.culprit().is_some() {
+        lost.insert(path, number)?;
+    }
+    Ok(())
 }

@@ -81,7 +81,7 @@ fn sourceless<F: Folder>(
         (listing_faults task.now (F.contents folder.old))) }
 {
     let places = listed_outputs(alloc, folder, task.outputs.as_slice())?;
-    Ok(Coming::HasNoSource(!places.is_empty()))
+    Ok(Coming::HasNoSource(!places.as_slice().is_empty()))
 }
 
 /// The prediction for a task that was to be read.

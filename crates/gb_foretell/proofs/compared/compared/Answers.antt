@@ -1,4 +1,4 @@
-use Rattle.std.proofs.Common.{List, Some, IfErr, refl, sym, ap, subst, ◌∙◌, inl}
+use Rattle.std.proofs.Common.{List, IfErr, sym, ap, subst, ◌∙◌}
 use Rattle.std.proofs.lemmas.Result.{err_from_is_err_and}
 use Rattle.gb_folder.specs.Files.{Contents}
 use Rattle.gb_history.specs.Record.{Prints}

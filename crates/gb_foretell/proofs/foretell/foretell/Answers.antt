@@ -1,4 +1,4 @@
-use Rattle.std.proofs.Common.{◌≡◌, ◌+◌, ℕ, Option, List, ◌∷◌, [], ◌++◌, arith, sym, ap, subst, length, length-append, map, option_copied, take, ◌∙◌}
+use Rattle.std.proofs.Common.{◌≡◌, ◌+◌, ◌&&◌, ℕ, cond, Some, bytes_eq, is_some, Option, List, ◌∷◌, [], ◌++◌, arith, sym, ap, subst, length, length-append, map, option_copied, take, ◌∙◌}
 use Rattle.std.specs.List.{AllByRecursion, AllZip, zip}
 use Rattle.std.proofs.lemmas.List.{map-append, take_all}
 use Rattle.gb_folder.specs.Files.{Contents}
@@ -9,7 +9,13 @@ use Rattle.gb_plan.specs.Graph.{order}
 use Rattle.gb_plan.specs.declared.plan.Planned.{Planned}
 use Rattle.gb_store.proofs.Loops.{all_at}
 use Rattle.gb_foretell.specs.Foretold.{IsForetold, IsReasoned}
-use Rattle.gb_foretell.specs.Marks.{AreMarkedAfter, lack, mark}
+use Rattle.gb_graph.specs.Places.{AreSamePlaces, places_from, with_places}
+use Rattle.gb_graph.specs.Ranked.{number_at}
+use Rattle.gb_graph.specs.declared.places.TaskPlace.{TaskPlace}
+use Rattle.gb_plan.specs.Task.{output_places}
+use Rattle.gb_foretell.specs.Least.{AreLost}
+use Rattle.gb_foretell.specs.Marks.{AreMarkedAfter, culprit, lack, mark}
+use Rattle.gb_foretell.proofs.Lost.{lost_more}
 use Rattle.gb_foretell.specs.declared.coming.Foretold.{Foretold}
 use Rattle.gb_foretell.proofs.Marking.{all_pairs, marked_more, path_more, related_more, zip_front}
 use Rattle.gb_foretell.proofs.Telling.{all_related, foretold_wider}
@@ -26,9 +32,17 @@ foretold-requires-clause-not_own g c = all_at _ c.args.plan.now c.loop-at.at c.i
 
 pub foretold-requires-clause-each : goal.foretold-requires-clause-each
 foretold-requires-clause-each g c =
-    let long = ap length c.as_slice-told.ensures.value ∙ c.loop-at.invariant.count in
+    let long = ap length c.as_slice-in-loop-at.ensures.value ∙ c.loop-at.invariant.count in
     let less = c.loop-at-test.true in
     omega (arith, long, less)
+
+pub foretold-requires-clause-of_plan : goal.foretold-requires-clause-of_plan
+foretold-requires-clause-of_plan g c =
+    subst (λ (row : List TaskPlace). AreSamePlaces (with_places [] (places_from output_places 0 c.args.plan.now)) row) (sym c.as_slice.ensures.value) c.in_ok-row.ensures.of_plan
+
+pub foretold-requires-clause-lost : goal.foretold-requires-clause-lost
+foretold-requires-clause-lost g c =
+    subst (λ (told : List Foretold). AreLost told c.loop-at.lost) (sym c.as_slice-in-loop-at.ensures.value) c.loop-at.invariant.lost
 
 pub loop-at-preserved : goal.loop-at-preserved
 loop-at-preserved g c =
@@ -47,9 +61,13 @@ loop-at-preserved g c =
     let new = F.failures c.foretold.new.folder in
     let more = c.in_ok-push.ensures.items in
     let here =
-    subst (λ (ones : List Foretold). one.after ≡ mark (zip plan ones) planned.task one.coming) c.as_slice-told.ensures.value
+    subst (λ (ones : List Foretold). one.after ≡ mark (zip plan ones) planned.task one.coming) c.as_slice-in-loop-at.ensures.value
     c.in_ok-one.ensures.marked ∙ ap (λ pairs. mark pairs planned.task one.coming) (sym (zip_front plan told at inv.count)) in
-    let lacks = subst (λ (ones : List Foretold). one.needs ≡ lack planned.task ones) c.as_slice-told.ensures.value c.in_ok-one.ensures.needs in
+    let lacks = subst (λ (ones : List Foretold). one.needs ≡ lack planned.task ones) c.as_slice-in-loop-at.ensures.value c.in_ok-one.ensures.needs in
+    let noted : (other : List ℕ) → number_at c.note.new.lost other ≡ cond (is_some (culprit one) && bytes_eq one.path other) (Some (length told)) (number_at c.loop-at.lost other) = λ other.
+    c.in_ok-note.ensures other
+    ∙ ap (λ (path : List ℕ). cond (is_some (culprit one) && bytes_eq path other) (Some at) (number_at c.loop-at.lost other)) (sym c.in_ok-one.ensures.path)
+    ∙ ap (λ n. cond (is_some (culprit one) && bytes_eq one.path other) (Some n) (number_at c.loop-at.lost other)) (sym inv.count) in
     record {
       asks = asks_then inv.asks c.foretold.ensures.asks;
       same = λ tells. c.foretold.ensures.same tells ∙ inv.same tells;
@@ -61,6 +79,7 @@ loop-at-preserved g c =
       marked =
           subst (λ (l : List Foretold). AreMarkedAfter [] (zip (take (at + 1) plan) l)) (sym more)
           (marked_more plan told at planned one c.loop-at-test.true inv.count c.index-plan-at.is inv.marked here lacks);
+      lost = subst (λ (l : List Foretold). AreLost l c.note.new.lost) (sym more) (lost_more told one c.loop-at.lost c.note.new.lost inv.lost noted);
       foretold = λ tells kinds agrees.
           let Is : ℕ → Planned × Option Record → Foretold → Type 0 = λ until pair f. IsForetold kinds c.args.options pair.0.task old pair.1 begun until f.coming in
           subst (AllZip (Is new) (take (at + 1) (zip plan records))) (sym more)

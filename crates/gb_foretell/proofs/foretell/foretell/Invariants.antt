@@ -5,6 +5,7 @@ use Rattle.gb_meaning.specs.Headline.{Agrees}
 use Rattle.gb_meaning.specs.Kinds.{Kinds}
 use Rattle.gb_plan.specs.Graph.{order}
 use Rattle.gb_foretell.specs.Foretold.{IsForetold, IsReasoned}
+use Rattle.gb_foretell.specs.Least.{AreLost}
 use Rattle.gb_foretell.specs.Marks.{AreMarkedAfter}
 use Rattle.gb_foretell.specs.declared.coming.Foretold.{Foretold}
 use Rattle.gb_foretell.proofs.foretell.foretell.Given as goal
@@ -18,6 +19,7 @@ invariant-loop-at g l =
       count : length l.told.items ≡ l.at;
       paths : map (λ (one : Foretold). one.path) l.told.items ≡ order (take l.at l.plan);
       reasoned : AllByRecursion (λ (one : Foretold). IsReasoned one.coming) l.told.items;
+      lost : AreLost l.told.items l.lost;
       marked : AreMarkedAfter [] (zip (take l.at l.plan) l.told.items);
       foretold : IsTrue F.tells → (kinds : Kinds) → Agrees g.A.Actions.meanings l.table kinds
           → AllZip (λ pair (one : Foretold). IsForetold kinds l.options pair.0.task (F.contents l.fn.folder) pair.1 (F.failures l.fn.folder) (F.failures l.folder) one.coming)

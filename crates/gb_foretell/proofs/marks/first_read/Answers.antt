@@ -1,4 +1,4 @@
-use Rattle.std.proofs.Common.{◌≡◌, ◌+◌, ℕ, List, Option, take, sym, ap, subst, arith}
+use Rattle.std.proofs.Common.{◌+◌, ℕ, List, Option, take, sym, subst}
 use Rattle.std.proofs.lemmas.List.{take_all}
 use Rattle.gb_folder.specs.Files.{Place}
 use Rattle.gb_plan.specs.declared.task.FileProperty.{FileProperty}

@@ -1,4 +1,4 @@
-use Rattle.std.proofs.Common.{◌≡◌, ℕ, List, Option, Some, None, cond, ap, sym, subst, ◌∙◌, arith, true}
+use Rattle.std.proofs.Common.{◌≡◌, List, Some, None, cond, ap, sym, subst, ◌∙◌, arith, true}
 use Rattle.std.specs.Prelude.{find, option_map}
 use Rattle.std.specs.List.{zip}
 use Rattle.gb_plan.specs.declared.plan.Planned.{Planned}

@@ -47,7 +47,7 @@ sourced-found-requires-clause-read g c =
 
 pub returns-in-Ok-Goes-clause-reasoned : goal.returns-in-Ok-Goes-clause-reasoned
 returns-in-Ok-Goes-clause-reasoned g c =
-    subst (λ (coming : Coming). IsReasoned coming) (sym c.told.ensures) (told_reasoned c.sourced-found.result c.sourced-found.ensures.reasoned)
+    subst (λ (coming : Coming). IsReasoned coming) (sym c.told-in-Ok-Goes.ensures) (told_reasoned c.sourced-found.result c.sourced-found.ensures.reasoned)
 
 pub returns-in-Ok-Goes-clause-foretold : goal.returns-in-Ok-Goes-clause-foretold
 returns-in-Ok-Goes-clause-foretold g c = λ tells kinds agrees.
@@ -65,7 +65,7 @@ returns-in-Ok-Goes-clause-foretold g c = λ tells kinds agrees.
     let case = subst (λ (look : Look). IsCase task old look) c.in-Ok-Goes.field-0-is (c.in-Ok-Goes.ensures.case tells) in
     let may = subst (λ (look : Look). MayBe task look) c.in-Ok-Goes.field-0-is c.in-Ok-Goes.ensures.may_be in
     let prints = ap prints_read c.as_slice.ensures.value ∙ case.2 in
-    subst (λ (coming : Coming). IsForetold kinds options task old read before after coming) (sym c.told.ensures)
+    subst (λ (coming : Coming). IsForetold kinds options task old read before after coming) (sym c.told-in-Ok-Goes.ensures)
     (sourced_foretold kinds options task old read before mid after found c.looked_at.ensures.asks.count c.sourced-found.ensures.asks.count
     may.0 may.1 case.0 case.1
     (subst (λ (folder : Contents). OnOk found (listing_faults task folder ≡ [])) same (c.sourced-found.ensures.none_odd tells))
