@@ -1,11 +1,17 @@
 -- What is predicted by digests is predicted by whole contents, if the records of the folder are true.
-use Rattle.std.specs.Prelude.{ℕ, ◌≡◌, Bool, true, false, not, List, [], ◌∷◌, Option}
+use Rattle.std.specs.Prelude.{ℕ, ◌≡◌, Bool, true, false, not, List, [], ◌∷◌, Option, None, Some}
 use Rattle.std.specs.List.{AllByRecursion, AllZip, list_any, zip}
 use Rattle.std.proofs.Common.{sym, ap, ◌∙◌, inl, inr}
 use Rattle.gb_folder.specs.Files.{Contents, Files, is_empty, is_own}
 use Rattle.gb_history.specs.Record.{Record}
 use Rattle.gb_history.specs.declared.decide.Decision.{Decision}
 use Rattle.gb_history.specs.declared.decide.Decision.TheVariants as decisions
+use Rattle.gb_action.specs.Changes.{Changes}
+use Rattle.gb_label.specs.Deciding.{IsDecided, by_record}
+use Rattle.gb_label.specs.Reading.{recorded_of}
+use Rattle.gb_reason.specs.Real.{ChangesAreReasons}
+use Rattle.gb_reason.specs.Reasons.{change_reasons}
+use Rattle.gb_reason.specs.declared.reason.Reason.{Reason}
 use Rattle.gb_label.specs.declared.prepare.Prepared.TheVariants as prepared
 use Rattle.gb_label.specs.declared.prepare.Seen.{Seen}
 use Rattle.gb_meaning.specs.Kinds.{Kinds}
@@ -26,26 +32,41 @@ use Rattle.gb_turn.specs.Known.{AreWorth, WhatIsReadIsKnown}
 use Rattle.gb_turn.specs.Turns.{IsRunFor, RunsAreOfCase, goes_by_changes}
 use Rattle.gb_turn.proofs.Outside.{early_outside}
 use Rattle.gb_turn.proofs.Own.{is_kept, kept_at}
-use Rattle.gb_foretell.specs.Foretold.{IsForetold}
+use Rattle.gb_foretell.specs.Foretold.{AreReasons, IsForetold}
 use Rattle.gb_foretell.specs.Predicted.{FolderPredictionsAreKept, IsOfFolder, IsPredicted, RunsThisWay, world_of}
 use Rattle.gb_foretell.specs.declared.coming.Coming.{Coming}
 use Rattle.gb_foretell.specs.declared.coming.Coming.TheVariants as comings
 use Rattle.gb_foretell.specs.declared.coming.Foretold.{Foretold}
 use Rattle.gb_foretell.proofs.Keeping.{predictions_are_kept}
-use Rattle.gb_foretell.proofs.Telling.{by_machine}
+use Rattle.gb_foretell.proofs.Telling.{by_machine, empty_mapped}
 
-module _ (decision_is_case : DecisionIsCase) (outside_is_enough : OutsideIsEnough) (runs_are_of_case : RunsAreOfCase) (seen : Seen)
+-- where it is decided to run incrementally, the reasons are the changes
+reasons_are : ChangesAreReasons → (options : Options) (task : Task) (folder : Contents) (read : Option Record) (changes : List Changes) (why : List Reason)
+    → IsDecided options task folder read (decisions.Incremental changes) → AreReasons options task folder read why → is_empty task.outputs ≡ false → why ≡ change_reasons changes
+reasons_are law options task folder (Some run) changes why (by_record present is decides) are outputs =
+    are present is
+    ∙ law run present decides.1
+    (ap (λ (now : Record). is_empty now.outputs) is.now ∙ empty_mapped (recorded_of folder.files) task.outputs ∙ outputs)
+    ∙ ap change_reasons (sym decides.2)
+reasons_are law options task folder None changes why decided are outputs = elim decided [ ]
+
+module _ (decision_is_case : DecisionIsCase) (outside_is_enough : OutsideIsEnough) (runs_are_of_case : RunsAreOfCase) (changes_are_reasons : ChangesAreReasons) (seen : Seen)
     (kinds : Kinds) (options : Options) (task : Task) (folder : Contents) (memory : Memory) where
   world : World
   world = world_of folder memory
 
   module _ (out : list_any (λ (output : Output). is_own output.place) task.outputs ≡ false) (read : Option Record) (known : IsKnown kinds task (world_of folder memory) read) where
-    way : (decision : Decision) (by_changes : Bool) → goes_by_changes kinds task decision ≡ by_changes → IsCaseFor kinds options task (world_of folder memory) decision
-        → IsRunFor kinds options task (world_of folder memory) decision → RunsThisWay kinds options task (world_of folder memory) by_changes
-    way decision false goes case run = (run.not_current, run.full goes)
-    way decisions.UpToDate true goes case run = not_true goes
-    way (decisions.Incremental changes) true goes case run = (run.not_current, (case.1 goes).0)
-    way decisions.Full true goes case run = not_true goes
+    way : (decision : Decision) (by_changes : Bool) (why : List Reason) → goes_by_changes kinds task decision ≡ by_changes
+        → IsDecided options task folder read decision → AreReasons options task folder read why → IsCaseFor kinds options task (world_of folder memory) decision
+        → IsRunFor kinds options task (world_of folder memory) decision → RunsThisWay kinds options task (world_of folder memory) by_changes why
+    way decision false why goes decided are case run = (run.not_current, run.full goes)
+    way decisions.UpToDate true why goes decided are case run = not_true goes
+    way (decisions.Incremental changes) true why goes decided are case run = (
+      run.not_current,
+      (case.1 goes).0,
+      λ outputs. reasons_are changes_are_reasons options task folder read changes why decided are outputs ∙ ap change_reasons (case.1 goes).1,
+    )
+    way decisions.Full true why goes decided are case run = not_true goes
 
     outputs_outside : output_files task (outside folder).files ≡ output_files task folder.files
     outputs_outside = narrowed (is_output_of task) is_kept (kept_at task.outputs out) folder.files
@@ -72,9 +93,9 @@ module _ (decision_is_case : DecisionIsCase) (outside_is_enough : OutsideIsEnoug
         let run = is.1 in
         let there = outside_is_enough options task folder read (prepared.Decided run.decision seen) out (is.0, run.decided) in
         let case = decision_is_case kinds options task (world_of folder memory) read run.decision known there.0 there.1 in
-        (there.0, way run.decision by_changes run.by_changes case (runs_are_of_case kinds options task (world_of folder memory) run.decision run.due case))
+        (there.0, way run.decision by_changes reasons.items run.by_changes run.decided run.reasons case (runs_are_of_case kinds options task (world_of folder memory) run.decision run.due case))
 
-module _ (decision_is_case : DecisionIsCase) (outside_is_enough : OutsideIsEnough) (what_is_read_is_known : WhatIsReadIsKnown) (runs_are_of_case : RunsAreOfCase) (seen : Seen)
+module _ (decision_is_case : DecisionIsCase) (outside_is_enough : OutsideIsEnough) (what_is_read_is_known : WhatIsReadIsKnown) (runs_are_of_case : RunsAreOfCase) (changes_are_reasons : ChangesAreReasons) (seen : Seen)
     (rules : Rules) where
   module _ (folder : Contents) (memory : Memory) (before after : ℕ) where
     all_predicted : (plan : List Planned) (records : List (Option Record)) (told : List Foretold)
@@ -88,7 +109,7 @@ module _ (decision_is_case : DecisionIsCase) (outside_is_enough : OutsideIsEnoug
     all_predicted (planned ∷ plan) [] told worth read is of = absurd read
     all_predicted (planned ∷ plan) (record_of ∷ records) [] worth read told of = absurd told
     all_predicted (planned ∷ plan) (record_of ∷ records) (one ∷ more) worth read told of = (
-      predicted_of decision_is_case outside_is_enough runs_are_of_case seen rules.kinds rules.options planned.task folder memory worth.0.not_own record_of
+      predicted_of decision_is_case outside_is_enough runs_are_of_case changes_are_reasons seen rules.kinds rules.options planned.task folder memory worth.0.not_own record_of
           (what_is_read_is_known rules.kinds planned.task folder.files memory (world_of folder memory) record_of worth.0 read.0) before after one.coming of.0 told.0,
       all_predicted plan records more worth.1 read.1 told.1 of.1,
     )

@@ -15,6 +15,8 @@ use Rattle.gb_plan.specs.Graph.{Plan, needs_in}
 use Rattle.gb_plan.specs.declared.task.Action.{Action}
 use Rattle.gb_plan.specs.declared.task.FileProperty.{FileProperty}
 use Rattle.gb_plan.specs.declared.task.TaskDeclaration.{TaskDeclaration as Task}
+use Rattle.gb_reason.specs.Reasons.{change_reasons}
+use Rattle.gb_reason.specs.declared.reason.Reason.{Reason}
 use Rattle.gb_report.specs.Outcome.{is_executed}
 use Rattle.gb_report.specs.declared.fault.Fault.{Fault}
 use Rattle.gb_report.specs.declared.report.Options.{Options}
@@ -162,10 +164,14 @@ no_actions task folder e =
     (still_idle task.runs (is_empty task.actions) (has_no_source task folder.files) false (input_faults task folder ++ listing_faults task folder) [] e).1
 
 module _ (kinds : Kinds) (options : Options) (task : Task) (one other : World) where
-  way_too : FindsSame task one other → (by_changes : Bool) → RunsThisWay kinds options task one by_changes → RunsThisWay kinds options task other by_changes
-  way_too finds true is =
-      (λ current. is.0 (current_too task other one (turned_round task one other finds) options current), incremental_too task one other finds kinds options is.1)
-  way_too finds false is = (
+  way_too : FindsSame task one other → (by_changes : Bool) (why : List Reason) → RunsThisWay kinds options task one by_changes why → RunsThisWay kinds options task other by_changes why
+  unfolding incremental_too
+  way_too finds true why is = (
+    λ current. is.0 (current_too task other one (turned_round task one other finds) options current),
+    incremental_too task one other finds kinds options is.1,
+    λ outputs. is.2 outputs ∙ ap change_reasons (changes_same task one other finds is.1.entry.inputs),
+  )
+  way_too finds false why is = (
     λ current. is.0 (current_too task other one (turned_round task one other finds) options current),
     λ since. is.1 (incremental_too task other one (turned_round task one other finds) kinds options since),
   )
@@ -182,9 +188,9 @@ module _ (kinds : Kinds) (options : Options) (task : Task) (one other : World) w
   predicted_too (comings.CannotRead fault) finds is = (is.0, sym (early_same task one other (finds refl)) ∙ is.1, is.2)
   predicted_too comings.UpToDate finds is =
       (sym (early_same task one other (finds refl)) ∙ is.0, current_too task one other (finds refl) options is.1)
-  predicted_too comings.HasGrown finds is = (sym (early_same task one other (finds refl)) ∙ is.0, way_too (finds refl) false is.1)
+  predicted_too comings.HasGrown finds is = (sym (early_same task one other (finds refl)) ∙ is.0, way_too (finds refl) false [] is.1)
   predicted_too (comings.Runs by_changes reasons) finds is =
-      (sym (early_same task one other (finds refl)) ∙ is.0, way_too (finds refl) by_changes is.1)
+      (sym (early_same task one other (finds refl)) ∙ is.0, way_too (finds refl) by_changes reasons.items is.1)
 
 -- ---- Outcomes
 
@@ -201,9 +207,9 @@ module _ (kinds : Kinds) (options : Options) (plan : Plan) (task : Task) (moment
   runs_if not_current (inl current) = absurd (not_current current.0)
   runs_if not_current (inr run) = has_run (run_of kinds task moment.world.folder.files).fault run.1
 
-  not_current : (by_changes : Bool) → RunsThisWay kinds options task moment.world by_changes → ¬ IsCurrent options task moment.world
-  not_current true is = is.0
-  not_current false is = is.0
+  not_current : (by_changes : Bool) (why : List Reason) → RunsThisWay kinds options task moment.world by_changes why → ¬ IsCurrent options task moment.world
+  not_current true why is = is.0
+  not_current false why is = is.0
 
   idle : (executed : Bool) → outcome ≡ (if executed then outcomes.Executed else outcomes.UpToDate) → (outcome ≡ outcomes.UpToDate) ⊎ (outcome ≡ outcomes.Executed)
   idle true e = inr e
@@ -222,8 +228,8 @@ module _ (kinds : Kinds) (options : Options) (plan : Plan) (task : Task) (moment
       let at = at_case (Some (CannotRead is.0)) is.1 label in
       at.2 ∙ ap outcomes.Failed (some_same (sym at.1 ∙ is.2))
   fits comings.UpToDate is label = up_to_date is.1 (at_case None is.0 label)
-  fits comings.HasGrown is label = runs_if (not_current false is.1) (at_case None is.0 label)
-  fits (comings.Runs by_changes reasons) is label = runs_if (not_current by_changes is.1) (at_case None is.0 label)
+  fits comings.HasGrown is label = runs_if (not_current false [] is.1) (at_case None is.0 label)
+  fits (comings.Runs by_changes reasons) is label = runs_if (not_current by_changes reasons.items is.1) (at_case None is.0 label)
 
 -- ---- Lines
 

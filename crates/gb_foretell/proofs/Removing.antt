@@ -1,5 +1,5 @@
 -- Whether files are at the outputs of a task, by their places.
-use Rattle.std.specs.Prelude.{◌≡◌, ◌==◌, ◌&&◌, ◌||◌, ◌++◌, Bool, true, false, not, cond, List, [], ◌∷◌, map, length}
+use Rattle.std.specs.Prelude.{◌≡◌, ◌==◌, ◌&&◌, ◌||◌, ◌++◌, Bool, true, false, not, cond, List, [], ◌∷◌, length}
 use Rattle.std.specs.Cmp.{unsigned_Decides}
 use Rattle.std.specs.List.{list_all, list_any}
 use Rattle.std.proofs.Common.{refl, sym, ap₂, ◌∙◌, arith}
@@ -7,6 +7,7 @@ use Rattle.gb_core.specs.Place.{is_under}
 use Rattle.gb_folder.specs.Files.{Bytes, Files, Place, files_where, is_empty, places_under}
 use Rattle.gb_plan.specs.declared.task.Output.{Output}
 use Rattle.gb_run.specs.Emptying.{places_at}
+use Rattle.gb_foretell.proofs.Telling.{empty_mapped}
 
 pub length_empty : {X : Type 0} (xs : List X) → (length xs == 0) ≡ is_empty xs
 length_empty [] = (unsigned_Decides 0 0).1 refl
@@ -29,10 +30,6 @@ none_where test (file ∷ files) =
       | true ↦ refl
       | false ↦ none_where test files
     ]
-
-empty_map : {X Y : Type 0} (f : X → Y) (xs : List X) → is_empty (map f xs) ≡ is_empty xs
-empty_map f [] = refl
-empty_map f (x ∷ xs) = refl
 
 empty_append : {X : Type 0} (xs ys : List X) → is_empty (xs ++ ys) ≡ (is_empty xs && is_empty ys)
 empty_append [] ys = refl
@@ -66,6 +63,6 @@ none_at outputs files = walk outputs ∙ sym (none_where (λ q. list_any (λ (ou
     walk (output ∷ outputs) =
         empty_append (places_under files output.place) (places_at outputs files)
         ∙ ap₂ (λ (a b : Bool). a && b)
-        (empty_map (λ (file : Place × Bytes). file.0) (files_where (λ q. is_under q output.place) files) ∙ none_where (λ q. is_under q output.place) files)
+        (empty_mapped (λ (file : Place × Bytes). file.0) (files_where (λ q. is_under q output.place) files) ∙ none_where (λ q. is_under q output.place) files)
         (walk outputs)
         ∙ none_of_both (λ q. is_under q output.place) (λ q. list_any (λ (o : Output). is_under q o.place) outputs) files

@@ -49,6 +49,10 @@ same_reasons options task inputs outputs run p q is_p is_q =
     ∙ ap (λ rerun. by_parts run q.now rerun p.is_stale) (is_p.rerun ∙ sym is_q.rerun)
     ∙ ap (λ stale. by_parts run q.now q.rerun stale) (is_p.stale ∙ sym is_q.stale)
 
+pub empty_mapped : {X Y : Type 0} (f : X → Y) (xs : List X) → is_empty (map f xs) ≡ is_empty xs
+empty_mapped f [] = refl
+empty_mapped f (x ∷ xs) = refl
+
 pub full_runs : decisions.Full ≡ decisions.UpToDate → ⊥
 full_runs e = cc
 
@@ -92,10 +96,6 @@ module _ (kinds : Kinds) (options : Options) (task : Task) (folder : Contents) w
 
   abbrev pub why_without : Bool → Reason
   why_without none = if none then reasons.NoOutputs else reasons.NoRecord
-
-  empty_mapped : {X Y : Type 0} (f : X → Y) (xs : List X) → is_empty (map f xs) ≡ is_empty xs
-  empty_mapped f [] = refl
-  empty_mapped f (x ∷ xs) = refl
 
   pub forgotten_found : (coming : Coming) → RunsFor (why_without (is_empty task.outputs)) coming → IsFound kinds options task folder None coming
   forgotten_found coming is =

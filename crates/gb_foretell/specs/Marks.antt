@@ -1,6 +1,7 @@
 -- Which earlier task may change what a task finds, and which one keeps it from starting.
 use Rattle.std.specs.Prelude.{◌≡◌, ◌||◌, ◌&&◌, ◌++◌, ◌∷◌, [], Bool, true, map}
-use Rattle.std.specs.Prelude.{false, List, Option, None, Some, if◌then◌else◌, bytes_eq, find, is_some, option_map, ⊤}
+use Rattle.std.specs.Prelude.{false, List, Option, None, Some, if◌then◌else◌, bytes_eq, find, is_some}
+use Rattle.std.specs.Prelude.{option_map, ⊤}
 use Rattle.std.specs.List.{zip}
 use Rattle.gb_plan.specs.Graph.{Plan, reads_output_of}
 use Rattle.gb_plan.specs.Task.{Path}

@@ -1,19 +1,21 @@
 -- What is predicted of a task, by whole contents; and that a build keeps it.
-use Rattle.std.specs.Prelude.{ℕ, ◌≡◌, ◌⊎◌, Bool, true, false, not, List, ◌∷◌, Option, None, Some, ⊤}
+use Rattle.std.specs.Prelude.{ℕ, ◌≡◌, ◌⊎◌, Bool, true, false, not, List, [], ◌∷◌, Option, None, Some, ⊤}
 use Rattle.std.specs.List.{AllByRecursion, AllZip}
 use Rattle.gb_core.specs.Lists.{first_of}
 use Rattle.gb_folder.specs.Files.{Bytes, Contents, is_empty}
 use Rattle.gb_history.specs.Record.{Record}
 use Rattle.gb_meaning.specs.Every.{always}
 use Rattle.gb_meaning.specs.Kinds.{Kinds}
-use Rattle.gb_meaning.specs.Label.{CannotRead, HasNoActions, HasNoSource, IsCurrent, IsIncremental, Moment, Skips}
-use Rattle.gb_meaning.specs.Label.{early_case}
+use Rattle.gb_meaning.specs.Label.{CannotRead, HasNoActions, HasNoSource, IsCurrent, IsIncremental, Moment}
+use Rattle.gb_meaning.specs.Label.{Skips, changes_from, early_case}
 use Rattle.gb_meaning.specs.Memory.{Memory, World, output_files}
 use Rattle.gb_meaning.specs.TrueRecord.{outside}
 use Rattle.gb_meaning.specs.Turn.{IsOfMachine, Prints, Rules, Standing, Turns, first_moment}
 use Rattle.gb_plan.specs.Graph.{IsSound, no_repeats, order}
 use Rattle.gb_plan.specs.declared.plan.Planned.{Planned}
 use Rattle.gb_plan.specs.declared.task.TaskDeclaration.{TaskDeclaration as Task}
+use Rattle.gb_reason.specs.Reasons.{change_reasons}
+use Rattle.gb_reason.specs.declared.reason.Reason.{Reason}
 use Rattle.gb_report.specs.Outcome.{is_failed, is_started}
 use Rattle.gb_report.specs.declared.fault.Fault.{Fault}
 use Rattle.gb_report.specs.declared.report.Options.{Options}
@@ -28,11 +30,13 @@ use Rattle.gb_foretell.specs.declared.coming.Coming.{Coming}
 use Rattle.gb_foretell.specs.declared.coming.Coming.TheVariants as comings
 use Rattle.gb_foretell.specs.declared.coming.Foretold.{Foretold}
 
--- the task runs: incrementally, or in full
-abbrev pub RunsThisWay : Kinds → Options → Task → World → Bool → Type 0
-RunsThisWay kinds options task world true =
-    (¬ IsCurrent options task world) × IsIncremental kinds options task world
-RunsThisWay kinds options task world false =
+-- The task runs: incrementally, and the reasons are just the changes that its actions get; or in full.
+abbrev pub RunsThisWay : Kinds → Options → Task → World → Bool → List Reason → Type 0
+RunsThisWay kinds options task world true reasons =
+    (¬ IsCurrent options task world) × (since : IsIncremental kinds options task world)
+    × (is_empty task.outputs ≡ false
+    → reasons ≡ change_reasons (changes_from task since.entry.inputs world.folder.files))
+RunsThisWay kinds options task world false reasons =
     (¬ IsCurrent options task world) × (¬ IsIncremental kinds options task world)
 
 -- how the execution of the task ends, if it starts in this world
@@ -49,9 +53,9 @@ IsPredicted kinds options task world (comings.CannotRead fault) =
 IsPredicted kinds options task world comings.UpToDate =
     (early_case task world.folder ≡ None) × IsCurrent options task world
 IsPredicted kinds options task world comings.HasGrown =
-    (early_case task world.folder ≡ None) × RunsThisWay kinds options task world false
+    (early_case task world.folder ≡ None) × RunsThisWay kinds options task world false []
 IsPredicted kinds options task world (comings.Runs by_changes reasons) =
-    (early_case task world.folder ≡ None) × RunsThisWay kinds options task world by_changes
+    (early_case task world.folder ≡ None) × RunsThisWay kinds options task world by_changes reasons.items
 
 -- its actions ran, to their end or up to one that failed
 abbrev pub HasRun : Outcome → Type 0
@@ -109,15 +113,15 @@ IsOfFolder other = ⊤
 abbrev pub world_of : Contents → Memory → World
 world_of folder memory = record { folder = outside folder; memory = memory }
 
--- What is predicted on a folder by the records that are read there, a build of the same plan keeps, if they are
--- the records of a true memory and no two of the contents share a digest.
+-- What is predicted on a folder by the records that are read there, a build of the same plan keeps, if they
+-- are the records of a true memory and no two of the contents share a digest.
 abbrev pub FolderPredictionsAreKept : Rules → Type 0
 FolderPredictionsAreKept rules =
     (folder : Contents) (memory : Memory) (records : List (Option Record)) (before after : ℕ)
     (told : List Foretold) (seen : List Bytes) (failures : ℕ) (reports : List TaskReport) (new : Standing)
     → no_repeats (order rules.plan) ≡ true → IsSound rules.plan
-    → AllByRecursion (λ planned. AreWorth rules.kinds planned.task folder.files memory (world_of folder memory))
-    rules.plan
+    → AllByRecursion
+    (λ planned. AreWorth rules.kinds planned.task folder.files memory (world_of folder memory)) rules.plan
     → AllZip (IsReadAt folder.files) (order rules.plan) records
     → AreForetold rules.kinds rules.options folder before after rules.plan records told
     → AllByRecursion (λ one. IsOfFolder one.coming) told

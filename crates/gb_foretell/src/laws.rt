@@ -2,6 +2,7 @@
 ghost use Rattle.gb_foretell.specs.Predicted.{FolderPredictionsAreKept, PredictionsAreKept};
 
 use gb_label::prepare::Seen;
+use gb_reason::laws::changes_are_reasons;
 use gb_turn::case_laws::{
     decision_is_case, outside_is_enough, runs_are_of_case, what_is_read_is_known,
 };
@@ -40,4 +41,5 @@ fn kept_by<B: Build>(seen: &Seen)
     outside_is_enough();
     what_is_read_is_known();
     runs_are_of_case();
+    changes_are_reasons();
 }

@@ -1,5 +1,6 @@
 pub mod Lists
 mod Actions
+mod Since
 pub mod Elements
 pub mod Parts
 pub mod Loops

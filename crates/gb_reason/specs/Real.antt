@@ -1,5 +1,5 @@
 -- What a reason says, and what follows from the definition of reasons.
-use Rattle.std.specs.Prelude.{◌≡◌, ◌≢◌, ◌↔◌, ◌+◌, ℕ, true, List, [], ◌∷◌, ◌++◌, map, length, Option, Some}
+use Rattle.std.specs.Prelude.{◌≡◌, ◌≢◌, ◌↔◌, ◌+◌, ℕ, true, false, List, [], ◌∷◌, ◌++◌, map, length, Option, Some}
 use Rattle.std.specs.Prelude.{None, IsTrue, Contains}
 use Rattle.std.specs.List.{AllByRecursion}
 use Rattle.std.specs.FinMap.Entries.{is_sorted}
@@ -9,14 +9,15 @@ use Rattle.gb_action.specs.Changes.{IsChange}
 use Rattle.gb_action.specs.Files.{Tree}
 use Rattle.gb_action.specs.declared.change.Change.{Change}
 use Rattle.gb_action.specs.declared.output.Form.{Form}
-use Rattle.gb_history.specs.Decision.{Decides}
+use Rattle.gb_folder.specs.Files.{is_empty}
+use Rattle.gb_history.specs.Decision.{Decides, IsSince, changes_since}
 use Rattle.gb_history.specs.Record.{Record, prints_in}
 use Rattle.gb_history.specs.declared.decide.Decision.{Decision}
 use Rattle.gb_history.specs.declared.decide.Decision.TheVariants as decisions
 use Rattle.gb_history.specs.declared.decide.Present.{Present}
 use Rattle.gb_history.specs.declared.record.OutputRecord.{OutputRecord}
 use Rattle.gb_plan.specs.declared.task.Action.{Action}
-use Rattle.gb_reason.specs.Reasons.{reasons_of}
+use Rattle.gb_reason.specs.Reasons.{change_reasons, reasons_of}
 use Rattle.gb_reason.specs.declared.reason.Reason.{Reason}
 use Rattle.gb_reason.specs.declared.reason.Reason.TheVariants as reasons
 
@@ -111,3 +112,9 @@ NoneIsUpToDate =
     (old : Option Record) (present : Present) (decision : Decision)
     → ((run : Record) → old ≡ Some run → HasPathsInOrder run) → HasPathsInOrder present.now
     → Decides old present decision → (reasons_of old present ≡ []) ↔ (decision ≡ decisions.UpToDate)
+
+-- where a task with outputs may run incrementally, the reasons are just the changes
+abbrev pub ChangesAreReasons : Type 0
+ChangesAreReasons =
+    (run : Record) (present : Present) → IsSince run present → is_empty present.now.outputs ≡ false
+    → reasons_of (Some run) present ≡ change_reasons (changes_since run present)

@@ -5,7 +5,7 @@ use Rattle.std.specs.Cmp.Lexicographic.{pointwise}
 use Rattle.std.specs.List.{flat_map, list_any, zip}
 use Rattle.gb_folder.specs.Files.{is_empty}
 use Rattle.gb_core.specs.declared.value.Value.{Value}
-use Rattle.gb_action.specs.Changes.{changes_between}
+use Rattle.gb_action.specs.Changes.{Changes, changes_between}
 use Rattle.gb_action.specs.Shapes.{is_form}
 use Rattle.gb_history.specs.Record.{Prints, Record}
 use Rattle.gb_history.specs.declared.decide.Present.{Present}
@@ -93,6 +93,10 @@ reasons_from run present =
     else if present.is_stale then reasons.Stale ∷ []
     else if is_empty present.now.outputs then reasons.NoOutputs ∷ []
     else differences run present.now
+
+-- these changes of file properties, as reasons
+abbrev pub change_reasons : List Changes → List Reason
+change_reasons changes = flat_map (λ list. map (reasons.File list.0) list.1) changes
 
 abbrev pub reasons_of : Option Record → Present → List Reason
 reasons_of None present = reason_without present ∷ []

@@ -1,5 +1,5 @@
 //! Laws of reasons, each the contract of a function that does nothing.
-ghost use Rattle.gb_reason.specs.Real.{EachIsReal, NoneIsUpToDate};
+ghost use Rattle.gb_reason.specs.Real.{ChangesAreReasons, EachIsReal, NoneIsUpToDate};
 
 /// Each reason that is told is true of the record and of what the task has now.
 pub fn each_is_real()
@@ -9,4 +9,9 @@ pub fn each_is_real()
 /// There is no reason exactly where it is decided that the task is up to date.
 pub fn none_is_up_to_date()
     ensures { NoneIsUpToDate }
+{}
+
+/// Where a task with outputs may run incrementally, its reasons are the changes that its actions get.
+pub fn changes_are_reasons()
+    ensures { ChangesAreReasons }
 {}
