@@ -1,4 +1,4 @@
--- The line of a task: what its turn would come to, and why it would run.
+-- The line of a task: what it would do, and why it would run.
 use Rattle.std.specs.Prelude.{ℕ, ◌==◌, Bool, List, [], ◌∷◌, ◌++◌, Option, Some, None, if◌then◌else◌}
 use Rattle.std.specs.Prelude.{codes, decimal, length}
 use Rattle.gb_foretell.specs.declared.coming.Coming.{Coming}
@@ -26,7 +26,7 @@ way by_changes = if by_changes then codes " runs by changes: " else codes " runs
 abbrev pub runs_text : Bool → List Reason → List ℕ
 runs_text by_changes reasons = way by_changes ++ reasons_text reasons
 
--- what stands behind the path of a task
+-- what follows the path of a task
 abbrev pub coming_text : Coming → List ℕ
 coming_text comings.Skips = codes " SKIPPED: onlyIf is false"
 coming_text comings.HasNoActions = codes " has no actions"
@@ -36,7 +36,7 @@ coming_text comings.UpToDate = codes " UP-TO-DATE"
 coming_text comings.HasGrown = codes " runs: outputs are too large or too many"
 coming_text (comings.Runs by_changes reasons) = runs_text by_changes reasons.items
 
--- the task after which it may come to something else, if there is one
+-- the task after which its result may differ, if there is one
 abbrev pub after_text : Option Path → List ℕ
 after_text None = []
 after_text (Some path) = codes " (after " ++ path ++ codes ")"

@@ -100,7 +100,7 @@ set_first (x ∷ xs) g =
     let q = tidy x.1 in
     ap (λ (l : List ℕ). written q ++ l) (set_from (state_after (written q) (texts (shows xs))) q xs (tidy_fits x.1 g.0) g.1)
 
--- what is written anew is the layout
+-- what is written of the pieces is their layout
 pub layout_is : (text : List ℕ) (ps : List Piece) → IsCut text ps [] → typeset (shown_from Beside ps) ≡ layout rules ps
 layout_is text ps c =
     let xs = (items ps).0 in

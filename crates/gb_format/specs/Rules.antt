@@ -208,7 +208,7 @@ step_as kinds.Comment s before a t ts = record { rule = Behind (comment_indent s
 step_as kinds.CloseBrace s before a t ts = record { rule = closing_rule s before; state = closed s t }
 step_as k s before a t ts = if begins s.place t then begin s before a t ts else inner s before t ts
 
--- The rule of what stands so apart from the one before, and the state after it.
+-- The rule of a comment or a token that is separated so from the one before, and the state after it.
 unfoldable pub step : State → Kind → Apart → List ℕ → List (List ℕ) → Advance
 step s before a t ts = step_as (kind_of t) s before a t ts
 
