@@ -2,11 +2,10 @@
 """formatted.py GB_ASK [--differ]: formats every script of the repository by the built gb_ask, and prints how
 many are in its layout. --differ also prints each that differs, as a diff.
 
-The scripts are crates/*/data/**/*.gb, what the examples of the documents put at a place `*.gb`, the scripts that
-the documents show behind `$ cat` and `$ gb_ask fmt`, and what the replays of bench/replays put there. A script that is refused has
-its fault on purpose. The formatted text is formatted once more, and must stay the same. The status is 1 where it
-does not, or where a file of a crate, an example of a document or the text behind `$ gb_ask fmt` differs; the text of a `put` may lack its last
-line feed. A replay keeps its script on one line, which is all that a `put` of gb_replay has.
+The scripts are crates/*/data/**/*.gb, what the examples of the documents and the replays of bench/replays put at
+a place `*.gb`, and what the documents show behind `$ cat` and `$ gb_ask fmt`. A script that is refused has its
+fault on purpose. The formatted text is formatted once more, and must stay the same. The status is 1 where it does
+not, or where a script differs, but for those behind `$ cat`. The text of a `put` may lack its last line feed.
 """
 import difflib
 import glob
@@ -21,8 +20,7 @@ import guide
 
 def unescaped(text):
     """The text of a `put` of gb_replay."""
-    named = {"n": "\n", "t": "\t", "r": "\r", "\\": "\\"}
-    return re.sub(r"\\(x[0-9a-fA-F]{2}|.)", lambda it: named.get(it[1], it[0]), text)
+    return re.sub(r"\\([nt\\])", lambda it: {"n": "\n", "t": "\t"}.get(it[1], it[1]), text)
 
 
 def puts_of(name, text):
@@ -81,8 +79,8 @@ def main(words):
     if not words or words[1:] not in ([], ["--differ"]):
         guide.fail("usage: formatted.py GB_ASK [--differ]")
     program, wants_diff, failed = os.path.abspath(words[0]), words[1:] == ["--differ"], False
-    strict = {"crates": of_crates, "examples": of_examples, "answers": of_answers}
-    kinds = strict | {"shown": of_documents, "replays": of_replays}
+    strict = {"crates": of_crates, "examples": of_examples, "replays": of_replays, "answers": of_answers}
+    kinds = strict | {"shown": of_documents}
     for kind, found in kinds.items():
         counts = {"same": 0, "differ": 0, "refused": 0}
         for name, file, text in found():

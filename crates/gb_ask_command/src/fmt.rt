@@ -272,7 +272,15 @@ fn treat_text<F: Folder>(
         × TreatsText mode headed place.now text.now calls (string_in result) }
 {
     let out = formatted_at(alloc, place, text)?;
-    show(alloc, folder, mode_at(place, mode), headed, place, text, out)
+    show(
+        alloc,
+        folder,
+        mode_at(place, mode),
+        headed,
+        place,
+        text,
+        out,
+    )
 }
 
 /// The input is never written.
@@ -446,7 +454,11 @@ fn replace<F: Folder>(
     named_after(answer, at, named)
 }
 
-fn named_after(answer: Result<(), FolderFault>, place: Place, named: String) -> Result<String, Fault>
+fn named_after(
+    answer: Result<(), FolderFault>,
+    place: Place,
+    named: String,
+) -> Result<String, Fault>
     requires { string_bytes named ≡ line place }
     ensures { string_in result ≡ named_after place answer }
 {
