@@ -1,4 +1,4 @@
--- What is done with the named files, one after another.
+-- What the named files come to, one after another.
 use Rattle.std.proofs.Common.{ℕ, ◌≡◌, ◌<◌, ◌+◌, ◌++◌, ◌||◌, Bool, true, false, not, List, [], ◌∷◌, Option, Result, Ok, Err, length, get_or, take, refl, sym, ap, ◌∙◌, append-nil, subst, inl, inr}
 use Rattle.std.specs.Prelude.{◌⊎◌, string_bytes}
 use Rattle.std.specs.Global.{Global}
@@ -10,7 +10,7 @@ use Rattle.gb_folder.specs.Each.{Each, Ended}
 use Rattle.gb_folder.specs.Files.{is_empty}
 use Rattle.gb_folder.specs.Semantics.{Answer}
 use Rattle.gb_folder.specs.declared.folder.FolderFault.{FolderFault}
-use Rattle.gb_folder.proofs.EachOf.{each_none, each_more, each_short}
+use Rattle.gb_folder.proofs.EachOf.{each_more, each_short}
 use Rattle.gb_folder.proofs.Leading.{leads_on, leads_once}
 use Rattle.gb_printer.specs.Printing.{Prints}
 use Rattle.gb_printer.proofs.Printed.{prints_more, prints_nothing}

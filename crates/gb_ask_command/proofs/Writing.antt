@@ -9,7 +9,7 @@ use Rattle.gb_folder.specs.Calls.{Call, IsPermitted, Lists, Permit, Reads, Reads
 use Rattle.gb_folder.specs.Each.{Each, Ended, OrStops}
 use Rattle.gb_format.specs.Formatted.{IsFormatted}
 use Rattle.gb_report.specs.declared.fault.Fault.{Fault}
-use Rattle.gb_ask_command.specs.Fmt.{Formats, FormatsAt, IsText, IsTreated, OrFails, Replaces, Shows, Treats, TreatsText, is_input, may_write, mode_as}
+use Rattle.gb_ask_command.specs.Fmt.{Formats, FormatsAt, IsText, IsTreated, Replaces, Shows, Treats, TreatsText, is_input, may_write, mode_as}
 use Rattle.gb_ask_command.specs.declared.words.Mode.{Mode}
 use Rattle.gb_ask_command.specs.declared.words.Mode.TheVariants as modes
 

@@ -6,15 +6,14 @@
 -- closes. In the outermost bracket that is broken, so does each step of an element that does not fit on a
 -- line. A block whose first clause follows its brace on the same line stays on that line where it fits. A
 -- line has 100 columns, which are counted in bytes.
-use Rattle.std.specs.Prelude.{ℕ, zero, suc, ◌+◌, ◌*◌, ◌-◌, Bool, true, false, not, ◌&&◌, ◌==◌, nat_lt, List}
-use Rattle.std.specs.Prelude.{[], ◌∷◌}
+use Rattle.std.specs.Prelude.{ℕ, ◌+◌, ◌*◌, ◌-◌, Bool, true, false, not, ◌&&◌, ◌==◌, nat_lt, List}
 use Rattle.std.specs.Prelude.{length, if◌then◌else◌}
 use Rattle.gb_format.specs.declared.kind.Kind.{Kind}
 use Rattle.gb_format.specs.declared.kind.Kind.TheVariants as kinds
 use Rattle.gb_format.specs.declared.place.Place.{Place}
 use Rattle.gb_format.specs.declared.fits.Reach.TheVariants as reaches
 use Rattle.gb_format.specs.declared.rule.Apart.{Apart}
-use Rattle.gb_format.specs.declared.rule.Apart.TheVariants.{Beside, Below, Away}
+use Rattle.gb_format.specs.declared.rule.Apart.TheVariants.{Beside}
 use Rattle.gb_format.specs.declared.rule.Rule.{Rule}
 use Rattle.gb_format.specs.declared.rule.Rule.TheVariants.{Close, Space, Line, Part, Behind}
 use Rattle.gb_format.specs.declared.state.State.{State}

@@ -1,5 +1,5 @@
 -- The comments and tokens of a text as they are written, and the text that is written of them.
-use Rattle.std.specs.Prelude.{◌≡◌, ℕ, Bool, ◌==◌, List, [], ◌∷◌, ◌++◌, map, Option, None, Some, if◌then◌else◌}
+use Rattle.std.specs.Prelude.{◌≡◌, ℕ, ◌==◌, List, [], ◌∷◌, ◌++◌, map, Option, None, Some, if◌then◌else◌}
 use Rattle.gb_script.specs.Lexing.{is_blank, Piece, written, Stands, IsCut}
 use Rattle.gb_format.specs.declared.fits.Item.{Item}
 use Rattle.gb_format.specs.declared.kind.Kind.{Kind}
