@@ -1,5 +1,5 @@
 //! What may be asked of the current folder, with the built-in kinds and functions: `gb_ask why`, `tasks`,
-//! `graph` and `fmt`. It changes nothing but by `fmt --write`, and takes no lock.
+//! `graph` and `fmt`. It changes nothing but by `fmt --write`, which alone takes the locks of a build.
 #![tactic(auto)]
 
 use gb_action::actions::Actions;
@@ -10,6 +10,7 @@ use gb_ask_command::{fmt, graph, tasks, why};
 use gb_command::run::UNPRINTED;
 use gb_disk::disk::DiskFolder;
 use gb_folder::folder::Folder;
+use gb_here::lock::locks;
 use gb_here::words::command_words;
 use gb_kinds::builtin::{Builtin, StoredAction};
 use gb_printer::page::Page;
@@ -17,6 +18,7 @@ use gb_printer::printer::Printer;
 use gb_provider::transforms::Transforms;
 use gb_registry::tables::Tables;
 use std::alloc::{AllocError, Global};
+use std::fs::File;
 use std::io::{self, BufWriter, Read};
 use std::process::ExitCode;
 
@@ -138,14 +140,25 @@ fn formatted<F: Folder, W: Printer>(
         return Some(2);
     }
     let input = input_for(rt, names.as_slice())?;
-    fmt::run(
+    let held = locks_for(rt, mode).ok()?;
+    let status = fmt::run(
         rt.alloc(),
         folder,
         mode,
         names.as_slice(),
         input.as_slice(),
         page,
-    )
+    );
+    drop(held);
+    status
+}
+
+/// The locks of a build, where files are written: a write removes what a build has in `.gb/new`.
+fn locks_for(rt: &HostRuntime, mode: Mode) -> Result<Vec<File>, AllocError> {
+    match mode {
+        Mode::Writes => locks(rt),
+        Mode::Prints | Mode::Checks => Ok(Vec::new(rt.alloc())),
+    }
 }
 
 /// Whether a word is an option: `-` alone is none.

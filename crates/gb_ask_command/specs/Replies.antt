@@ -1,4 +1,4 @@
--- What is replied to words.
+-- The replies to the arguments of a question.
 use Rattle.std.specs.Prelude.{◌≡◌, ◌⊎◌, Bool, IsTrue, IfOk, Ok, Err, string_bytes}
 use Rattle.gb_build.specs.Scripts.{FolderSays}
 use Rattle.gb_command.specs.Answered.{AreRefused, AskFor, Given}
@@ -14,29 +14,29 @@ use Rattle.gb_ask_command.specs.Reply.{Reply}
 use Rattle.gb_ask_command.specs.declared.words.Style.{Style}
 
 module _ {M F Z S A : Type 0} (tables : Tables M F Z S A) (tells : Bool) where
-  -- A text is that of the tasks that some scripts register. Where the folder tells, they are its own.
+  -- A text lists the tasks that some scripts register. Where contents are known, these are the folder's own.
   abbrev pub IsTasksReply : Invocation → Files → Reply → Type 0
   IsTasksReply asked files reply =
       IfOk reply (λ text. (source : Source)
       × (IsTrue tells → FolderSays tables files asked.properties (Ok source))
       × (string_bytes text ≡ tasks_text (registry_said tables source)))
 
-  -- the words are refused, or they ask for something, and this is the reply to it
+  -- the arguments are refused, or they ask for something, and this is the reply to it
   abbrev pub RepliesTasks : Given → Files → Reply → Type 0
   RepliesTasks given files reply =
       ((fault : Fault) × AreRefused given fault × (reply ≡ Err fault))
       ⊎ ((asked : Invocation) × AskFor given asked × IsTasksReply asked files reply)
 
 module _ {M F Z S A : Type 0} (tables : Tables M F Z S A) (tells : Bool) (style : Style) where
-  -- A text is the graph of the plan of what is asked of the tasks that some scripts register. Where the
-  -- folder tells, they are its own.
+  -- A text is the graph of the plan of what is asked of the tasks that some scripts register. Where contents
+  -- are known, these are the folder's own.
   abbrev pub IsGraphReply : Invocation → Files → Reply → Type 0
   IsGraphReply asked files reply =
       IfOk reply (λ text. (source : Source)
       × (IsTrue tells → FolderSays tables files asked.properties (Ok source))
       × IsDrawing style (registry_said tables source) asked.requested asked.excluded (string_bytes text))
 
-  -- the words are refused, or they ask for something, and this is the reply to it
+  -- the arguments are refused, or they ask for something, and this is the reply to it
   abbrev pub RepliesGraph : Given → Files → Reply → Type 0
   RepliesGraph given files reply =
       ((fault : Fault) × AreRefused given fault × (reply ≡ Err fault))

@@ -10,12 +10,12 @@ use Rattle.gb_report.specs.declared.fault.Fault.{Fault}
 abbrev pub Reply : Type 0
 Reply = Result (String Global) Fault
 
--- the text, or the line that tells the refusal
+-- the text, or the line that reports the refusal
 abbrev pub reply_text : Reply → List ℕ
 reply_text (Ok text) = string_bytes text
 reply_text (Err fault) = refusal_text fault
 
--- the status: 0 where there is a text, 2 for words that ask for nothing that is known (96), and else 1
+-- the status: 0 if there is a text, 2 for arguments that ask for nothing that is known (96), else 1
 abbrev pub reply_status : Reply → ℕ
 reply_status (Ok text) = 0
 reply_status (Err fault) = if nat_eq (fault_number fault) 96 then 2 else 1

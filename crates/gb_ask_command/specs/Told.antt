@@ -1,4 +1,4 @@
--- What is told of the tasks of a plan, and what is answered.
+-- What is reported of the tasks of a plan, and the answer to the arguments.
 use Rattle.std.specs.Prelude.{ℕ, ◌≡◌, ◌⊎◌, Bool, false, IsTrue, List, map, Option, Result, Ok, Err}
 use Rattle.std.specs.Prelude.{if◌then◌else◌, nat_eq}
 use Rattle.std.specs.Global.{Global}
@@ -30,7 +30,7 @@ use Rattle.gb_report.specs.declared.fault.Fault.{Fault}
 use Rattle.gb_report.specs.declared.report.Options.{Options}
 use Rattle.gb_ask_command.specs.Line.{line_text}
 
--- what is told of each task, or why a build would be refused
+-- the report of each task, or why a build would be refused
 abbrev pub Answer : Type 0
 Answer = Result (Vec Foretold Global) Fault
 
@@ -41,15 +41,15 @@ abbrev pub why_text : Answer → List ℕ
 why_text (Ok told) = flat_map line_text told.items
 why_text (Err fault) = not_built_text fault
 
--- the status: 0 where tasks are told, 2 for words that ask for no build that is known (96), and else 1
+-- the status: 0 if tasks are reported, 2 for arguments that ask for no build that is known (96), else 1
 abbrev pub status_of : Answer → ℕ
 status_of (Ok told) = 0
 status_of (Err fault) = if nat_eq (fault_number fault) 96 then 2 else 1
 
--- ---- What is told
+-- ---- What is reported
 
--- Each task of the plan is told what its turn would come to on the folder as it stands, by the records that
--- stand there; the device fails up to this count.
+-- The report of each task of the plan says what it would do on the folder as it is, by the records that are
+-- there; the device fails up to this count.
 pub record AreToldOn {S : Type 0} (meanings : Meanings S) (rows : Rows S) (options : Options) (old : Shown)
     (after : ℕ) (plan : Plan) (told : List Foretold) : Type 0 where
   pub records : List (Option Record)
@@ -57,8 +57,8 @@ pub record AreToldOn {S : Type 0} (meanings : Meanings S) (rows : Rows S) (optio
   pub foretold : (kinds : Kinds) → Agrees meanings rows kinds
       → AreForetold kinds options old.contents old.failures after plan records told
 
--- Over any folder: the tasks of the plan are told in its order, with a reason where one runs for reasons, and
--- each after the first that may change what it reads. Where the folder tells, they are told on it.
+-- Over any folder: the tasks of the plan are reported in its order, with a reason where one runs for reasons,
+-- and each after the first that may change what it reads. Where contents are known, the reports are right.
 pub record AreTold {S : Type 0} (tells : Bool) (meanings : Meanings S) (rows : Rows S) (options : Options)
     (old : Shown) (after : ℕ) (plan : Plan) (told : List Foretold) : Type 0 where
   pub paths : map (λ one. one.path) told ≡ order plan
@@ -73,14 +73,14 @@ AreToldOf tells meanings rows registry requested excluded options old after told
     (plan : Plan) × IsPlanOf registry requested excluded plan
     × AreTold tells meanings rows options old after plan told
 
--- ---- What is answered
+-- ---- The answer
 
 -- what is asked of this registry is refused, or the records of its tasks could not be read
 abbrev pub IsNotTold : Registry → List Text → List Text → ℕ → ℕ → Fault → Type 0
 IsNotTold registry requested excluded before after fault =
     IsRefusalOf registry requested excluded fault ⊎ IsUnread false before after fault
 
--- the same in earnest, whether a dry run is asked for or not
+-- the same request without `--dry-run`
 abbrev pub in_earnest : Invocation → Invocation
 in_earnest asked = record {
   requested = asked.requested;
@@ -94,8 +94,8 @@ in_earnest asked = record {
 }
 
 module _ {M F Z S A : Type 0} (tables : Tables M F Z S A) (tells : Bool) where
-  -- The tasks of the plan of what is asked of some registry are told. Where the folder tells, it is that of
-  -- its scripts.
+  -- The tasks of the plan of what is asked of some registry are reported. Where contents are known, it is the
+  -- registry of the folder's scripts.
   pub record IsTold (asked : Invocation) (old : Shown) (after : ℕ) (told : List Foretold) : Type 0 where
     pub registry : Registry
     pub is_registry : IsRegistry registry
@@ -104,13 +104,13 @@ module _ {M F Z S A : Type 0} (tables : Tables M F Z S A) (tells : Bool) where
     pub told_of : AreToldOf tells tables.shapes tables.kinds registry asked.requested asked.excluded
         asked.options old after told
 
-  -- what is asked for is told; or where the folder tells, a build of it is refused for this
+  -- what is asked for is reported; or where contents are known, a build of it is refused for this
   abbrev pub IsAnswerTo : Invocation → Shown → Answer → ℕ → Type 0
   IsAnswerTo asked old (Ok told) after = IsTold asked old after told.items
   IsAnswerTo asked old (Err fault) after =
       IsTrue tells → IsNotBuilt (registers_in tables) old (in_earnest asked) fault after
 
-  -- the words are refused, or they ask for something, and this is the answer to it
+  -- the arguments are refused, or they ask for something, and this is the answer to it
   abbrev pub Answers : Given → Shown → Answer → ℕ → Type 0
   Answers given old answer after =
       ((fault : Fault) × AreRefused given fault × (answer ≡ Err fault))

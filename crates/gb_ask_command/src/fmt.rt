@@ -1,15 +1,26 @@
 //! Scripts in one layout: printed, written or compared.
-ghost use Rattle.std.specs.Prelude.{◌≡◌, ℕ, List, [], ◌∷◌, IfOk, IsTrue, Some, bytes_eq, map, not};
-ghost use Rattle.std.specs.Prelude.{string_bytes};
-ghost use Rattle.gb_folder.specs.Calls.{Asks, no_change, put_at};
-ghost use Rattle.gb_folder.specs.Files.{file_at};
-ghost use Rattle.gb_format.specs.Formatted.{IsFormatted};
-ghost use Rattle.gb_ask_command.specs.Fmt.{IsLaidOut, may_write};
+ghost use Rattle.std.specs.Prelude.{◌≡◌, ◌⊎◌, ◌++◌, ◌||◌, ℕ, List, [], IfErr, IfOk, IfSome, Err, Ok};
+ghost use Rattle.std.specs.Prelude.{Result, bytes_eq, codes, eqb, false, if◌then◌else◌, length, map, not};
+ghost use Rattle.std.specs.Prelude.{string_bytes, true};
+ghost use Rattle.std.specs.List.{ends_with};
+ghost use Rattle.std.specs.Io.KnownBytes.{Appends};
+ghost use Rattle.gb_core.specs.Place.{is_place};
+ghost use Rattle.gb_folder.specs.Calls.{Asks, Call, Reads, answered};
+ghost use Rattle.gb_folder.specs.Device.{IsCalled, Leads};
+ghost use Rattle.gb_folder.specs.Each.{Each, Ended};
+ghost use Rattle.gb_folder.specs.Files.{is_empty};
+ghost use Rattle.gb_printer.specs.Printing.{Prints};
+ghost use Rattle.gb_report.specs.Report.{line};
+ghost use Rattle.gb_ask_command.specs.Fmt.{Formats, FormatsAt, IsText, IsTreated, Replaces, Shows, Treats};
+ghost use Rattle.gb_ask_command.specs.Fmt.{TreatsText, answer_at, bytes_in, end_text, ended_of, fault_at};
+ghost use Rattle.gb_ask_command.specs.Fmt.{fault_in, fmt_status, heading, is_headed, is_input, is_settings};
+ghost use Rattle.gb_ask_command.specs.Fmt.{may_write, mode_as, named_after, script_in, string_in};
 
 use crate::words::Mode;
 use gb_answer::answer::refusal_text;
 use gb_core::place::{Place, PlaceFault};
 use gb_core::text::Text;
+use gb_folder::calls::{read, write};
 use gb_folder::folder::{Folder, FolderFault};
 use gb_format::{format_script, format_settings};
 use gb_picture::shown::push_shown;
@@ -19,26 +30,11 @@ use gb_script::MAX_SCRIPT;
 use gb_script::fault::ScriptFault;
 use gb_store::faults::fault_of;
 use std::alloc::{AllocError, Global};
-use std::fmt::Write;
-
-/// A formatted text, and whether it differs from the text.
-#[derive(Drop)]
-struct LaidOut {
-    text: String,
-    differs: bool,
-}
-
-/// What is printed of the files so far, and whether one of them differs.
-#[derive(Drop)]
-struct Printed {
-    text: String,
-    differs: bool,
-}
 
 /// Treats the named files of a folder, one after another, up to the first that cannot be treated: each is
-/// read and formatted, and then printed, written where it differs, or named where it differs. `-` is the
-/// input; it is printed, or compared. The status is 0; 1 where a file could not be treated, or was compared
-/// and differs.
+/// read and formatted, and then printed, written if it differs, or named if it differs. `-` is the input; it
+/// is printed, or compared. The status is 0; 1 where a file could not be treated, or was compared and
+/// differs. Where not all could be printed there is none.
 pub fn run<F: Folder, W: Printer>(
     alloc: Global,
     folder: &mut F,
@@ -50,14 +46,21 @@ pub fn run<F: Folder, W: Printer>(
     // Nothing is asked for but that formatted texts are put at these places, if they are to be written.
     ensures asks { Asks F.failures F.may_leave F.asked (may_write mode (map string_bytes names.now))
         folder.old folder.new }
+    // Over any folder: these calls led from the old folder to the new one. By them the files were treated in
+    // their order, up to the first fault, and this is printed of them, and then the fault.
+    ensures treated { (calls : List Call) × (made : List ℕ) × (ended : Ended Fault)
+        × Leads F.device folder.old calls folder.new
+        × Each (IsTreated mode (is_headed mode (length names.now)) input.now) names.now calls made ended
+        × Prints W.contents W.whole (made ++ end_text ended) writer.old writer.new
+        × IfSome result (λ status.
+        Appends (W.contents writer.old) (W.contents writer.new) (made ++ end_text ended)
+        × (status ≡ fmt_status mode made ended)) }
 {
-    let mut printed = Printed {
-        text: String::new(alloc),
-        differs: false,
-    };
-    let ended = treat_all(alloc, folder, mode, names, input, &mut printed);
-    writer.print(printed.text.as_bytes());
-    let status = print_end(alloc, writer, mode, ended, printed.differs);
+    let mut any = false;
+    let ended = treat_all(alloc, folder, mode, names, input, writer, &mut any);
+    let status = status_of(mode, any, &ended);
+    print_end(alloc, writer, &ended);
+    drop(ended);
     if writer.is_whole() {
         Some(status)
     } else {
@@ -65,281 +68,402 @@ pub fn run<F: Folder, W: Printer>(
     }
 }
 
-/// Prints the refusal, if there is one, and answers the status.
-fn print_end<W: Printer>(
-    alloc: Global,
-    writer: &mut W,
-    mode: Mode,
-    ended: Result<(), Fault>,
-    differs: bool,
-) -> u8 {
-    match ended {
-        Ok(()) => { if differs && !is_printed(mode) { 1 } else { 0 } }
-        Err(fault) => {
-            print_refusal(alloc, writer, &fault);
-            1
-        }
+/// The status, where something or nothing was printed of the files, and they ended so.
+fn status_of(mode: Mode, any: bool, ended: &Result<(), Fault>) -> u8
+    ensures { (made : List ℕ) → any ≡ not (is_empty made) → result ≡ fmt_status mode made ended.now }
+{
+    match (ended, mode) {
+        (Err(_), _) => 1,
+        (Ok(()), Mode::Checks) => { if any { 1 } else { 0 } }
+        (Ok(()), Mode::Prints | Mode::Writes) => 0,
     }
 }
 
-fn print_refusal<W: Printer>(alloc: Global, writer: &mut W, fault: &Fault) {
+/// Prints the refusal, if there is one.
+fn print_end<W: Printer>(alloc: Global, writer: &mut W, ended: &Result<(), Fault>)
+    ensures { Prints W.contents W.whole (end_text ended.now) writer.old writer.new }
+{
+    match ended {
+        Ok(()) => {}
+        Err(fault) => print_refusal(alloc, writer, fault),
+    }
+}
+
+fn print_refusal<W: Printer>(alloc: Global, writer: &mut W, fault: &Fault)
+    ensures { Prints W.contents W.whole (end_text (Err fault.now)) writer.old writer.new }
+{
     match refusal_text(alloc, fault) {
         Ok(text) => writer.print(text.as_slice()),
         Err(_) => writer.give_up(),
     }
 }
 
-fn treat_all<F: Folder>(
+/// Treats the files, and notes whether something was printed of them.
+fn treat_all<F: Folder, W: Printer>(
     alloc: Global,
     folder: &mut F,
     mode: Mode,
     names: &[String],
     input: &[u8],
-    printed: &mut Printed,
+    writer: &mut W,
+    any: &mut bool,
 ) -> Result<(), Fault>
-    ensures asks { Asks F.failures F.may_leave F.asked (may_write mode (map string_bytes names.now))
-        folder.old folder.new }
+    ensures { (calls : List Call) × (made : List ℕ) × Leads F.device folder.old calls folder.new
+        × Each (IsTreated mode (is_headed mode (length names.now)) input.now) names.now calls made result
+        × Prints W.contents W.whole made writer.old writer.new
+        × (any.new ≡ (any.old || not (is_empty made))) }
 {
-    let is_named = names.len() > 1 && is_printed(mode);
+    let headed = is_headed(mode, names);
     for name in names {
-        push_name_if(alloc, is_named, &mut printed.text, name.as_str())?;
-        treat(alloc, folder, mode, name.as_str(), input, printed)?;
+        treat_one(alloc, folder, mode, headed, name, input, writer, any)?;
     }
     Ok(())
 }
 
-fn is_printed(mode: Mode) -> bool {
-    matches!(mode, Mode::Prints)
-}
-
-/// The line above the text of a file, where there are several.
-fn push_name_if(
+/// Treats one of the files.
+fn treat_one<F: Folder, W: Printer>(
     alloc: Global,
-    is_named: bool,
-    text: &mut String,
-    name: &str,
-) -> Result<(), AllocError> {
-    if !is_named {
-        return Ok(());
-    }
-    text.push_str("==> ")?;
-    push_shown(alloc, text, name)?;
-    text.push('\n')
+    folder: &mut F,
+    mode: Mode,
+    headed: bool,
+    name: &String,
+    input: &[u8],
+    writer: &mut W,
+    any: &mut bool,
+) -> Result<(), Fault>
+    ensures { (calls : List Call) × (made : List ℕ) × Leads F.device folder.old calls folder.new
+        × IsTreated mode headed input.now name.now calls made result
+        × Prints W.contents W.whole made writer.old writer.new
+        × (any.new ≡ (any.old || not (is_empty made))) }
+{
+    let text = treat(alloc, folder, mode, headed, name, input)?;
+    print_noted(writer, any, &text);
+    Ok(())
 }
 
-/// Treats one file, or the input.
+/// Prints a text, and notes whether there is something in it.
+fn print_noted<W: Printer>(writer: &mut W, any: &mut bool, text: &String)
+    ensures prints { Prints W.contents W.whole (string_bytes text.now) writer.old writer.new }
+    ensures notes { any.new ≡ (any.old || not (is_empty (string_bytes text.now))) }
+{
+    note(any, text.as_bytes());
+    writer.print(text.as_bytes());
+}
+
+/// Notes whether there is something in a text.
+fn note(any: &mut bool, text: &[u8])
+    ensures { any.new ≡ (any.old || not (is_empty text.now)) }
+{
+    if !text.is_empty() {
+        *any = true;
+    }
+}
+
+/// Whether each of these files has a heading.
+fn is_headed(mode: Mode, names: &[String]) -> bool
+    ensures { result ≡ is_headed mode (length names.now) }
+{
+    match mode {
+        Mode::Prints => names.len() > 1,
+        Mode::Checks | Mode::Writes => false,
+    }
+}
+
+/// Treats the file of a name, or the input: what is printed of it.
 fn treat<F: Folder>(
     alloc: Global,
     folder: &mut F,
     mode: Mode,
-    name: &str,
+    headed: bool,
+    name: &String,
     input: &[u8],
-    printed: &mut Printed,
-) -> Result<(), Fault>
-    ensures asks { Asks F.failures F.may_leave F.asked (may_write mode (name.now ∷ []))
-        folder.old folder.new }
+) -> Result<String, Fault>
+    ensures { (calls : List Call) × Leads F.device folder.old calls folder.new
+        × Treats mode headed input.now (string_bytes name.now) calls (string_in result) }
 {
     let place = place_of(alloc, name)?;
-    if name == "-" {
-        treat_input(alloc, mode, input, place, printed)
-    } else {
-        treat_file(alloc, folder, mode, place, printed)
-    }
+    let text = text_at(alloc, folder, &place, input)?;
+    treat_text(alloc, folder, mode, headed, &place, text.as_slice())
 }
 
-/// Prints the input, or names it where it is to be compared and differs.
-fn treat_input(
-    alloc: Global,
-    mode: Mode,
-    input: &[u8],
-    place: Place,
-    printed: &mut Printed,
-) -> Result<(), Fault> {
-    let copied = place.copy()?;
-    let laid_out = laid_out_of(alloc, input, place)?;
-    if let Mode::Checks = mode {
-        return name_if(laid_out.differs, &copied, printed);
-    }
-    printed.text.push_str(laid_out.text.as_str())?;
-    Ok(())
-}
-
-/// Treats the file at a place.
-fn treat_file<F: Folder>(
-    alloc: Global,
-    folder: &mut F,
-    mode: Mode,
-    place: Place,
-    printed: &mut Printed,
-) -> Result<(), Fault>
-    ensures asks { Asks F.failures F.may_leave F.asked (may_write mode (place ∷ [])) folder.old folder.new }
+fn place_of(alloc: Global, name: &String) -> Result<Place, Fault>
+    ensures place { IfOk result (λ place. place ≡ string_bytes name.now) }
+    ensures fault { IfErr result (λ fault. (fault ≡ Fault.OutOfMemory)
+        ⊎ ((is_place (string_bytes name.now) ≡ false)
+        × (fault ≡ Fault.BadPlace (string_bytes name.now)))) }
 {
-    match mode {
-        Mode::Prints => print_file(alloc, folder, place, printed),
-        Mode::Checks => check_file(alloc, folder, place, printed),
-        Mode::Writes => write_file(alloc, folder, place, printed),
-    }
-}
-
-fn place_of(alloc: Global, name: &str) -> Result<Place, Fault>
-    ensures { IfOk result (λ place. place ≡ name.now) }
-{
-    match Place::read(alloc, name) {
+    match Place::read(alloc, name.as_str()) {
         Ok(place) => Ok(place),
         Err(PlaceFault::OutOfMemory) => Err(Fault::OutOfMemory),
-        Err(PlaceFault::BadPlace) => Err(Fault::BadPlace(Text::from_str(alloc, name)?)),
+        Err(PlaceFault::BadPlace) => Err(Fault::BadPlace(Text::from_str(alloc, name.as_str())?)),
     }
 }
 
-/// Prints a file.
-fn print_file<F: Folder>(
+/// The text of the file at a place, or of the input.
+fn text_at<F: Folder>(
     alloc: Global,
-    folder: &mut F,
-    place: Place,
-    printed: &mut Printed,
-) -> Result<(), Fault>
-    ensures asks { Asks F.failures F.may_leave F.asked no_change folder.old folder.new }
-    ensures same { IsTrue F.tells → F.contents folder.new ≡ F.contents folder.old }
-{
-    let laid_out = laid_out_at(alloc, folder, place)?;
-    printed.text.push_str(laid_out.text.as_str())?;
-    Ok(())
-}
-
-/// Names a file that differs.
-fn check_file<F: Folder>(
-    alloc: Global,
-    folder: &mut F,
-    place: Place,
-    printed: &mut Printed,
-) -> Result<(), Fault>
-    ensures asks { Asks F.failures F.may_leave F.asked no_change folder.old folder.new }
-    ensures same { IsTrue F.tells → F.contents folder.new ≡ F.contents folder.old }
-{
-    let copied = place.copy()?;
-    let laid_out = laid_out_at(alloc, folder, place)?;
-    name_if(laid_out.differs, &copied, printed)
-}
-
-/// Names a place where its file differs.
-fn name_if(differs: bool, place: &Place, printed: &mut Printed) -> Result<(), Fault> {
-    if differs {
-        printed.differs = true;
-        push_line(&mut printed.text, place)?;
-    }
-    Ok(())
-}
-
-/// Writes a file that differs, and names it.
-fn write_file<F: Folder>(
-    alloc: Global,
-    folder: &mut F,
-    place: Place,
-    printed: &mut Printed,
-) -> Result<(), Fault>
-    ensures asks { Asks F.failures F.may_leave F.asked (may_write Mode.Writes (place ∷ []))
-        folder.old folder.new }
-{
-    let copied = place.copy()?;
-    let laid_out = laid_out_at(alloc, folder, place)?;
-    write_laid_out(folder, &copied, &laid_out, printed)
-}
-
-/// Writes a formatted text at this place where it differs, and names the place.
-fn write_laid_out<F: Folder>(
     folder: &mut F,
     place: &Place,
-    laid_out: &LaidOut,
-    printed: &mut Printed,
-) -> Result<(), Fault>
-    requires { (text : List ℕ) × IsLaidOut text laid_out.now }
-    ensures asks { Asks F.failures F.may_leave F.asked (may_write Mode.Writes (place.now ∷ []))
-        folder.old folder.new }
+    input: &[u8],
+) -> Result<Vec<u8>, Fault>
+    ensures { (calls : List Call) × Leads F.device folder.old calls folder.new
+        × IsText input.now place.now calls (bytes_in result) }
 {
-    if !laid_out.differs {
-        return Ok(());
-    }
-    put(folder, place, laid_out.text.as_str())?;
-    push_line(&mut printed.text, place)?;
-    Ok(())
-}
-
-fn put<F: Folder>(folder: &mut F, place: &Place, text: &str) -> Result<(), Fault>
-    ensures asks { Asks F.failures F.may_leave F.asked (put_at place.now text.now) folder.old folder.new }
-{
-    match folder.write(place, text.as_bytes(), MAX_SCRIPT as u64) {
-        Ok(()) => Ok(()),
-        Err(fault) => Err(unread(fault, place.copy()?)),
-    }
-}
-
-fn push_line(text: &mut String, place: &Place) -> Result<(), AllocError> {
-    let name = place.as_str();
-    writeln!(text, "{name}")
-}
-
-/// The file at a place, formatted.
-fn laid_out_at<F: Folder>(alloc: Global, folder: &mut F, place: Place) -> Result<LaidOut, Fault>
-    ensures asks { Asks F.failures F.may_leave F.asked no_change folder.old folder.new }
-    ensures same { IsTrue F.tells → F.contents folder.new ≡ F.contents folder.old }
-    ensures formatted { IfOk result (λ out. (text : List ℕ) × IsLaidOut text out
-        × (IsTrue F.tells → file_at (F.contents folder.old).files place ≡ Some text)) }
-{
-    match folder.read(alloc, &place, MAX_SCRIPT as u64) {
-        Ok(bytes) => laid_out_of(alloc, bytes.as_slice(), place),
-        Err(fault) => Err(unread(fault, place)),
-    }
-}
-
-/// The text of the file at this place, formatted.
-fn laid_out_of(alloc: Global, bytes: &[u8], place: Place) -> Result<LaidOut, Fault>
-    ensures { IfOk result (IsLaidOut bytes.now) }
-{
-    match formatted_at(alloc, bytes, &place) {
-        Ok(text) => Ok(compared(text, bytes)),
-        Err(fault) => Err(in_file(fault, place)),
-    }
-}
-
-/// The formatted text of the settings or the script at this place.
-fn formatted_at(alloc: Global, bytes: &[u8], place: &Place) -> Result<String, ScriptFault>
-    ensures { IfOk result (λ out. IsFormatted bytes.now (string_bytes out)) }
-{
-    if is_settings(place) {
-        format_settings(alloc, bytes)
+    if is_input(place) {
+        copied(alloc, input)
     } else {
-        format_script(alloc, bytes)
+        read_at(alloc, folder, place)
+    }
+}
+
+fn is_input(place: &Place) -> bool
+    ensures { result ≡ is_input place.now }
+{
+    matches!(place.as_str(), "-")
+}
+
+fn copied(alloc: Global, input: &[u8]) -> Result<Vec<u8>, Fault>
+    ensures { (bytes_in result ≡ Ok input.now) ⊎ (bytes_in result ≡ Err Fault.OutOfMemory) }
+{
+    Ok(input.to_vec(alloc)?)
+}
+
+/// The file at a place. The place is copied first, so that a fault is reported at it whatever memory is left.
+fn read_at<F: Folder>(alloc: Global, folder: &mut F, place: &Place) -> Result<Vec<u8>, Fault>
+    ensures { ((bytes_in result ≡ Err Fault.OutOfMemory) × (folder.new ≡ folder.old))
+        ⊎ ((answer : Result (List ℕ) FolderFault)
+        × IsCalled F.device folder.old (Reads place.now 1048576 answer) folder.new
+        × (bytes_in result ≡ answer_at place.now answer)) }
+{
+    let at = place.copy()?;
+    let answer = read(alloc, folder, place, MAX_SCRIPT as u64);
+    answered_at(answer, at)
+}
+
+fn answered_at(answer: Result<Vec<u8>, FolderFault>, place: Place) -> Result<Vec<u8>, Fault>
+    ensures { bytes_in result ≡ answer_at place (answered answer) }
+{
+    match answer {
+        Ok(bytes) => Ok(bytes),
+        Err(fault) => Err(fault_at(fault, place)),
+    }
+}
+
+/// The fault of a folder where a script was to be read or written.
+fn fault_at(fault: FolderFault, place: Place) -> Fault
+    ensures { result ≡ fault_at place fault }
+{
+    match fault {
+        FolderFault::TooLarge => Fault::TooLong(place),
+        other => fault_of(other, place),
+    }
+}
+
+/// Treats the text of a place: what is printed of it.
+fn treat_text<F: Folder>(
+    alloc: Global,
+    folder: &mut F,
+    mode: Mode,
+    headed: bool,
+    place: &Place,
+    text: &[u8],
+) -> Result<String, Fault>
+    ensures { (calls : List Call) × Leads F.device folder.old calls folder.new
+        × TreatsText mode headed place.now text.now calls (string_in result) }
+{
+    let out = formatted_at(alloc, place, text)?;
+    show(
+        alloc,
+        folder,
+        mode_at(place, mode),
+        headed,
+        place,
+        text,
+        out,
+    )
+}
+
+/// The input is never written.
+fn mode_at(place: &Place, mode: Mode) -> Mode
+    ensures { result ≡ mode_as (is_input place.now) mode }
+{
+    match mode {
+        Mode::Writes if is_input(place) => Mode::Prints,
+        other => other,
+    }
+}
+
+/// The formatted text of the settings or the script at a place.
+fn formatted_at(alloc: Global, place: &Place, text: &[u8]) -> Result<String, Fault>
+    ensures { FormatsAt place.now text.now (string_in result) }
+{
+    match formatted_as(alloc, is_settings(place), text) {
+        Ok(out) => Ok(out),
+        Err(fault) => Err(fault_in(fault, place.copy()?)),
+    }
+}
+
+/// The formatted text of settings or of a script.
+fn formatted_as(alloc: Global, is_settings: bool, text: &[u8]) -> Result<String, ScriptFault>
+    ensures { Formats is_settings text.now (script_in result) }
+{
+    if is_settings {
+        format_settings(alloc, text)
+    } else {
+        format_script(alloc, text)
     }
 }
 
 /// Whether settings are at this place, and no script.
-fn is_settings(place: &Place) -> bool {
-    place.as_str() == "settings.gb" || place.as_str().ends_with("/settings.gb")
+fn is_settings(place: &Place) -> bool
+    ensures { result ≡ is_settings place.now }
+{
+    is_settings_name(place.as_str()) || ends_so(place.as_str())
 }
 
-fn compared(text: String, bytes: &[u8]) -> LaidOut
-    ensures text { result.text ≡ text }
-    ensures differs { result.differs ≡ not (bytes_eq (string_bytes text) bytes.now) }
+fn is_settings_name(name: &str) -> bool
+    ensures { result ≡ bytes_eq name.now (codes "settings.gb") }
 {
-    let differs = text.as_bytes() != bytes;
-    LaidOut { text, differs }
+    matches!(name, "settings.gb")
+}
+
+/// Whether it is the place of settings in a folder.
+fn ends_so(place: &str) -> bool
+    ensures { result ≡ ends_with eqb place.now (codes "/settings.gb") }
+{
+    place.ends_with("/settings.gb")
 }
 
 /// The fault of a text, with the place of its file.
-fn in_file(fault: ScriptFault, place: Place) -> Fault {
+fn fault_in(fault: ScriptFault, place: Place) -> Fault
+    ensures { result ≡ fault_in place fault }
+{
     match fault {
         ScriptFault::OutOfMemory => Fault::OutOfMemory,
-        ScriptFault::Syntax(line) => Fault::Syntax(place, line),
+        ScriptFault::Syntax(number) => Fault::Syntax(place, number),
         ScriptFault::TooLong => Fault::TooLong(place),
-        ScriptFault::TooDeep(line) => Fault::TooDeep(place, line),
+        ScriptFault::TooDeep(number) => Fault::TooDeep(place, number),
         ScriptFault::NotUtf8 => Fault::NotUtf8(place),
     }
 }
 
-/// The folder's fault where a text was to be read or written.
-fn unread(fault: FolderFault, place: Place) -> Fault {
-    match fault {
-        FolderFault::TooLarge => Fault::TooLong(place),
-        other => fault_of(other, place),
+/// Shows a formatted text: what is printed of it.
+fn show<F: Folder>(
+    alloc: Global,
+    folder: &mut F,
+    mode: Mode,
+    headed: bool,
+    place: &Place,
+    text: &[u8],
+    out: String,
+) -> Result<String, Fault>
+    ensures { (calls : List Call) × Leads F.device folder.old calls folder.new
+        × (((calls ≡ []) × (string_in result ≡ Err Fault.OutOfMemory))
+        ⊎ Shows mode headed place.now text.now (string_bytes out) calls (string_in result)) }
+{
+    match mode {
+        Mode::Prints => below_heading(alloc, headed, place, out),
+        Mode::Checks => name_if(alloc, place, text, &out),
+        Mode::Writes => replace_if(alloc, folder, place, text, &out),
+    }
+}
+
+/// A text below the heading of its place, if there is one.
+fn below_heading(alloc: Global, headed: bool, place: &Place, out: String) -> Result<String, Fault>
+    ensures { (string_in result ≡ Err Fault.OutOfMemory)
+        ⊎ (string_in result ≡ Ok (heading headed place.now ++ string_bytes out)) }
+{
+    if headed {
+        Ok(headed_text(alloc, place, out.as_str())?)
+    } else {
+        Ok(out)
+    }
+}
+
+fn headed_text(alloc: Global, place: &Place, out: &str) -> Result<String, AllocError>
+    ensures { IfOk result (λ text. string_bytes text ≡ heading true place.now ++ out.now) }
+{
+    let mut text = String::from_str(alloc, "==> ")?;
+    push_shown(alloc, &mut text, place.as_str())?;
+    text.push('\n')?;
+    text.push_str(out)?;
+    Ok(text)
+}
+
+/// The line of a place where its text differs.
+fn name_if(alloc: Global, place: &Place, text: &[u8], out: &String) -> Result<String, Fault>
+    ensures { (string_in result ≡ Err Fault.OutOfMemory)
+        ⊎ (string_in result
+        ≡ Ok (if bytes_eq (string_bytes out.now) text.now then [] else line place.now)) }
+{
+    if is_same(out, text) {
+        Ok(String::new(alloc))
+    } else {
+        Ok(line_of(alloc, place)?)
+    }
+}
+
+fn is_same(out: &String, text: &[u8]) -> bool
+    ensures { result ≡ bytes_eq (string_bytes out.now) text.now }
+{
+    out.as_bytes() == text
+}
+
+fn line_of(alloc: Global, place: &Place) -> Result<String, AllocError>
+    ensures { IfOk result (λ text. string_bytes text ≡ line place.now) }
+{
+    let mut text = String::from_str(alloc, place.as_str())?;
+    text.push('\n')?;
+    Ok(text)
+}
+
+/// Writes a formatted text where it differs, and names its place.
+fn replace_if<F: Folder>(
+    alloc: Global,
+    folder: &mut F,
+    place: &Place,
+    text: &[u8],
+    out: &String,
+) -> Result<String, Fault>
+    ensures { (calls : List Call) × Leads F.device folder.old calls folder.new
+        × (((calls ≡ []) × (string_in result ≡ Err Fault.OutOfMemory))
+        ⊎ Replaces (bytes_eq (string_bytes out.now) text.now) place.now (string_bytes out.now) calls
+        (string_in result)) }
+{
+    if is_same(out, text) {
+        Ok(String::new(alloc))
+    } else {
+        replace(alloc, folder, place, out)
+    }
+}
+
+/// Writes a formatted text, and names its place. All memory is taken before.
+fn replace<F: Folder>(
+    alloc: Global,
+    folder: &mut F,
+    place: &Place,
+    out: &String,
+) -> Result<String, Fault>
+    ensures { (calls : List Call) × Leads F.device folder.old calls folder.new
+        × (((calls ≡ []) × (string_in result ≡ Err Fault.OutOfMemory))
+        ⊎ Replaces false place.now (string_bytes out.now) calls (string_in result)) }
+{
+    let named = line_of(alloc, place)?;
+    let at = place.copy()?;
+    let answer = write(folder, place, out.as_bytes(), MAX_SCRIPT as u64);
+    named_after(answer, at, named)
+}
+
+fn named_after(
+    answer: Result<(), FolderFault>,
+    place: Place,
+    named: String,
+) -> Result<String, Fault>
+    requires { string_bytes named ≡ line place }
+    ensures { string_in result ≡ named_after place answer }
+{
+    match answer {
+        Ok(()) => Ok(named),
+        Err(fault) => Err(fault_at(fault, place)),
     }
 }

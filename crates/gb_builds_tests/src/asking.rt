@@ -28,6 +28,29 @@ const MERMAID: &str =
     "flowchart LR\n  t0[\":a\"]\n  t1[\":b\"]\n  t0 --> t1\n  t1 ==> t2\n  t2[\":c\"]\n  \
      t0 -.-> t2\n";
 
+/// The script of the guide, and the formatted text that the guide prints.
+const GUIDE: [&str; 2] = [
+    r#"property greeting  // the text of all pages
+set greeting="hello"
+
+
+register gen:writeText(greeting){ outputFile out=buildDir.map(child("a.txt")) }
+register hello {
+  doLast printLine(gradleProperty("name").orElse("nobody in particular").map(append(", and all after")))
+}
+"#,
+    r#"property greeting // the text of all pages
+set greeting = "hello"
+
+register gen : writeText(greeting) { outputFile out = buildDir.map(child("a.txt")) }
+register hello {
+    doLast printLine(
+        gradleProperty("name").orElse("nobody in particular").map(append(", and all after"))
+    )
+}
+"#,
+];
+
 /// A folder with a script.
 fn folder(alloc: Global) -> Result<MemoryFolder, Fail> {
     let mut folder = MemoryFolder::new(alloc);
@@ -112,6 +135,15 @@ fn formatted(alloc: Global, folder: &mut MemoryFolder, mode: Mode) -> Result<(St
         &mut Page::new(&mut out),
     );
     Ok((String::from_utf8(out)?, status.unwrap_or(9)))
+}
+
+#[test]
+fn the_script_of_the_guide_is_formatted(rt: HostRuntime) -> Result<(), Fail> {
+    let alloc = rt.alloc();
+    let mut folder = MemoryFolder::new(alloc);
+    put_bytes(alloc, &mut folder, "build.gb", GUIDE[0].as_bytes())?;
+    let (told, _) = formatted(alloc, &mut folder, Mode::Prints)?;
+    is_told(GUIDE[1], told.as_str())
 }
 
 #[test]

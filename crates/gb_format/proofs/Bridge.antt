@@ -1,5 +1,5 @@
 -- What is written is the layout of the pieces.
-use Rattle.std.proofs.Common.{◌≡◌, ℕ, Bool, true, false, cond, List, [], ◌∷◌, ◌++◌, refl, sym, ap, ◌∙◌, append_assoc}
+use Rattle.std.proofs.Common.{◌≡◌, ℕ, true, false, List, [], ◌∷◌, ◌++◌, refl, sym, ap, ◌∙◌, append_assoc}
 use Rattle.std.specs.Prelude.{◌==◌}
 use Rattle.std.proofs.lemmas.Bool.Decides.{nat_tests}
 use Rattle.std.proofs.Common.{arith}
@@ -7,14 +7,13 @@ use Rattle.gb_core.specs.Name.{is_name, is_name_byte}
 use Rattle.gb_script.specs.declared.token.Sign.TheVariants.{OpenBrace, CloseBrace, OpenParen, CloseParen, OpenBracket, CloseBracket, Comma, Dot, Colon, Equals}
 use Rattle.gb_script.specs.declared.token.Token.TheVariants.{Word, Text, Mark, Wrong}
 use Rattle.gb_script.specs.Lexing.{Piece, Blank, Comment, Single, written, IsCut}
-use Rattle.gb_format.specs.declared.kind.Kind.{Kind}
 use Rattle.gb_format.specs.declared.kind.Kind.TheVariants as kinds
 use Rattle.gb_format.specs.declared.rule.Rule.{Rule}
 use Rattle.gb_format.specs.declared.rule.Rule.TheVariants.{Close, Space, Line, Part, Behind}
 use Rattle.gb_format.specs.declared.state.State.{State}
 use Rattle.gb_format.specs.Kinds.{kind_of}
 use Rattle.gb_format.specs.Rules.{step}
-use Rattle.gb_format.specs.Layout.{Item, items, tidy, apart, gap_of, between, placed_behind, placed_first, printed, ending, layout, seen}
+use Rattle.gb_format.specs.Layout.{Item, items, tidy, apart, gap_of, between, placed_behind, placed_first, printed, ending, layout}
 use Rattle.gb_format.specs.Shown.{texts, mended, typeset_from, typeset, state_after, shown_from}
 use Rattle.gb_format.specs.declared.rule.Apart.TheVariants.{Beside}
 use Rattle.gb_format.proofs.Stand.{IsFit, AllFit, tidy_fits, fit_items}
@@ -100,7 +99,7 @@ set_first (x ∷ xs) g =
     let q = tidy x.1 in
     ap (λ (l : List ℕ). written q ++ l) (set_from (state_after (written q) (texts (shows xs))) q xs (tidy_fits x.1 g.0) g.1)
 
--- what is written anew is the layout
+-- what is written of the pieces is their layout
 pub layout_is : (text : List ℕ) (ps : List Piece) → IsCut text ps [] → typeset (shown_from Beside ps) ≡ layout rules ps
 layout_is text ps c =
     let xs = (items ps).0 in

@@ -1,9 +1,8 @@
 -- The comments and tokens of a text, one after another.
-use Rattle.std.proofs.Common.{◌≡◌, ℕ, ◌<◌, List, [], ◌∷◌, ◌++◌, length, map, Option, None, Some, refl, sym, ap, subst, ◌∙◌, append_assoc, arith}
+use Rattle.std.proofs.Common.{◌≡◌, ℕ, ◌<◌, List, [], ◌∷◌, ◌++◌, length, Option, None, Some, refl, sym, ap, subst, ◌∙◌, append_assoc, arith}
 use Rattle.std.proofs.lemmas.List.{append-nil, map-append}
 use Rattle.gb_script.specs.Lexing.{Piece, written, Stands, IsCut}
 use Rattle.gb_format.specs.Layout.{trimmed}
-use Rattle.gb_format.specs.Pieces.{pieces_of}
 use Rattle.gb_format.specs.declared.fits.Item.{Item}
 use Rattle.gb_format.specs.declared.rule.Apart.{Apart}
 use Rattle.gb_format.specs.declared.rule.Apart.TheVariants.{Beside}

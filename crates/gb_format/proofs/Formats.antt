@@ -1,5 +1,5 @@
 -- The formatted text, by the laws of layouts.
-use Rattle.std.proofs.Common.{◌≡◌, ℕ, ◌+◌, ◌≤◌, List, [], ◌∷◌, length, map, Result, Ok, Err, IfOk, IsUtf8, refl, sym, ap, subst, ◌∙◌}
+use Rattle.std.proofs.Common.{◌≡◌, ℕ, ◌≤◌, List, [], length, map, IsUtf8, sym, ap, subst, ◌∙◌}
 use Rattle.gb_script.specs.Grammar.{Leveled}
 use Rattle.gb_script.specs.Lexing.{Piece, IsCut}
 use Rattle.gb_script.specs.Notation.{IsSpelled}

@@ -1,13 +1,13 @@
 -- The piece at the front of a text.
-use Rattle.std.proofs.Common.{◌≡◌, ℕ, ◌+◌, ◌-◌, ◌<◌, List, [], ◌∷◌, ◌++◌, length, take, drop, refl, sym, ap, ◌∙◌, arith, length-append, IsUtf8}
+use Rattle.std.proofs.Common.{◌≡◌, ℕ, ◌-◌, List, ◌++◌, length, take, drop, sym, ap, ◌∙◌, arith, length-append, IsUtf8}
 use Rattle.std.proofs.Math.Seq.{take-append_seam, drop-append_seam}
 use Rattle.std.proofs.lemmas.Str.{IsCharBoundary-at_seam}
 use Rattle.std.specs.Str.{IsCharBoundary}
 use Rattle.gb_script.specs.declared.lexing.Part.{Part}
-use Rattle.gb_script.specs.Lexing.{Piece, written, Stands, IsCut}
+use Rattle.gb_script.specs.Lexing.{Piece, written, Stands}
 use Rattle.gb_script.specs.Scanning.{part_at}
 use Rattle.gb_format.specs.Shown.{EndsWith, HasFront}
-use Rattle.gb_format.proofs.Cut.{part_of, again, written_some}
+use Rattle.gb_format.proofs.Cut.{again}
 
 abbrev front_of : Part → List ℕ → Part × List ℕ
 front_of part rest = (part, rest)

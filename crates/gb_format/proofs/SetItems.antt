@@ -1,6 +1,6 @@
 -- Comments and tokens written one after another.
-use Rattle.std.proofs.Common.{◌≡◌, ℕ, suc, ◌+◌, ◌-◌, ◌<◌, List, [], ◌∷◌, ◌++◌, length, map, take, drop, get_or, refl, sym, ap, ◌∙◌, append_assoc, arith}
-use Rattle.std.proofs.lemmas.List.{length-drop, append-nil}
+use Rattle.std.proofs.Common.{◌≡◌, ℕ, suc, ◌+◌, ◌-◌, ◌<◌, List, [], ◌∷◌, ◌++◌, length, take, drop, get_or, refl, sym, ap, ◌∙◌, append_assoc, arith}
+use Rattle.std.proofs.lemmas.List.{length-drop}
 use Rattle.std.proofs.Math.Seq.{drop-cons, take-length}
 use Rattle.gb_format.specs.Layout.{gap_of}
 use Rattle.gb_format.specs.Kinds.{kind_of}
@@ -9,7 +9,6 @@ use Rattle.gb_format.specs.Rules.{step, first_state}
 use Rattle.gb_format.specs.declared.fits.Item.{Item}
 use Rattle.gb_format.specs.declared.kind.Kind.{Kind}
 use Rattle.gb_format.specs.declared.kind.Kind.TheVariants as kinds
-use Rattle.gb_format.specs.declared.rule.Apart.{Apart}
 use Rattle.gb_format.specs.declared.rule.Apart.TheVariants.{Beside}
 use Rattle.gb_format.specs.declared.state.State.{State}
 use Rattle.gb_format.specs.declared.state.Advance.{Advance}

@@ -1,14 +1,13 @@
 -- What is shown of a text is what its items show.
-use Rattle.std.proofs.Common.{◌≡◌, ℕ, zero, suc, ◌+◌, Bool, true, false, cond, List, [], ◌∷◌, map, Option, None, Some, refl, sym, ap, ◌∙◌, arith, inl, inr}
+use Rattle.std.proofs.Common.{◌≡◌, ℕ, zero, suc, ◌+◌, true, false, cond, List, [], ◌∷◌, map, Option, None, Some, refl, sym, ap, ◌∙◌, arith, inl, inr}
 use Rattle.std.specs.Prelude.{◌==◌}
 use Rattle.std.proofs.lemmas.Bool.Decides.{nat_tests}
-use Rattle.gb_core.specs.Name.{is_name, is_name_byte}
-use Rattle.gb_script.specs.declared.token.Sign.{Sign}
+use Rattle.gb_core.specs.Name.{is_name_byte}
 use Rattle.gb_script.specs.declared.token.Sign.TheVariants.{OpenBrace, CloseBrace, OpenParen, CloseParen, OpenBracket, CloseBracket, Comma, Dot, Colon, Equals}
 use Rattle.gb_script.specs.declared.token.Token.TheVariants.{Word, Text, Mark, Wrong}
-use Rattle.gb_script.specs.Lexing.{is_blank, is_newline, newlines, Piece, Blank, Comment, Single, written, Stands, IsCut}
+use Rattle.gb_script.specs.Lexing.{is_blank, is_newline, newlines, Piece, Blank, Comment, Single, written, IsCut}
 use Rattle.gb_script.proofs.Runs.{cases_bool}
-use Rattle.gb_format.specs.Layout.{Item, Items, blank_before, items, tidy, trimmed, apart_of, apart}
+use Rattle.gb_format.specs.Layout.{Item, Items, blank_before, items, tidy, apart_of, apart}
 use Rattle.gb_format.specs.declared.rule.Apart.{Apart}
 use Rattle.gb_format.specs.declared.rule.Apart.TheVariants.{Beside}
 use Rattle.gb_format.specs.Shown.{Shown, further, gap_after, shown_next, shown_from}

@@ -1,15 +1,14 @@
 -- The rules of a text are those of its layout.
-use Rattle.std.proofs.Common.{◌≡◌, ℕ, Bool, true, false, cond, List, [], ◌∷◌, map, refl, sym, ap, ◌∙◌, inl, inr}
+use Rattle.std.proofs.Common.{◌≡◌, ℕ, Bool, true, false, cond, List, [], ◌∷◌, map, refl, sym, ap, ◌∙◌}
 use Rattle.gb_script.specs.Lexing.{Piece, Blank, Comment, Single, written}
 use Rattle.gb_script.specs.declared.token.Token.TheVariants.{Word, Text, Mark, Wrong}
-use Rattle.gb_script.proofs.Runs.{cases_bool}
 use Rattle.gb_format.specs.declared.kind.Kind.{Kind}
 use Rattle.gb_format.specs.declared.kind.Kind.TheVariants as kinds
 use Rattle.gb_format.specs.declared.fits.Reach.TheVariants as reaches
 use Rattle.gb_format.specs.declared.rule.Apart.{Apart}
 use Rattle.gb_format.specs.declared.rule.Apart.TheVariants.{Beside, Below, Away}
 use Rattle.gb_format.specs.declared.rule.Rule.{Rule}
-use Rattle.gb_format.specs.declared.rule.Rule.TheVariants.{Close, Space, Line, Part, Behind}
+use Rattle.gb_format.specs.declared.rule.Rule.TheVariants.{Space, Line}
 use Rattle.gb_format.specs.declared.state.State.{State}
 use Rattle.gb_format.specs.declared.state.Advance.{Advance}
 use Rattle.gb_format.specs.Kinds.{kind_of}

@@ -1,5 +1,5 @@
 -- A text without the blanks at its end.
-use Rattle.std.proofs.Common.{◌≡◌, ℕ, zero, suc, ◌+◌, ◌-◌, ◌<◌, ◌≤◌, Bool, true, false, List, [], ◌∷◌, ◌++◌, length, take, get_or, refl, sym, ap, ◌∙◌, arith, inl, inr}
+use Rattle.std.proofs.Common.{◌≡◌, ℕ, zero, suc, ◌-◌, ◌<◌, ◌≤◌, true, false, List, [], ◌∷◌, ◌++◌, length, take, get_or, refl, sym, ap, ◌∙◌, arith}
 use Rattle.std.proofs.lemmas.Bool.Decides.{nat_tests}
 use Rattle.std.specs.Prelude.{◌&&◌, nat_le}
 use Rattle.std.specs.List.{list_all, flat_map}
@@ -8,7 +8,6 @@ use Rattle.gb_script.specs.declared.token.Sign.TheVariants.{OpenBrace, CloseBrac
 use Rattle.gb_script.specs.declared.token.Token.TheVariants.{Word, Text, Mark, Wrong}
 use Rattle.gb_script.specs.Lexing.{is_blank, escaped, Piece, Blank, Comment, Single, written}
 use Rattle.gb_script.proofs.Cuts.{and_both}
-use Rattle.gb_script.proofs.Runs.{cases_bool}
 use Rattle.gb_format.specs.Layout.{before_end, trimmed, tidy}
 use Rattle.gb_format.proofs.Stand.{IsFit}
 

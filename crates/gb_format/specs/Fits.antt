@@ -1,5 +1,5 @@
 -- What fits in the rest of a line.
-use Rattle.std.specs.Prelude.{ℕ, zero, ◌+◌, ◌-◌, Bool, true, false, ◌==◌, nat_le, nat_lt, List, [], ◌∷◌}
+use Rattle.std.specs.Prelude.{ℕ, ◌+◌, ◌-◌, Bool, true, false, ◌==◌, nat_le, nat_lt, List, [], ◌∷◌}
 use Rattle.std.specs.Prelude.{length, map}
 use Rattle.std.specs.Prelude.{if◌then◌else◌}
 use Rattle.gb_format.specs.declared.kind.Kind.{Kind}
@@ -28,9 +28,16 @@ is_end_as k p t = begins p t
 abbrev pub is_end : Place → List ℕ → Bool
 is_end p t = is_end_as (kind_of t) p t
 
+-- an element of a bracket ends before this, where no more than this many are open
+abbrev pub is_inner_end : ℕ → Place → Kind → Bool
+is_inner_end n p kinds.Close = nat_le p.brackets n
+is_inner_end n p kinds.Comment = nat_le p.brackets n
+is_inner_end n p k = false
+
 abbrev pub ends_before : Reach → Place → List ℕ → Bool
 ends_before reaches.Clause p t = is_end p t
 ends_before reaches.Element p t = is_end p t
+ends_before (reaches.Inner n) p t = is_inner_end n p (kind_of t)
 ends_before (reaches.Bracket n) p t = false
 ends_before reaches.Block p t = false
 
@@ -39,6 +46,7 @@ abbrev pub ends_after : Reach → Place → Kind → Bool
 ends_after reaches.Clause p kinds.OpenBrace = true
 ends_after reaches.Element p kinds.OpenBrace = true
 ends_after reaches.Element p kinds.Comma = p.brackets == 0
+ends_after (reaches.Inner n) p kinds.Comma = nat_le p.brackets n
 ends_after (reaches.Bracket n) p kinds.Close = nat_le p.brackets n
 ends_after reaches.Block p kinds.CloseBrace = true
 ends_after r p k = false

@@ -4,7 +4,9 @@ use Rattle.std.specs.Prelude.{◌⊎◌}
 use Rattle.std.specs.Prelude.{if◌then◌else◌}
 use Rattle.gb_script.specs.declared.fault.ScriptFault.{ScriptFault}
 use Rattle.gb_script.specs.declared.fault.ScriptFault.TheVariants.{OutOfMemory, TooLong}
+use Rattle.gb_script.specs.declared.script.Statement.{Statement}
 use Rattle.gb_script.specs.Lexing.{is_blank, IsCut}
+use Rattle.gb_script.specs.Script.{Spells, SpellsSettings}
 use Rattle.gb_format.specs.Layout.{kept, tidy}
 use Rattle.gb_format.specs.Pieces.{pieces_of}
 use Rattle.gb_format.specs.Shown.{shown_in, typeset}
@@ -33,6 +35,15 @@ pub record IsFormatted (text out : List ℕ) : Type 0 where
   -- formatted once more it is the same
   pub again : formatted out ≡ out
   pub empty_lines : IsTrue (few_newlines 0 out)
+
+-- the two are one script
+abbrev pub AreSameScript : List ℕ → List ℕ → Type 0
+AreSameScript text out = (script : List Statement) × Spells text script × Spells out script
+
+-- the two are the same settings
+abbrev pub AreSameSettings : List ℕ → List ℕ → Type 0
+AreSameSettings text out =
+    (settings : List (List (List ℕ))) × SpellsSettings text settings × SpellsSettings out settings
 
 -- the fault by which a text that can be read is not formatted
 abbrev pub IsLayoutFault : List ℕ → ScriptFault → Type 0

@@ -1,5 +1,5 @@
 -- What a layout changes, and what it does not.
-use Rattle.std.specs.Prelude.{◌≡◌, ℕ, List, [], map}
+use Rattle.std.specs.Prelude.{◌≡◌, List, [], map}
 use Rattle.gb_script.specs.Lexing.{Piece, IsCut}
 use Rattle.gb_format.specs.Layout.{kept, tidy, layout, Seen}
 use Rattle.gb_format.specs.declared.rule.Rule.{Rule}

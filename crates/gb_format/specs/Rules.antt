@@ -3,17 +3,17 @@
 -- A statement or clause that fits on a line stays on it. In one that does not, each element after a comma
 -- begins a line, and in an element that does not fit on a line so does each step of its chain. A bracket that
 -- does not fit in the rest of its line is broken: each element has a line, and so does the bracket that
--- closes. A block whose first clause follows its brace on the same line stays on that line where it fits. A
+-- closes. In the outermost bracket that is broken, so does each step of an element that does not fit on a
+-- line. A block whose first clause follows its brace on the same line stays on that line where it fits. A
 -- line has 100 columns, which are counted in bytes.
-use Rattle.std.specs.Prelude.{ℕ, zero, suc, ◌+◌, ◌*◌, ◌-◌, Bool, true, false, not, ◌&&◌, ◌==◌, nat_lt, List}
-use Rattle.std.specs.Prelude.{[], ◌∷◌}
+use Rattle.std.specs.Prelude.{ℕ, ◌+◌, ◌*◌, ◌-◌, Bool, true, false, not, ◌&&◌, ◌==◌, nat_lt, List}
 use Rattle.std.specs.Prelude.{length, if◌then◌else◌}
 use Rattle.gb_format.specs.declared.kind.Kind.{Kind}
 use Rattle.gb_format.specs.declared.kind.Kind.TheVariants as kinds
 use Rattle.gb_format.specs.declared.place.Place.{Place}
 use Rattle.gb_format.specs.declared.fits.Reach.TheVariants as reaches
 use Rattle.gb_format.specs.declared.rule.Apart.{Apart}
-use Rattle.gb_format.specs.declared.rule.Apart.TheVariants.{Beside, Below, Away}
+use Rattle.gb_format.specs.declared.rule.Apart.TheVariants.{Beside}
 use Rattle.gb_format.specs.declared.rule.Rule.{Rule}
 use Rattle.gb_format.specs.declared.rule.Rule.TheVariants.{Close, Space, Line, Part, Behind}
 use Rattle.gb_format.specs.declared.state.State.{State}
@@ -38,14 +38,23 @@ room_after indent t = room_at indent - length t
 abbrev pub is_broken : State → Bool
 is_broken s = nat_lt 0 s.broken && (s.place.brackets == s.broken)
 
+-- an element in the outermost broken bracket that does not fit on a line
+abbrev pub is_stepped : State → Bool
+is_stepped s = s.is_inner_chain && (s.broken == 1)
+
+-- an element begins after a bracket, a comma or a comment
+abbrev pub turn_after : Kind → Turn
+turn_after kinds.OpenParen = turns.Inside
+turn_after kinds.OpenBracket = turns.Inside
+turn_after kinds.Comma = turns.Inside
+turn_after kinds.Comment = turns.Inside
+turn_after before = turns.Flat
+
 -- the turn in a broken bracket
-abbrev pub turn_in : Kind → Kind → Turn
-turn_in before kinds.Close = turns.Closing
-turn_in kinds.OpenParen k = turns.Inside
-turn_in kinds.OpenBracket k = turns.Inside
-turn_in kinds.Comma k = turns.Inside
-turn_in kinds.Comment k = turns.Inside
-turn_in before k = turns.Flat
+abbrev pub turn_in : State → Kind → Kind → Turn
+turn_in s before kinds.Close = turns.Closing
+turn_in s before kinds.Dot = if is_stepped s then turns.InnerStep else turn_after before
+turn_in s before k = turn_after before
 
 -- the turn outside of brackets
 abbrev pub turn_out : State → Kind → Kind → Turn
@@ -58,13 +67,18 @@ turn_out s before k = turns.Flat
 
 abbrev pub turn_of : State → Kind → Kind → Turn
 turn_of s before k =
-    if is_broken s then turn_in before k
+    if is_broken s then turn_in s before k
     else (if s.place.brackets == 0 then turn_out s before k else turns.Flat)
+
+-- the indent of the elements of a broken bracket
+abbrev pub inside_indent : State → ℕ
+inside_indent s = if s.broken == 1 then s.inner else s.indent
 
 abbrev pub turn_rule : State → Turn → Bool → Rule
 turn_rule s turns.Flat tight = if tight then Close else Space
-turn_rule s turns.Inside tight = Line s.indent
-turn_rule s turns.Closing tight = Line (shallower s.indent)
+turn_rule s turns.Inside tight = Line (inside_indent s)
+turn_rule s turns.InnerStep tight = Line (deeper s.inner)
+turn_rule s turns.Closing tight = Line (shallower (inside_indent s))
 turn_rule s turns.Resumed tight = Line (depth s.place + 1)
 turn_rule s turns.Element tight = Line (depth s.place + 1)
 turn_rule s turns.Step tight = Line (deeper s.base)
@@ -83,13 +97,26 @@ resumed s is_cut t ts = record s {
 abbrev pub is_clause_cut : State → List ℕ → List (List ℕ) → Bool
 is_clause_cut s t ts = not (fits_from reaches.Clause s.place (room_at (depth s.place + 1)) t ts)
 
+-- the state where an element of a broken bracket begins
+abbrev pub entered : State → List ℕ → List (List ℕ) → State
+entered s t ts = record s {
+  indent = inside_indent s;
+  room = room_after (inside_indent s) t;
+  is_inner_chain = not (fits_from (reaches.Inner s.broken) s.place (room_at (inside_indent s)) t ts);
+}
+
 abbrev pub turned : State → Turn → Bool → List ℕ → List (List ℕ) → State
 turned s turns.Flat tight t ts = record s { room = s.room - (if tight then 0 else 1) - length t }
-turned s turns.Inside tight t ts = record s { room = room_after s.indent t }
+turned s turns.Inside tight t ts =
+    if s.broken == 1 then entered s t ts else record s { room = room_after s.indent t }
+turned s turns.InnerStep tight t ts = record s {
+  indent = deeper s.inner;
+  room = room_after (deeper s.inner) t;
+}
 turned s turns.Closing tight t ts = record s {
   broken = shallower s.broken;
-  indent = shallower s.indent;
-  room = room_after (shallower s.indent) t;
+  indent = shallower (inside_indent s);
+  room = room_after (shallower (inside_indent s)) t;
 }
 turned s turns.Resumed tight t ts = resumed s (is_clause_cut s t ts) t ts
 turned s turns.Element tight t ts = resumed s true t ts
@@ -101,10 +128,18 @@ breaks s place k ts =
     is_open k && s.is_cut && (s.place.brackets == s.broken)
     && not (fits (reaches.Bracket s.place.brackets) place k (s.room - 2) ts)
 
+abbrev pub inner_indent : State → ℕ
+inner_indent s = if s.broken == 0 then deeper s.indent else s.inner
+
 abbrev pub opened : State → List ℕ → List (List ℕ) → State
 opened s t ts =
     if breaks s (after s.place t) (kind_of t) ts
-    then record s { place = after s.place t; broken = deeper s.broken; indent = deeper s.indent }
+    then record s {
+      place = after s.place t;
+      broken = deeper s.broken;
+      indent = deeper s.indent;
+      inner = inner_indent s;
+    }
     else record s { place = after s.place t }
 
 abbrev pub inner : State → Kind → List ℕ → List (List ℕ) → Advance
@@ -138,11 +173,13 @@ begun s in_line t ts = record {
   broken = 0;
   indent = depth s.place;
   base = depth s.place;
+  inner = depth s.place;
   room = if in_line then s.room - 1 - length t else room_after (depth s.place) t;
   in_line = in_line;
   is_cut = is_begun_cut s in_line t ts;
   is_chain = is_begun_cut s in_line t ts
       && not (fits_from reaches.Element s.place (room_at (depth s.place)) t ts);
+  is_inner_chain = false;
 }
 
 abbrev pub begin : State → Kind → Apart → List ℕ → List (List ℕ) → Advance
@@ -170,7 +207,7 @@ step_as kinds.Comment s before a t ts = record { rule = Behind (comment_indent s
 step_as kinds.CloseBrace s before a t ts = record { rule = closing_rule s before; state = closed s t }
 step_as k s before a t ts = if begins s.place t then begin s before a t ts else inner s before t ts
 
--- The rule of what stands so apart from the one before, and the state after it.
+-- The rule of a comment or a token that is separated so from the one before, and the state after it.
 unfoldable pub step : State → Kind → Apart → List ℕ → List (List ℕ) → Advance
 step s before a t ts = step_as (kind_of t) s before a t ts
 
@@ -180,8 +217,10 @@ first_state = record {
   broken = 0;
   indent = 0;
   base = 0;
+  inner = 0;
   room = 100;
   in_line = false;
   is_cut = false;
   is_chain = false;
+  is_inner_chain = false;
 }

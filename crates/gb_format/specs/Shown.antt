@@ -1,5 +1,5 @@
--- The comments and tokens of a text as they are written, and how the text is written anew.
-use Rattle.std.specs.Prelude.{◌≡◌, ℕ, Bool, ◌==◌, List, [], ◌∷◌, ◌++◌, map, Option, None, Some, if◌then◌else◌}
+-- The comments and tokens of a text as they are written, and the text that is written of them.
+use Rattle.std.specs.Prelude.{◌≡◌, ℕ, ◌==◌, List, [], ◌∷◌, ◌++◌, map, Option, None, Some, if◌then◌else◌}
 use Rattle.gb_script.specs.Lexing.{is_blank, Piece, written, Stands, IsCut}
 use Rattle.gb_format.specs.declared.fits.Item.{Item}
 use Rattle.gb_format.specs.declared.kind.Kind.{Kind}
@@ -64,7 +64,7 @@ pub record IsWhole (text : List ℕ) : Type 0 where
   pub pieces : List Piece
   pub cut : IsCut text pieces []
 
--- ---- written anew
+-- ---- written again
 
 abbrev pub texts : Shown → List (List ℕ)
 texts xs = map (λ x. x.1) xs

@@ -1,6 +1,7 @@
 //! Whether what follows fits in the rest of a line.
 ghost use Rattle.std.specs.Prelude.{◌≡◌};
-ghost use Rattle.gb_format.specs.Fits.{width, is_end, ends_before, ends_after, is_comment, fits};
+ghost use Rattle.gb_format.specs.Fits.{width, is_end, ends_before, ends_after, is_comment, is_inner_end};
+ghost use Rattle.gb_format.specs.Fits.{fits};
 ghost use Rattle.gb_format.specs.Fits.{fits_from, texts_of};
 
 use crate::kind::{Kind, is_tight, kind_of};
@@ -23,6 +24,8 @@ pub enum Reach {
     Clause,
     /// To the next comma of a clause too.
     Element,
+    /// To the next comma between brackets of which no more than this many are open, or to what closes them.
+    Inner(usize),
     /// To the bracket after which no more than this many are open.
     Bracket(usize),
     /// To the brace that closes.
@@ -51,12 +54,23 @@ fn is_end(place: Place, text: &str) -> bool
     }
 }
 
+/// Whether an element of a bracket ends before this, where no more than this many are open.
+fn is_inner_end(count: usize, place: Place, kind: Kind) -> bool
+    ensures { result ≡ is_inner_end count place kind }
+{
+    match kind {
+        Kind::Close | Kind::Comment => place.brackets <= count,
+        _ => false,
+    }
+}
+
 /// Whether what has to fit ends before this.
 fn ends_before(reach: Reach, place: Place, text: &str) -> bool
     ensures { result ≡ ends_before reach place text.now }
 {
     match reach {
         Reach::Clause | Reach::Element => is_end(place, text),
+        Reach::Inner(count) => is_inner_end(count, place, kind_of(text)),
         Reach::Bracket(_) | Reach::Block => false,
     }
 }
@@ -69,6 +83,7 @@ fn ends_after(reach: Reach, place: Place, kind: Kind) -> bool
         (Reach::Clause, Kind::OpenBrace) => true,
         (Reach::Element, Kind::OpenBrace) => true,
         (Reach::Element, Kind::Comma) => place.brackets == 0,
+        (Reach::Inner(count), Kind::Comma) => place.brackets <= count,
         (Reach::Bracket(count), Kind::Close) => place.brackets <= count,
         (Reach::Block, Kind::CloseBrace) => true,
         _ => false,

@@ -1,10 +1,10 @@
 //! The formatted text of scripts and settings.
 ghost use Rattle.std.specs.Prelude.{◌≡◌, ℕ, ◌<◌, ◌≤◌, ◌⊎◌, List, length, IfOk, IfErr, Err, IsUtf8};
 ghost use Rattle.std.specs.Prelude.{string_bytes};
-ghost use Rattle.gb_script.specs.Script.{Spells, Says, SpellsSettings, SaysAsSettings};
-ghost use Rattle.gb_script.specs.declared.script.Statement.{Statement};
+ghost use Rattle.gb_script.specs.Script.{Says, SaysAsSettings};
 ghost use Rattle.gb_format.specs.Shown.{IsWhole};
-ghost use Rattle.gb_format.specs.Formatted.{formatted, IsFormatted, IsLayoutFault};
+ghost use Rattle.gb_format.specs.Formatted.{formatted, AreSameScript, AreSameSettings, IsFormatted};
+ghost use Rattle.gb_format.specs.Formatted.{IsLayoutFault};
 
 use crate::cutting::cut;
 use crate::writing::write;
@@ -58,9 +58,8 @@ fn formatted_bytes(alloc: Global, bytes: &[u8]) -> Result<String, ScriptFault>
 pub fn format_script(alloc: Global, bytes: &[u8]) -> Result<String, ScriptFault>
     // Only the white space between comments and tokens changes.
     ensures found { IfOk result (λ out. IsFormatted bytes.now (string_bytes out)) }
-    // The formatted text is the same script.
-    ensures same { IfOk result (λ out. (script : List Statement) → Spells bytes.now script
-        → Spells (string_bytes out) script) }
+    // The bytes are a script, and the formatted text is the same script.
+    ensures same { IfOk result (λ out. AreSameScript bytes.now (string_bytes out)) }
     ensures fault { IfErr result (λ fault. Says bytes.now (Err fault) ⊎ IsLayoutFault bytes.now fault) }
 {
     let script = read_script(alloc, bytes)?;
@@ -73,9 +72,8 @@ pub fn format_script(alloc: Global, bytes: &[u8]) -> Result<String, ScriptFault>
 pub fn format_settings(alloc: Global, bytes: &[u8]) -> Result<String, ScriptFault>
     // Only the white space between comments and tokens changes.
     ensures found { IfOk result (λ out. IsFormatted bytes.now (string_bytes out)) }
-    // The formatted text is the same settings.
-    ensures same { IfOk result (λ out. (settings : List (List (List ℕ))) → SpellsSettings bytes.now settings
-        → SpellsSettings (string_bytes out) settings) }
+    // The bytes are settings, and the formatted text is the same settings.
+    ensures same { IfOk result (λ out. AreSameSettings bytes.now (string_bytes out)) }
     ensures fault { IfErr result (λ fault. SaysAsSettings bytes.now (Err fault)
         ⊎ IsLayoutFault bytes.now fault) }
 {

@@ -1,7 +1,8 @@
 //! Which rule each comment or token is set by.
-ghost use Rattle.std.specs.Prelude.{◌≡◌};
+ghost use Rattle.std.specs.Prelude.{◌≡◌, true};
 ghost use Rattle.gb_format.specs.Fits.{texts_of};
 ghost use Rattle.gb_format.specs.Rules.{room_at, room_after, is_broken, turn_in, turn_out, turn_of};
+ghost use Rattle.gb_format.specs.Rules.{entered, inner_indent, inside_indent, is_stepped, turn_after};
 ghost use Rattle.gb_format.specs.Rules.{turn_rule};
 ghost use Rattle.gb_format.specs.Rules.{resumed, is_clause_cut, turned, breaks, opened, joins, begun_rule};
 ghost use Rattle.gb_format.specs.Rules.{begun, comment_indent, closing_rule, closed, inner, begin, step};
@@ -23,6 +24,8 @@ pub struct State {
     pub indent: usize,
     /// The indent of the line in which the element begins.
     pub base: usize,
+    /// The indent of the elements of the outermost broken bracket.
+    pub inner: usize,
     /// How many columns are left in the line.
     pub room: usize,
     /// The block is on one line.
@@ -31,6 +34,8 @@ pub struct State {
     pub is_cut: bool,
     /// The element does not fit on a line.
     pub is_chain: bool,
+    /// The element of the outermost broken bracket does not fit on a line.
+    pub is_inner_chain: bool,
 }
 
 /// Why a line breaks before a token within a clause, or that it does not.
@@ -40,6 +45,8 @@ pub enum Turn {
     Flat,
     /// An element of a broken bracket begins.
     Inside,
+    /// The next step of an element of the outermost broken bracket begins.
+    InnerStep,
     /// A broken bracket closes.
     Closing,
     /// A comment precedes it.
@@ -70,14 +77,31 @@ fn is_broken(state: State) -> bool
     state.broken > 0 && state.place.brackets == state.broken
 }
 
-/// The turn in a broken bracket.
-fn turn_in(before: Kind, kind: Kind) -> Turn
-    ensures { result ≡ turn_in before kind }
+/// Whether an element in the outermost broken bracket does not fit on a line.
+fn is_stepped(state: State) -> bool
+    ensures { result ≡ is_stepped state }
 {
-    match (before, kind) {
-        (_, Kind::Close) => Turn::Closing,
-        (Kind::OpenParen | Kind::OpenBracket | Kind::Comma | Kind::Comment, _) => Turn::Inside,
+    state.is_inner_chain && state.broken == 1
+}
+
+/// The turn in a broken bracket, but for steps and the bracket that closes.
+fn turn_after(before: Kind) -> Turn
+    ensures { result ≡ turn_after before }
+{
+    match before {
+        Kind::OpenParen | Kind::OpenBracket | Kind::Comma | Kind::Comment => Turn::Inside,
         _ => Turn::Flat,
+    }
+}
+
+/// The turn in a broken bracket.
+fn turn_in(state: State, before: Kind, kind: Kind) -> Turn
+    ensures { result ≡ turn_in state before kind }
+{
+    match kind {
+        Kind::Close => Turn::Closing,
+        Kind::Dot if is_stepped(state) => Turn::InnerStep,
+        _ => turn_after(before),
     }
 }
 
@@ -97,11 +121,22 @@ fn turn_of(state: State, before: Kind, kind: Kind) -> Turn
     ensures { result ≡ turn_of state before kind }
 {
     if is_broken(state) {
-        turn_in(before, kind)
+        turn_in(state, before, kind)
     } else if state.place.brackets == 0 {
         turn_out(state, before, kind)
     } else {
         Turn::Flat
+    }
+}
+
+/// The indent of the elements of a broken bracket.
+fn inside_indent(state: State) -> usize
+    ensures { result ≡ inside_indent state }
+{
+    if state.broken == 1 {
+        state.inner
+    } else {
+        state.indent
     }
 }
 
@@ -110,8 +145,9 @@ fn turn_rule(state: State, turn: Turn, tight: bool) -> Rule
 {
     match turn {
         Turn::Flat => { if tight { Rule::Close } else { Rule::Space } }
-        Turn::Inside => Rule::Line(state.indent),
-        Turn::Closing => Rule::Line(shallower(state.indent)),
+        Turn::Inside => Rule::Line(inside_indent(state)),
+        Turn::InnerStep => Rule::Line(deeper(state.inner)),
+        Turn::Closing => Rule::Line(shallower(inside_indent(state))),
         Turn::Resumed | Turn::Element => Rule::Line(depth(state.place) + 1),
         Turn::Step => Rule::Line(deeper(state.base)),
     }
@@ -141,6 +177,34 @@ fn is_clause_cut(state: State, text: &str, rest: &[Item]) -> bool
     !fits_from(Reach::Clause, state.place, room, text, rest)
 }
 
+/// The state where an element of the outermost broken bracket begins.
+fn entered(state: State, text: &str, rest: &[Item]) -> State
+    ensures { result ≡ entered state text.now (texts_of rest.now) }
+{
+    let indent = inside_indent(state);
+    let reach = Reach::Inner(state.broken);
+    State {
+        indent,
+        room: room_after(indent, text),
+        is_inner_chain: !fits_from(reach, state.place, room_at(indent), text, rest),
+        ..state
+    }
+}
+
+/// The state where an element of a broken bracket begins.
+fn inside(state: State, text: &str, rest: &[Item]) -> State
+    ensures { result ≡ turned state Turn.Inside true text.now (texts_of rest.now) }
+{
+    if state.broken == 1 {
+        entered(state, text, rest)
+    } else {
+        State {
+            room: room_after(state.indent, text),
+            ..state
+        }
+    }
+}
+
 fn turned(state: State, turn: Turn, tight: bool, text: &str, rest: &[Item]) -> State
     ensures { result ≡ turned state turn tight text.now (texts_of rest.now) }
 {
@@ -152,14 +216,16 @@ fn turned(state: State, turn: Turn, tight: bool, text: &str, rest: &[Item]) -> S
                 .saturating_sub(text.len()),
             ..state
         },
-        Turn::Inside => State {
-            room: room_after(state.indent, text),
+        Turn::Inside => inside(state, text, rest),
+        Turn::InnerStep => State {
+            indent: deeper(state.inner),
+            room: room_after(deeper(state.inner), text),
             ..state
         },
         Turn::Closing => State {
             broken: shallower(state.broken),
-            indent: shallower(state.indent),
-            room: room_after(shallower(state.indent), text),
+            indent: shallower(inside_indent(state)),
+            room: room_after(shallower(inside_indent(state)), text),
             ..state
         },
         Turn::Resumed => resumed(state, is_clause_cut(state, text, rest), text, rest),
@@ -188,6 +254,17 @@ fn breaks(state: State, place: Place, kind: Kind, rest: &[Item]) -> bool
         )
 }
 
+/// The indent of the elements of the outermost broken bracket, where one more is broken.
+fn inner_indent(state: State) -> usize
+    ensures { result ≡ inner_indent state }
+{
+    if state.broken == 0 {
+        deeper(state.indent)
+    } else {
+        state.inner
+    }
+}
+
 /// The state after a token of a clause.
 fn opened(state: State, text: &str, rest: &[Item]) -> State
     ensures { result ≡ opened state text.now (texts_of rest.now) }
@@ -198,6 +275,7 @@ fn opened(state: State, text: &str, rest: &[Item]) -> State
             place,
             broken: deeper(state.broken),
             indent: deeper(state.indent),
+            inner: inner_indent(state),
             ..state
         }
     } else {
@@ -242,6 +320,7 @@ fn begun(state: State, in_line: bool, text: &str, rest: &[Item]) -> State
         broken: 0,
         indent,
         base: indent,
+        inner: indent,
         room: if in_line {
             state.room.saturating_sub(1).saturating_sub(text.len())
         } else {
@@ -250,6 +329,7 @@ fn begun(state: State, in_line: bool, text: &str, rest: &[Item]) -> State
         in_line,
         is_cut,
         is_chain: is_cut && !fits_from(Reach::Element, state.place, room, text, rest),
+        is_inner_chain: false,
     }
 }
 
@@ -352,9 +432,11 @@ pub fn first_state() -> State
         broken: 0,
         indent: 0,
         base: 0,
+        inner: 0,
         room: 100,
         in_line: false,
         is_cut: false,
         is_chain: false,
+        is_inner_chain: false,
     }
 }

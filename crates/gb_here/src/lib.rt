@@ -11,6 +11,6 @@
 #![tactic(auto)]
 
 pub mod here;
-mod lock;
+pub mod lock;
 pub mod refused;
 pub mod words;

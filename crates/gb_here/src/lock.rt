@@ -19,20 +19,28 @@ use std::rt::{Env, Files};
 
 /// The locks on the current folder and on the folders of its projects, if the words of the command ask to
 /// build it.
-pub fn locks_for<R: Files<File = File> + Env + AllocGlobal>(
+pub(crate) fn locks_for<R: Files<File = File> + Env + AllocGlobal>(
     rt: &R,
 ) -> Result<Vec<File>, AllocError> {
-    let mut held = Vec::new(rt.alloc());
     let asked = match command_words(rt) {
         Ok(words) => is_build(rt.alloc(), words),
         Err(fault) => Err(fault),
     };
     if wants_lock(asked)? {
-        if let Some(root) = locked(rt, ".") {
-            held.push(root)?;
-        }
-        lock_projects(rt, &mut held)?;
+        locks(rt)
+    } else {
+        Ok(Vec::new(rt.alloc()))
     }
+}
+
+/// The locks that a build takes: on the current folder, and on the folders of its projects. It waits for each
+/// that another process holds. The system releases them when the files are dropped, or with the process.
+pub fn locks<R: Files<File = File> + AllocGlobal>(rt: &R) -> Result<Vec<File>, AllocError> {
+    let mut held = Vec::new(rt.alloc());
+    if let Some(root) = locked(rt, ".") {
+        held.push(root)?;
+    }
+    lock_projects(rt, &mut held)?;
     Ok(held)
 }
 

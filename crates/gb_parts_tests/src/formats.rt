@@ -7,7 +7,7 @@ use std::test::Fail;
 /// A text, and the formatted text.
 type Case = (&'static str, &'static str);
 
-const SCRIPTS: [Case; 9] = [
+const SCRIPTS: [Case; 10] = [
     ("", ""),
     ("\n\n// only\t\n", "// only\n"),
     (
@@ -37,6 +37,12 @@ const SCRIPTS: [Case; 9] = [
          .map(child(\"0123456789012345678901234567890123456789\"))",
         "set a = gradleProperty(\"p\")\n    .orElse(\"0123456789012345678901234567890123456789\")\n    \
          .map(child(\"0123456789012345678901234567890123456789\"))\n",
+    ),
+    (
+        "set a = [dir(\"x\").map(child(\"0123456789012345678901234567890123456789\"))\
+         .map(child(\"0123456789012345678901234567890123456789\")), \"b\"]",
+        "set a = [\n    dir(\"x\")\n        .map(child(\"0123456789012345678901234567890123456789\"))\n        \
+         .map(child(\"0123456789012345678901234567890123456789\")),\n    \"b\"\n]\n",
     ),
     (
         "named set { inputFiles from from from include \"0123456789012345678901234567890123456789\",\

@@ -1,6 +1,5 @@
-use Rattle.std.proofs.Common.{◌≡◌, ◌<◌, ◌++◌, ◌∷◌, [], length, rules, ap, ◌∙◌}
+use Rattle.std.proofs.Common.{◌<◌, ◌++◌, ◌∷◌, [], length, rules, ap, ◌∙◌}
 use Rattle.gb_format.specs.Shown.{shown}
-use Rattle.gb_format.specs.Layout.{trimmed}
 use Rattle.gb_format.proofs.CutItems.{all_left, front_is, blank_cut, kept_cut, none_left, shown_more}
 use Rattle.gb_format.proofs.cutting.cut.Goals as goal
 

@@ -19,4 +19,4 @@ returns-clause-found c =
 pub returns-clause-same : goal.returns-clause-same
 returns-clause-same c =
     let whole : IsWhole c.args.bytes.now = read_whole IsSettings settings_spelled settings_real c.args.bytes.now c.in_ok-settings.settings c.in_ok-settings.ensures.found in
-    IfOk-weaker c.formatted_bytes.result _ _ (λ out h told s. formatted_spells IsSettings settings_spelled c.args.bytes.now (string_bytes out) whole h.0 h.1 (IsUtf8-string_bytes out) told s) c.formatted_bytes.ensures.found
+    IfOk-weaker c.formatted_bytes.result _ _ (λ out h. (c.in_ok-settings.settings, c.in_ok-settings.ensures.found, formatted_spells IsSettings settings_spelled c.args.bytes.now (string_bytes out) whole h.0 h.1 (IsUtf8-string_bytes out) c.in_ok-settings.settings c.in_ok-settings.ensures.found)) c.formatted_bytes.ensures.found

@@ -1,4 +1,4 @@
-use Rattle.std.proofs.Common.{◌≡◌, ◌++◌, ◌∷◌, [], ◌<◌, string_bytes, ap, ◌∙◌, rules, refl, arith}
+use Rattle.std.proofs.Common.{◌≡◌, ◌++◌, ◌∷◌, [], ◌<◌, string_bytes, ◌∙◌, rules, refl, arith}
 use Rattle.gb_format.proofs.SetItems.{set_all}
 use Rattle.gb_format.proofs.writing.write.Goals as goal
 
