@@ -1,12 +1,12 @@
 //! What may be asked of the current folder, with the built-in kinds and functions: `gb_ask why`, `tasks`,
-//! `graph` and `fmt`. It changes nothing but by `fmt --write`, and takes no lock.
+//! `graph`, `reads`, `makes`, `status` and `fmt`. It changes nothing but by `fmt --write`, and holds no lock.
 #![tactic(auto)]
 
 use gb_action::actions::Actions;
 use gb_action::table::ActionTable;
 use gb_answer::{builtin_actions, builtin_functions};
 use gb_ask_command::words::{Mode, Question, Style, USAGE, mode_of, question_of, style_of};
-use gb_ask_command::{fmt, graph, tasks, why};
+use gb_ask_command::{fmt, graph, places, status, tasks, why};
 use gb_command::run::UNPRINTED;
 use gb_disk::disk::DiskFolder;
 use gb_folder::folder::Folder;
@@ -15,8 +15,11 @@ use gb_kinds::builtin::{Builtin, StoredAction};
 use gb_printer::page::Page;
 use gb_printer::printer::Printer;
 use gb_provider::transforms::Transforms;
+use gb_query::lines::Activity;
+use gb_query::search::Relation;
 use gb_registry::tables::Tables;
 use std::alloc::{AllocError, Global};
+use std::fs::{File, TryLockError};
 use std::io::{self, BufWriter, Read};
 use std::process::ExitCode;
 
@@ -78,9 +81,24 @@ fn asked<A: Actions, T: Transforms, W: Printer>(
         Question::Why => why::run(alloc, &mut folder, Ok(words), page, tables),
         Question::Tasks => tasks::run(alloc, &mut folder, Ok(words), page, tables),
         Question::Graph => drawn(alloc, &mut folder, words, page, tables),
+        Question::Reads => places::run(alloc, &mut folder, Relation::Reads, Ok(words), page, tables),
+        Question::Makes => places::run(alloc, &mut folder, Relation::Makes, Ok(words), page, tables),
+        Question::Status => status::run(alloc, &mut folder, activity(rt), Ok(words), page, tables),
         Question::Fmt => formatted(rt, &mut folder, words, page),
         Question::Help => helped(page),
         Question::Unknown => Some(2),
+    }
+}
+
+/// Whether a build of the current folder runs: whether it holds the lock on the folder.
+fn activity(rt: &HostRuntime) -> Activity {
+    let Ok(folder) = File::open(rt, ".") else {
+        return Activity::Unknown;
+    };
+    match folder.try_lock_shared() {
+        Ok(()) => Activity::Idle,
+        Err(TryLockError::WouldBlock) => Activity::Builds,
+        Err(TryLockError::Error(_)) => Activity::Unknown,
     }
 }
 

@@ -13,6 +13,9 @@ question_of word =
     else if bytes_eq word (codes "fmt") then questions.Fmt
     else if bytes_eq word (codes "tasks") then questions.Tasks
     else if bytes_eq word (codes "graph") then questions.Graph
+    else if bytes_eq word (codes "reads") then questions.Reads
+    else if bytes_eq word (codes "makes") then questions.Makes
+    else if bytes_eq word (codes "status") then questions.Status
     else if bytes_eq word (codes "help") || bytes_eq word (codes "--help") then questions.Help
     else questions.Unknown
 

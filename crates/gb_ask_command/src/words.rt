@@ -13,6 +13,12 @@ pub enum Question {
     Tasks,
     /// The plan as a graph.
     Graph,
+    /// The tasks that read a place.
+    Reads,
+    /// The tasks that make a place.
+    Makes,
+    /// Whether a build runs, and what the files of `.gb` are.
+    Status,
     /// How to ask.
     Help,
     /// Nothing that is known.
@@ -52,6 +58,9 @@ pub fn question_of(word: &str) -> Question
         "fmt" => Question::Fmt,
         "tasks" => Question::Tasks,
         "graph" => Question::Graph,
+        "reads" => Question::Reads,
+        "makes" => Question::Makes,
+        "status" => Question::Status,
         "help" | "--help" => Question::Help,
         _ => Question::Unknown,
     }
@@ -86,6 +95,11 @@ gb_ask why [WORD ..]       what each task would come to, and why it would run
 gb_ask tasks [WORD ..]     every registered task, what it does and what it makes
 gb_ask graph [--tree | --mermaid | --svg] [WORD ..]
                            the plan as a graph: for Graphviz, where no form is named
+gb_ask reads PLACE [WORD ..]
+                           every task that reads the place, with the property that takes it in
+gb_ask makes PLACE [WORD ..]
+                           every task that makes the place, with the output
+gb_ask status [WORD ..]    whether a build runs, and what each file of `.gb` is
 gb_ask fmt [--write | --check] FILE ..
                            the files in one layout; `-` is standard input
 gb_ask help                this text

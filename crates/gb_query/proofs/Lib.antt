@@ -1,0 +1,2 @@
+mod Segments
+mod Members
