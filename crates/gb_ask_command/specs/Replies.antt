@@ -8,10 +8,11 @@ use Rattle.gb_meaning.specs.declared.events.Invocation.{Invocation}
 use Rattle.gb_plan.specs.Graph.{paths_of}
 use Rattle.gb_query.specs.Asked.{asked_place}
 use Rattle.gb_query.specs.Inventory.{AreEntriesOf}
-use Rattle.gb_query.specs.Lines.{found_text, status_text}
+use Rattle.gb_query.specs.Notation.{IsFoundText, IsStatusText}
 use Rattle.gb_query.specs.Search.{found_in}
 use Rattle.gb_query.specs.declared.inventory.Entry.{Entry}
 use Rattle.gb_query.specs.declared.lines.Activity.{Activity}
+use Rattle.gb_query.specs.declared.notation.Notation.{Notation}
 use Rattle.gb_query.specs.declared.search.Relation.{Relation}
 use Rattle.gb_registry.specs.Source.{Source}
 use Rattle.gb_registry.specs.Tables.{Tables}
@@ -51,14 +52,14 @@ module _ {M F Z S A : Type 0} (tables : Tables M F Z S A) (tells : Bool) (style 
       ((fault : Fault) × AreRefused given fault × (reply ≡ Err fault))
       ⊎ ((asked : Invocation) × AskFor given asked × IsGraphReply asked files reply)
 
-module _ {M F Z S A : Type 0} (tables : Tables M F Z S A) (tells : Bool) (relation : Relation) where
-  -- A text has a line for each thing that relates a task of some scripts to the place. Where the folder
-  -- tells, the scripts are its own.
+module _ {M F Z S A : Type 0} (tables : Tables M F Z S A) (tells : Bool) (notation : Notation) (relation : Relation) where
+  -- A text has what relates a task of some scripts to the place, and nothing else. Where the folder tells, the
+  -- scripts are its own.
   abbrev pub IsFoundReply : Invocation → Files → Place → Reply → Type 0
   IsFoundReply asked files place reply =
       IfOk reply (λ text. (source : Source)
       × (IsTrue tells → FolderSays tables files asked.properties (Ok source))
-      × (string_bytes text ≡ found_text (found_in relation place (registry_said tables source))))
+      × IsFoundText notation relation (found_in relation place (registry_said tables source)) (string_bytes text))
 
   -- the reply about a place, or that none is asked about
   abbrev pub IsReplyAbout : Invocation → Files → Reply → Result Place Fault → Type 0
@@ -72,15 +73,15 @@ module _ {M F Z S A : Type 0} (tables : Tables M F Z S A) (tells : Bool) (relati
       ⊎ ((asked : Invocation) × AskFor given asked
       × IsReplyAbout asked files reply (asked_place asked.requested))
 
-module _ {M F Z S A : Type 0} (tables : Tables M F Z S A) (tells : Bool) (activity : Activity) where
-  -- A text says whether a build runs, and has a line for each file of `.gb`. Where the folder tells, these are
-  -- its own, beside the tasks that its own scripts register.
+module _ {M F Z S A : Type 0} (tables : Tables M F Z S A) (tells : Bool) (notation : Notation) (activity : Activity) where
+  -- A text says whether a build runs, and what each file of `.gb` is. Where the folder tells, these are its
+  -- files, and the tasks are those that its scripts register.
   abbrev pub IsStatusReply : Invocation → Files → Reply → Type 0
   IsStatusReply asked files reply =
       IfOk reply (λ text. (source : Source) × (entries : List Entry)
       × (IsTrue tells → FolderSays tables files asked.properties (Ok source)
       × AreEntriesOf files (paths_of (registry_said tables source)) entries)
-      × (string_bytes text ≡ status_text activity entries))
+      × IsStatusText notation activity entries (string_bytes text))
 
   -- the words are refused, or they ask for something, and this is the reply to it
   abbrev pub RepliesStatus : Given → Files → Reply → Type 0

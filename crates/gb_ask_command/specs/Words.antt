@@ -1,5 +1,7 @@
 -- What the words behind the program's name ask.
 use Rattle.std.specs.Prelude.{ℕ, ◌||◌, List, Option, Some, None, bytes_eq, codes, if◌then◌else◌}
+use Rattle.gb_query.specs.declared.notation.Notation.{Notation}
+use Rattle.gb_query.specs.declared.notation.Notation.TheVariants as notations
 use Rattle.gb_ask_command.specs.declared.words.Mode.{Mode}
 use Rattle.gb_ask_command.specs.declared.words.Mode.TheVariants as modes
 use Rattle.gb_ask_command.specs.declared.words.Question.{Question}
@@ -25,6 +27,9 @@ style_of word =
     else if bytes_eq word (codes "--mermaid") then Some styles.Mermaid
     else if bytes_eq word (codes "--svg") then Some styles.Svg
     else None
+
+abbrev pub notation_of : List ℕ → Option Notation
+notation_of word = if bytes_eq word (codes "--json") then Some notations.Json else None
 
 abbrev pub mode_of : List ℕ → Option Mode
 mode_of word =

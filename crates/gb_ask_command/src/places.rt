@@ -6,7 +6,7 @@ ghost use Rattle.gb_declare.specs.Registered.{registry_said};
 ghost use Rattle.gb_folder.specs.Calls.{Asks, no_change};
 ghost use Rattle.gb_printer.specs.Printing.{Prints};
 ghost use Rattle.gb_query.specs.Asked.{asked_place};
-ghost use Rattle.gb_query.specs.Lines.{found_text};
+ghost use Rattle.gb_query.specs.Notation.{IsFoundText};
 ghost use Rattle.gb_query.specs.Search.{found_in};
 ghost use Rattle.gb_registry.specs.Tables.{tables_of};
 ghost use Rattle.gb_ask_command.specs.Reply.{Reply as Replied, reply_status, reply_text};
@@ -23,7 +23,7 @@ use gb_printer::printer::Printer;
 use gb_project::script_tasks::ScriptTasks;
 use gb_provider::transforms::Transforms;
 use gb_query::asked::asked_place;
-use gb_query::lines::found_text;
+use gb_query::notation::{Notation, write_found};
 use gb_query::search::{Relation, search};
 use gb_registry::configured::Configured;
 use gb_registry::tables::Tables;
@@ -32,12 +32,12 @@ use std::alloc::Global;
 
 /// Prints a line for each file property that takes the place in, or for each output at or above it, in the
 /// order of registration: the path of the task, and the name. A task that cannot be read has a line with its
-/// fault. The first word is the place; of the others the values of properties count, and no other. The
-/// status is 0, or 1 where the place or the scripts are refused, and 2 where no place or more than one is
-/// named.
+/// fault. Of the words the place and the values of properties count, and no other. The status is 0, or 1
+/// where the place or the scripts are refused, and 2 where no place or more than one is named.
 pub fn run<A: Actions, T: Transforms, F: Folder, W: Printer>(
     alloc: Global,
     folder: &mut F,
+    notation: Notation,
     relation: Relation,
     words: Result<Vec<String>, Fault>,
     writer: &mut W,
@@ -47,7 +47,7 @@ pub fn run<A: Actions, T: Transforms, F: Folder, W: Printer>(
     ensures asks { Asks F.failures F.may_leave F.asked no_change folder.old folder.new }
     ensures same { IsTrue F.tells → F.contents folder.new ≡ F.contents folder.old }
     ensures told { (reply : Replied)
-        × RepliesPlace (tables_of T.meanings A.meanings tables.now) F.tells relation
+        × RepliesPlace (tables_of T.meanings A.meanings tables.now) F.tells notation relation
         (given_of (λ words. map string_bytes words.items) words)
         (F.contents folder.old).files reply
         × Prints W.contents W.whole (reply_text reply) writer.old writer.new
@@ -55,7 +55,7 @@ pub fn run<A: Actions, T: Transforms, F: Folder, W: Printer>(
         Appends (W.contents writer.old) (W.contents writer.new) (reply_text reply)
         × (status ≡ reply_status reply)) }
 {
-    let reply = replied(alloc, folder, relation, words, tables);
+    let reply = replied(alloc, folder, notation, relation, words, tables);
     let status = print_reply(alloc, writer, &reply);
     drop(reply);
     status
@@ -64,18 +64,19 @@ pub fn run<A: Actions, T: Transforms, F: Folder, W: Printer>(
 fn replied<A: Actions, T: Transforms, F: Folder>(
     alloc: Global,
     folder: &mut F,
+    notation: Notation,
     relation: Relation,
     words: Result<Vec<String>, Fault>,
     tables: &Tables<A, T>,
 ) -> Reply
     ensures asks { Asks F.failures F.may_leave F.asked no_change folder.old folder.new }
     ensures same { IsTrue F.tells → F.contents folder.new ≡ F.contents folder.old }
-    ensures replies { RepliesPlace (tables_of T.meanings A.meanings tables.now) F.tells relation
+    ensures replies { RepliesPlace (tables_of T.meanings A.meanings tables.now) F.tells notation relation
         (given_of (λ words. map string_bytes words.items) words)
         (F.contents folder.old).files result }
 {
     match asked_by(alloc, words) {
-        Ok(asked) => answer(alloc, folder, relation, tables, &asked),
+        Ok(asked) => answer(alloc, folder, notation, relation, tables, &asked),
         Err(fault) => Err(fault),
     }
 }
@@ -84,17 +85,18 @@ fn replied<A: Actions, T: Transforms, F: Folder>(
 fn answer<A: Actions, T: Transforms, F: Folder>(
     alloc: Global,
     folder: &mut F,
+    notation: Notation,
     relation: Relation,
     tables: &Tables<A, T>,
     asked: &Invocation,
 ) -> Reply
     ensures asks { Asks F.failures F.may_leave F.asked no_change folder.old folder.new }
     ensures same { IsTrue F.tells → F.contents folder.new ≡ F.contents folder.old }
-    ensures reply { IsReplyAbout (tables_of T.meanings A.meanings tables.now) F.tells relation asked.now
+    ensures reply { IsReplyAbout (tables_of T.meanings A.meanings tables.now) F.tells notation relation asked.now
         (F.contents folder.old).files result (asked_place asked.now.requested) }
 {
     match asked_place(alloc, asked.requested.as_slice()) {
-        Ok(place) => search_folder(alloc, folder, relation, tables, asked, &place),
+        Ok(place) => search_folder(alloc, folder, notation, relation, tables, asked, &place),
         Err(fault) => Err(fault),
     }
 }
@@ -103,6 +105,7 @@ fn answer<A: Actions, T: Transforms, F: Folder>(
 fn search_folder<A: Actions, T: Transforms, F: Folder>(
     alloc: Global,
     folder: &mut F,
+    notation: Notation,
     relation: Relation,
     tables: &Tables<A, T>,
     asked: &Invocation,
@@ -110,28 +113,29 @@ fn search_folder<A: Actions, T: Transforms, F: Folder>(
 ) -> Reply
     ensures asks { Asks F.failures F.may_leave F.asked no_change folder.old folder.new }
     ensures same { IsTrue F.tells → F.contents folder.new ≡ F.contents folder.old }
-    ensures reply { IsFoundReply (tables_of T.meanings A.meanings tables.now) F.tells relation asked.now
+    ensures reply { IsFoundReply (tables_of T.meanings A.meanings tables.now) F.tells notation relation asked.now
         (F.contents folder.old).files place.now result }
 {
     let copied = asked.properties.copy(alloc)?;
     let given = copied.into_vec();
     let configured = read_registry(alloc, folder, tables, given)?;
-    search_registered(alloc, relation, &configured, place)
+    search_registered(alloc, notation, relation, &configured, place)
 }
 
 fn search_registered<A: Actions, T: Transforms>(
     alloc: Global,
+    notation: Notation,
     relation: Relation,
     configured: &Configured<'_, A, T>,
     place: &Place,
 ) -> Reply
     ensures { let tables = tables_of T.meanings A.meanings configured.now.tables.now in
-        IfOk result (λ text. string_bytes text
-        ≡ found_text (found_in relation place.now (registry_said tables configured.now.registry))) }
+        IfOk result (λ text. IsFoundText notation relation
+        (found_in relation place.now (registry_said tables configured.now.registry)) (string_bytes text)) }
 {
     let _registered = configured.registry.tasks();
     let names = configured.registry.names(alloc)?;
     let mut tasks = ScriptTasks::declare(alloc, configured)?;
     let found = search(alloc, relation, &mut tasks, names.as_slice(), place)?;
-    Ok(found_text(alloc, found.as_slice())?)
+    Ok(write_found(alloc, notation, relation, found.as_slice())?)
 }

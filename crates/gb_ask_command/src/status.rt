@@ -20,7 +20,8 @@ use gb_meaning::events::Invocation;
 use gb_printer::printer::Printer;
 use gb_provider::transforms::Transforms;
 use gb_query::inventory::{Entry, inventory};
-use gb_query::lines::{Activity, status_text};
+use gb_query::lines::Activity;
+use gb_query::notation::{Notation, write_status};
 use gb_registry::configured::Configured;
 use gb_registry::tables::Tables;
 use gb_report::fault::Fault;
@@ -32,6 +33,7 @@ use std::alloc::Global;
 pub fn run<A: Actions, T: Transforms, F: Folder, W: Printer>(
     alloc: Global,
     folder: &mut F,
+    notation: Notation,
     activity: Activity,
     words: Result<Vec<String>, Fault>,
     writer: &mut W,
@@ -41,7 +43,7 @@ pub fn run<A: Actions, T: Transforms, F: Folder, W: Printer>(
     ensures asks { Asks F.failures F.may_leave F.asked no_change folder.old folder.new }
     ensures same { IsTrue F.tells → F.contents folder.new ≡ F.contents folder.old }
     ensures told { (reply : Replied)
-        × RepliesStatus (tables_of T.meanings A.meanings tables.now) F.tells activity
+        × RepliesStatus (tables_of T.meanings A.meanings tables.now) F.tells notation activity
         (given_of (λ words. map string_bytes words.items) words)
         (F.contents folder.old).files reply
         × Prints W.contents W.whole (reply_text reply) writer.old writer.new
@@ -49,7 +51,7 @@ pub fn run<A: Actions, T: Transforms, F: Folder, W: Printer>(
         Appends (W.contents writer.old) (W.contents writer.new) (reply_text reply)
         × (status ≡ reply_status reply)) }
 {
-    let reply = replied(alloc, folder, activity, words, tables);
+    let reply = replied(alloc, folder, notation, activity, words, tables);
     let status = print_reply(alloc, writer, &reply);
     drop(reply);
     status
@@ -58,18 +60,19 @@ pub fn run<A: Actions, T: Transforms, F: Folder, W: Printer>(
 fn replied<A: Actions, T: Transforms, F: Folder>(
     alloc: Global,
     folder: &mut F,
+    notation: Notation,
     activity: Activity,
     words: Result<Vec<String>, Fault>,
     tables: &Tables<A, T>,
 ) -> Reply
     ensures asks { Asks F.failures F.may_leave F.asked no_change folder.old folder.new }
     ensures same { IsTrue F.tells → F.contents folder.new ≡ F.contents folder.old }
-    ensures replies { RepliesStatus (tables_of T.meanings A.meanings tables.now) F.tells activity
+    ensures replies { RepliesStatus (tables_of T.meanings A.meanings tables.now) F.tells notation activity
         (given_of (λ words. map string_bytes words.items) words)
         (F.contents folder.old).files result }
 {
     match asked_by(alloc, words) {
-        Ok(asked) => look(alloc, folder, activity, tables, &asked),
+        Ok(asked) => look(alloc, folder, notation, activity, tables, &asked),
         Err(fault) => Err(fault),
     }
 }
@@ -78,20 +81,21 @@ fn replied<A: Actions, T: Transforms, F: Folder>(
 fn look<A: Actions, T: Transforms, F: Folder>(
     alloc: Global,
     folder: &mut F,
+    notation: Notation,
     activity: Activity,
     tables: &Tables<A, T>,
     asked: &Invocation,
 ) -> Reply
     ensures asks { Asks F.failures F.may_leave F.asked no_change folder.old folder.new }
     ensures same { IsTrue F.tells → F.contents folder.new ≡ F.contents folder.old }
-    ensures reply { IsStatusReply (tables_of T.meanings A.meanings tables.now) F.tells activity asked.now
+    ensures reply { IsStatusReply (tables_of T.meanings A.meanings tables.now) F.tells notation activity asked.now
         (F.contents folder.old).files result }
 {
     let copied = asked.properties.copy(alloc)?;
     let given = copied.into_vec();
     let configured = read_registry(alloc, folder, tables, given)?;
     let entries = look_beside(alloc, folder, &configured)?;
-    Ok(status_text(alloc, activity, entries.as_slice())?)
+    Ok(write_status(alloc, notation, activity, entries.as_slice())?)
 }
 
 /// What is in `.gb`, beside the tasks of these scripts.

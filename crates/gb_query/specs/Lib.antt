@@ -5,3 +5,5 @@ pub mod Inventory
 pub mod Lines
 pub mod Asked
 pub mod Laws
+pub mod Objects
+pub mod Notation

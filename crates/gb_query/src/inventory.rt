@@ -133,11 +133,7 @@ fn is_among(registered: &[TaskPath], path: &TaskPath) -> bool
 }
 
 /// Whether there is a record of the task.
-fn has_record<F: Folder>(
-    alloc: Global,
-    folder: &mut F,
-    path: &TaskPath,
-) -> Result<bool, Fault>
+fn has_record<F: Folder>(alloc: Global, folder: &mut F, path: &TaskPath) -> Result<bool, Fault>
     ensures asks { Asks F.failures F.may_leave F.asked no_change folder.old folder.new }
     ensures same { IsTrue F.tells → F.contents folder.new ≡ F.contents folder.old }
     ensures read { IsTrue F.tells → IfOk result (λ has_record. (read : Option Record)

@@ -7,5 +7,7 @@ pub mod inventory;
 pub mod laws;
 pub mod lines;
 pub mod membership;
+pub mod notation;
+pub mod objects;
 pub mod owner;
 pub mod search;

@@ -1,6 +1,7 @@
 //! The task whose record belongs at a place.
 ghost use Rattle.std.specs.Prelude.{◌≡◌, ◌↔◌, ◌==◌, ℕ, List, Some, IfOk, IsSomeAnd, IsTrue, if◌then◌else◌};
 ghost use Rattle.gb_core.specs.Path.{is_task_path};
+ghost use Rattle.gb_core.specs.Place.{is_place};
 ghost use Rattle.gb_history.specs.Places.{record_place, slashed};
 ghost use Rattle.gb_query.specs.Owner.{IsOwner, coloned};
 
@@ -21,15 +22,11 @@ pub fn owner_of(alloc: Global, place: &Place) -> Result<Option<TaskPath>, AllocE
 }
 
 /// The task, if its record belongs at the place.
-fn confirmed(
-    alloc: Global,
-    path: TaskPath,
-    place: &Place,
-) -> Result<Option<TaskPath>, AllocError>
+fn confirmed(alloc: Global, path: TaskPath, place: &Place) -> Result<Option<TaskPath>, AllocError>
     requires { (other : List ℕ) → IsTrue (is_task_path other) → record_place other ≡ place.now → path ≡ other }
     ensures { IfOk result (IsOwner place.now) }
 {
-    if belongs(alloc, &path, place)? {
+    if belongs(alloc, &path, place.as_str())? {
         Ok(Some(path))
     } else {
         Ok(None)
@@ -37,13 +34,14 @@ fn confirmed(
 }
 
 /// Whether the record of the task belongs at the place.
-fn belongs(alloc: Global, path: &TaskPath, place: &Place) -> Result<bool, AllocError>
+fn belongs(alloc: Global, path: &TaskPath, place: &str) -> Result<bool, AllocError>
+    requires { IsTrue (is_place place.now) }
     ensures at { IfOk result (λ belongs. IsTrue belongs ↔ (record_place path.now ≡ place.now)) }
     ensures path { IsTrue (is_task_path path.now) }
 {
     let _text = path.as_str();
     match record_place(alloc, path) {
-        Ok(own) => Ok(own == *place),
+        Ok(own) => Ok(own.as_str() == place),
         Err(PlaceFault::OutOfMemory) => Err(AllocError),
         Err(PlaceFault::BadPlace) => Ok(false),
     }
@@ -65,9 +63,7 @@ fn middle(place: &[u8]) -> Option<&[u8]>
     ensures { (path : List ℕ) → record_place path ≡ place.now
         → IsSomeAnd result (λ text. text.now ≡ slashed path) }
 {
-    place
-        .strip_prefix(b".gb/tasks")?
-        .strip_suffix(b".record")
+    place.strip_prefix(b".gb/tasks")?.strip_suffix(b".record")
 }
 
 /// The path that this text is once its slashes are colons, if it is one.

@@ -1,0 +1,16 @@
+use Rattle.std.proofs.Common.{◌≡◌, ap, subst, sym, ◌∙◌}
+use Rattle.gb_plan.specs.Graph.{paths_of}
+use Rattle.gb_registry.specs.Source.{Source}
+use Rattle.gb_registry.specs.Tables.{tables_of}
+use Rattle.gb_declare.specs.Registered.{registry_said}
+use Rattle.gb_project.proofs.SoundLemmas.{paths_said}
+use Rattle.gb_project.specs.Scripts.{registry_in}
+use Rattle.gb_ask_command.proofs.places.search_registered.Goals as goal
+
+pub search-requires : goal.search-requires
+search-requires g c =
+    let tasks = c.in_ok-tasks.tasks in
+    let source : Source = c.args.configured.now.registry in
+    let tables = tables_of g.T.Transforms.meanings g.A.Actions.meanings c.args.configured.now.tables.now in
+    let same : registry_in g.T.Transforms.meanings g.A.Actions.meanings tasks.workspace ≡ registry_said tables source = c.in_ok-tasks.ensures.registry in
+    c.as_slice.ensures.value ∙ c.in_ok-names.ensures ∙ sym c.tasks-registered.ensures.tasks ∙ c.tasks-registered.ensures.registered ∙ sym (paths_said tables source) ∙ ap paths_of (sym same)
