@@ -1,6 +1,6 @@
 -- Answers as JSON are shallow, so that they read back.
-use Rattle.std.proofs.Common.{ℕ, ◌≡◌, ◌≤◌, max, List, [], ◌∷◌, map, arith}
-use Rattle.serde_json.specs.Data.{Data, array, depth, items_depth}
+use Rattle.std.proofs.Common.{ℕ, ◌≤◌, List, [], ◌∷◌, map, arith}
+use Rattle.serde_json.specs.Data.{Data, depth, items_depth}
 use Rattle.serde_json.specs.Read.{max_depth}
 use Rattle.serde_json.specs.View.{items_of}
 use Rattle.gb_query.specs.Objects.{entry_object, found_data, found_object, status_data}

@@ -1,5 +1,5 @@
 -- The files of a property are those whose places it takes in.
-use Rattle.std.proofs.Common.{◌≡◌, ℕ, Bool, true, false, cond, not, ◌&&◌, ◌||◌, List, [], ◌∷◌, map, refl, sym, ap, ◌∙◌}
+use Rattle.std.proofs.Common.{◌≡◌, ℕ, Bool, true, false, cond, not, ◌&&◌, ◌||◌, List, [], ◌∷◌, refl, sym, ap, ◌∙◌}
 use Rattle.std.proofs.lemmas.Bool.{false≢true}
 use Rattle.std.proofs.lemmas.Map.Views.{any-filter_same}
 use Rattle.std.specs.List.{filter, flat_map, list_any}
@@ -11,7 +11,7 @@ use Rattle.gb_core.proofs.Found.{find-other, find-same}
 use Rattle.gb_folder.specs.Files.{Bytes, Files, Place, file_at, files_under, places_under}
 use Rattle.gb_plan.proofs.Tests.{any_append, any_map}
 use Rattle.gb_plan.specs.declared.task.FileProperty.{FileProperty}
-use Rattle.gb_tree.specs.Property.{distinct, entries_in, entries_of, entry_order, found, in_order, inserted, is_in, path_of}
+use Rattle.gb_tree.specs.Property.{distinct, entries_in, entry_order, found, in_order, inserted, is_in, path_of}
 use Rattle.gb_tree.specs.Tree.{Entries, is_among}
 use Rattle.gb_query.specs.Laws.{FilesAreTakenIn}
 use Rattle.gb_query.specs.Membership.{takes_in, takes_in_from}

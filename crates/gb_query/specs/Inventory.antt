@@ -1,5 +1,5 @@
 -- What each file of `.gb` is.
-use Rattle.std.specs.Prelude.{◌≡◌, false, List, Option, Some, None, IsTrue, codes}
+use Rattle.std.specs.Prelude.{◌≡◌, false, List, Some, None, IsTrue, codes}
 use Rattle.std.specs.List.{AllZip}
 use Rattle.gb_folder.specs.Files.{Files, Place, places_under}
 use Rattle.gb_history.specs.Record.{Record}

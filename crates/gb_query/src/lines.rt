@@ -25,10 +25,9 @@ fn push_found(text: &mut String, found: &Found) -> Result<(), AllocError>
     ensures { OnOk result (string_bytes text.new ≡ string_bytes text.old ++ found_line found.now) }
 {
     match found {
-        Found::Related(path, name) => write!(text, "{path} {name}")?,
-        Found::Unreadable(path, fault) => write!(text, "{path} cannot be read: {fault}")?,
+        Found::Related(path, name) => write!(text, "{path} {name}\n"),
+        Found::Unreadable(path, fault) => write!(text, "{path} cannot be read: {fault}\n"),
     }
-    text.push('\n')
 }
 
 /// Whether a build of the folder runs.

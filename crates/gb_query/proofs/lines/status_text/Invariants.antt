@@ -5,4 +5,4 @@ use Rattle.gb_query.specs.Lines.{activity_text, entry_text}
 use Rattle.gb_query.proofs.lines.status_text.Given as goal
 
 abbrev pub invariant-loop-entry : goal.invariant-loop-entry
-invariant-loop-entry l = string_bytes l.text ≡ line (activity_text l.activity) ++ flat_map (λ entry. line (entry_text entry)) (take l.entry-index l.entries)
+invariant-loop-entry l = string_bytes l.text ≡ line (activity_text l.fn.activity) ++ flat_map (λ entry. line (entry_text entry)) (take l.entry-index l.entries)

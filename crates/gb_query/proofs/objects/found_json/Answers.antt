@@ -1,7 +1,7 @@
-use Rattle.std.proofs.Common.{◌≡◌, ◌≤◌, map, rules, sym, subst, ap, ◌∙◌}
-use Rattle.serde_json.specs.Data.{Data, array, depth}
+use Rattle.std.proofs.Common.{◌≡◌, ◌≤◌, rules, sym, subst}
+use Rattle.serde_json.specs.Data.{Data, depth}
 use Rattle.serde_json.specs.Read.{max_depth}
-use Rattle.serde_json.specs.View.{items_of, view}
+use Rattle.serde_json.specs.View.{view}
 use Rattle.serde_json.specs.declared.value.Value.{the_lemmas}
 use Rattle.serde_json.specs.declared.value.Value.TheVariants as values
 use Rattle.gb_query.specs.Objects.{found_data}

@@ -2,7 +2,7 @@ use Rattle.std.proofs.Common.{List, ap, subst, sym, ◌∙◌}
 use Rattle.std.specs.Prelude.{IsTrue, bytes_eq}
 use Rattle.std.specs.Cmp.Lexicographic.{bytes_decides}
 use Rattle.std.proofs.lemmas.List.Folds.{list_any_at}
-use Rattle.gb_plan.specs.Graph.{Registry, paths_of}
+use Rattle.gb_plan.specs.Graph.{paths_of}
 use Rattle.gb_plan.specs.Task.{Path, has_path}
 use Rattle.gb_query.proofs.search.search.Goals as goal
 
