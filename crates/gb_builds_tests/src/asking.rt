@@ -272,7 +272,7 @@ fn is_status<A: Actions, T: Transforms>(alloc: Global, tables: &Tables<A, T>) ->
         alloc,
         &mut folder,
         "build.gb",
-        b"register other\nregister report",
+        b"register other {}\nregister report {}",
     )?;
     put_bytes(alloc, &mut folder, ".gb/tasks/other.record", b"x")?;
     put_bytes(alloc, &mut folder, ".gb/tasks/other.txt", b"x")?;
