@@ -1,5 +1,5 @@
 -- What is replied to words.
-use Rattle.std.specs.Prelude.{◌≡◌, ◌⊎◌, Bool, IsTrue, IfOk, List, Ok, Err, Result, string_bytes}
+use Rattle.std.specs.Prelude.{◌≡◌, ◌⊎◌, Bool, IsTrue, IfOk, Ok, Err, Result, string_bytes}
 use Rattle.gb_build.specs.Scripts.{FolderSays}
 use Rattle.gb_command.specs.Answered.{AreRefused, AskFor, Given}
 use Rattle.gb_declare.specs.Registered.{registry_said}
@@ -7,10 +7,8 @@ use Rattle.gb_folder.specs.Files.{Files, Place}
 use Rattle.gb_meaning.specs.declared.events.Invocation.{Invocation}
 use Rattle.gb_plan.specs.Graph.{paths_of}
 use Rattle.gb_query.specs.Asked.{asked_place}
-use Rattle.gb_query.specs.Inventory.{AreEntriesOf}
-use Rattle.gb_query.specs.Notation.{IsFoundText, IsStatusText}
+use Rattle.gb_query.specs.Notation.{IsFoundText, IsStatusOf}
 use Rattle.gb_query.specs.Search.{found_in}
-use Rattle.gb_query.specs.declared.inventory.Entry.{Entry}
 use Rattle.gb_query.specs.declared.lines.Activity.{Activity}
 use Rattle.gb_query.specs.declared.notation.Notation.{Notation}
 use Rattle.gb_query.specs.declared.search.Relation.{Relation}
@@ -78,10 +76,9 @@ module _ {M F Z S A : Type 0} (tables : Tables M F Z S A) (tells : Bool) (notati
   -- files, and the tasks are those that its scripts register.
   abbrev pub IsStatusReply : Invocation → Files → Reply → Type 0
   IsStatusReply asked files reply =
-      IfOk reply (λ text. (source : Source) × (entries : List Entry)
-      × (IsTrue tells → FolderSays tables files asked.properties (Ok source)
-      × AreEntriesOf files (paths_of (registry_said tables source)) entries)
-      × IsStatusText notation activity entries (string_bytes text))
+      IfOk reply (λ text. (source : Source)
+      × (IsTrue tells → FolderSays tables files asked.properties (Ok source))
+      × IsStatusOf tells notation activity files (paths_of (registry_said tables source)) (string_bytes text))
 
   -- the words are refused, or they ask for something, and this is the reply to it
   abbrev pub RepliesStatus : Given → Files → Reply → Type 0

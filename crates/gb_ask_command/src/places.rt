@@ -22,9 +22,10 @@ use gb_meaning::events::Invocation;
 use gb_printer::printer::Printer;
 use gb_project::script_tasks::ScriptTasks;
 use gb_provider::transforms::Transforms;
+use gb_query::answers::search_text;
 use gb_query::asked::asked_place;
-use gb_query::notation::{Notation, write_found};
-use gb_query::search::{Relation, search};
+use gb_query::notation::Notation;
+use gb_query::search::Relation;
 use gb_registry::configured::Configured;
 use gb_registry::tables::Tables;
 use gb_report::fault::Fault;
@@ -136,6 +137,12 @@ fn search_registered<A: Actions, T: Transforms>(
     let _registered = configured.registry.tasks();
     let names = configured.registry.names(alloc)?;
     let mut tasks = ScriptTasks::declare(alloc, configured)?;
-    let found = search(alloc, relation, &mut tasks, names.as_slice(), place)?;
-    Ok(write_found(alloc, notation, relation, found.as_slice())?)
+    search_text(
+        alloc,
+        notation,
+        relation,
+        &mut tasks,
+        names.as_slice(),
+        place,
+    )
 }

@@ -6,7 +6,7 @@ ghost use Rattle.gb_declare.specs.Registered.{registry_said};
 ghost use Rattle.gb_folder.specs.Calls.{Asks, no_change};
 ghost use Rattle.gb_printer.specs.Printing.{Prints};
 ghost use Rattle.gb_plan.specs.Graph.{paths_of};
-ghost use Rattle.gb_query.specs.Inventory.{AreEntriesOf};
+ghost use Rattle.gb_query.specs.Notation.{IsStatusOf};
 ghost use Rattle.gb_registry.specs.Tables.{tables_of};
 ghost use Rattle.gb_ask_command.specs.Reply.{Reply as Replied, reply_status, reply_text};
 ghost use Rattle.gb_ask_command.specs.Replies.{IsStatusReply, RepliesStatus};
@@ -19,9 +19,9 @@ use gb_folder::folder::Folder;
 use gb_meaning::events::Invocation;
 use gb_printer::printer::Printer;
 use gb_provider::transforms::Transforms;
-use gb_query::inventory::{Entry, inventory};
+use gb_query::answers::inventory_text;
 use gb_query::lines::Activity;
-use gb_query::notation::{Notation, write_status};
+use gb_query::notation::Notation;
 use gb_registry::configured::Configured;
 use gb_registry::tables::Tables;
 use gb_report::fault::Fault;
@@ -94,23 +94,24 @@ fn look<A: Actions, T: Transforms, F: Folder>(
     let copied = asked.properties.copy(alloc)?;
     let given = copied.into_vec();
     let configured = read_registry(alloc, folder, tables, given)?;
-    let entries = look_beside(alloc, folder, &configured)?;
-    Ok(write_status(alloc, notation, activity, entries.as_slice())?)
+    look_beside(alloc, folder, notation, activity, &configured)
 }
 
 /// What is in `.gb`, beside the tasks of these scripts.
 fn look_beside<A: Actions, T: Transforms, F: Folder>(
     alloc: Global,
     folder: &mut F,
+    notation: Notation,
+    activity: Activity,
     configured: &Configured<'_, A, T>,
-) -> Result<Vec<Entry>, Fault>
+) -> Reply
     ensures asks { Asks F.failures F.may_leave F.asked no_change folder.old folder.new }
     ensures same { IsTrue F.tells → F.contents folder.new ≡ F.contents folder.old }
-    ensures entries { IsTrue F.tells → let tables = tables_of T.meanings A.meanings configured.now.tables.now in
-        IfOk result (λ entries. AreEntriesOf (F.contents folder.old).files
-        (paths_of (registry_said tables configured.now.registry)) entries.items) }
+    ensures text { let tables = tables_of T.meanings A.meanings configured.now.tables.now in
+        IfOk result (λ text. IsStatusOf F.tells notation activity (F.contents folder.old).files
+        (paths_of (registry_said tables configured.now.registry)) (string_bytes text)) }
 {
     let _registered = configured.registry.tasks();
     let names = configured.registry.names(alloc)?;
-    inventory(alloc, folder, names.as_slice())
+    inventory_text(alloc, notation, activity, folder, names.as_slice())
 }

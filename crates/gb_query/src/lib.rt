@@ -2,6 +2,7 @@
 //! it, and what each file of `.gb` is.
 #![tactic(auto)]
 
+pub mod answers;
 pub mod asked;
 pub mod inventory;
 pub mod laws;
