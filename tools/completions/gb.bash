@@ -3,7 +3,7 @@ _gb() {
     local word=${COMP_WORDS[COMP_CWORD]} before=${COMP_WORDS[*]:1:COMP_CWORD-1}
     COMPREPLY=()
     if [[ ${COMP_WORDS[0]##*/} == gb_ask && $COMP_CWORD == 1 ]]; then
-        COMPREPLY=($(compgen -W 'why tasks graph fmt help' -- "$word"))
+        COMPREPLY=($(compgen -W 'why tasks graph reads makes status fmt help' -- "$word"))
         return
     fi
     case ${COMP_WORDS[0]##*/}:${COMP_WORDS[1]} in
@@ -16,6 +16,9 @@ _gb() {
     gb_ask:graph)
         [[ $COMP_CWORD == 2 && $word == --* ]] &&
             COMPREPLY=($(compgen -W '--tree --mermaid --svg' -- "$word")) ;;
+    gb_ask:reads | gb_ask:makes | gb_ask:status)
+        [[ $COMP_CWORD == 2 && $word == --* ]] && COMPREPLY=($(compgen -W '--json' -- "$word"))
+        [[ ${COMP_WORDS[1]} != status ]] && COMPREPLY+=($(compgen -f -- "$word")) ;;
     gb_ask:help) return ;;
     esac
     case " $before " in

@@ -1,12 +1,15 @@
 //! What may be asked of the current folder, with the built-in kinds and functions: `gb_ask why`, `tasks`,
-//! `graph` and `fmt`. It changes nothing but by `fmt --write`, which alone takes the locks of a build.
+//! `graph`, `reads`, `makes`, `status` and `fmt`. It changes nothing but by `fmt --write`, which alone takes the
+//! locks of a build; `status` tries one for a moment.
 #![tactic(auto)]
 
 use gb_action::actions::Actions;
 use gb_action::table::ActionTable;
 use gb_answer::{builtin_actions, builtin_functions};
-use gb_ask_command::words::{Mode, Question, Style, USAGE, mode_of, question_of, style_of};
-use gb_ask_command::{fmt, graph, tasks, why};
+use gb_ask_command::words::{
+    Mode, Question, Style, USAGE, mode_of, notation_of, question_of, style_of,
+};
+use gb_ask_command::{fmt, graph, places, status, tasks, why};
 use gb_command::run::UNPRINTED;
 use gb_disk::disk::DiskFolder;
 use gb_folder::folder::Folder;
@@ -16,9 +19,12 @@ use gb_kinds::builtin::{Builtin, StoredAction};
 use gb_printer::page::Page;
 use gb_printer::printer::Printer;
 use gb_provider::transforms::Transforms;
+use gb_query::lines::Activity;
+use gb_query::notation::Notation;
+use gb_query::search::Relation;
 use gb_registry::tables::Tables;
 use std::alloc::{AllocError, Global};
-use std::fs::File;
+use std::fs::{File, TryLockError};
 use std::io::{self, BufWriter, Read};
 use std::process::ExitCode;
 
@@ -80,9 +86,62 @@ fn asked<A: Actions, T: Transforms, W: Printer>(
         Question::Why => why::run(alloc, &mut folder, Ok(words), page, tables),
         Question::Tasks => tasks::run(alloc, &mut folder, Ok(words), page, tables),
         Question::Graph => drawn(alloc, &mut folder, words, page, tables),
+        Question::Reads => related(alloc, &mut folder, Relation::Reads, words, page, tables),
+        Question::Makes => related(alloc, &mut folder, Relation::Makes, words, page, tables),
+        Question::Status => looked(alloc, &mut folder, activity(rt), words, page, tables),
         Question::Fmt => formatted(rt, &mut folder, words, page),
         Question::Help => helped(page),
         Question::Unknown => Some(2),
+    }
+}
+
+/// The notation that the first word names, if it names one, and the other words.
+fn noted(words: Vec<String>) -> (Notation, Vec<String>) {
+    let mut words = words;
+    match words.first().and_then(|word| notation_of(word.as_str())) {
+        Some(notation) => {
+            words.remove(0);
+            (notation, words)
+        }
+        None => (Notation::Lines, words),
+    }
+}
+
+/// Prints the tasks that a place is related to.
+fn related<A: Actions, T: Transforms, F: Folder, W: Printer>(
+    alloc: Global,
+    folder: &mut F,
+    relation: Relation,
+    words: Vec<String>,
+    page: &mut W,
+    tables: &Tables<A, T>,
+) -> Option<u8> {
+    let (notation, words) = noted(words);
+    places::run(alloc, folder, notation, relation, Ok(words), page, tables)
+}
+
+/// Prints what the folder has beside its scripts.
+fn looked<A: Actions, T: Transforms, F: Folder, W: Printer>(
+    alloc: Global,
+    folder: &mut F,
+    activity: Activity,
+    words: Vec<String>,
+    page: &mut W,
+    tables: &Tables<A, T>,
+) -> Option<u8> {
+    let (notation, words) = noted(words);
+    status::run(alloc, folder, notation, activity, Ok(words), page, tables)
+}
+
+/// Whether a build of the current folder runs: whether it holds the lock on the folder.
+fn activity(rt: &HostRuntime) -> Activity {
+    let Ok(folder) = File::open(rt, ".") else {
+        return Activity::Unknown;
+    };
+    match folder.try_lock_shared() {
+        Ok(()) => Activity::Idle,
+        Err(TryLockError::WouldBlock) => Activity::Builds,
+        Err(TryLockError::Error(_)) => Activity::Unknown,
     }
 }
 

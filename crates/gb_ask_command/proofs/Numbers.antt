@@ -1,43 +1,56 @@
--- The number of a task in a plan, and the numbers of those of some tasks that are in it.
-use Rattle.std.proofs.Common.{ℕ, zero, suc, ◌≡◌, ◌<◌, Bool, true, false, cond, ◌||◌, List, [], ◌∷◌, ◌++◌, Some, None, length, get_or, map, refl, ap, sym, ◌∙◌, append_assoc}
-use Rattle.std.specs.Prelude.{bytes_eq, option_map, slice_get, unwrap_or}
-use Rattle.std.specs.List.{filter, list_any}
+-- The numbers of those of some tasks that are in a plan.
+use Rattle.std.proofs.Common.{ℕ, zero, suc, ◌≡◌, ◌<◌, Bool, true, false, cond, ◌||◌, List, [], ◌∷◌, Option, Some, None, length, get_or, map, refl, ap, ap₂, sym, ◌∙◌, arith}
+use Rattle.std.specs.Prelude.{bytes_eq, slice_get, slice_index_or, unwrap_or}
+use Rattle.std.specs.List.{cons_option, filter, list_any}
 use Rattle.std.specs.Cmp.Lexicographic.{bytes_decides}
-use Rattle.std.proofs.lemmas.Option.{slice_get-map, slice_get_read}
+use Rattle.gb_graph.specs.Ranked.{Numbers, TellNumbers, number_at, numbers_in}
 use Rattle.gb_plan.proofs.Tests.{or_right}
 use Rattle.gb_plan.specs.Graph.{Plan, is_scheduled_in, order}
-use Rattle.gb_plan.specs.Task.{Path}
-use Rattle.gb_plan.specs.declared.plan.Planned.{Planned}
-use Rattle.gb_ask_command.specs.Graph.{IsNumberOf, path_at}
-
--- ---- The number of a task
-
-abbrev path_of : Planned → Path
-path_of planned = planned.task.path
+use Rattle.gb_plan.specs.Task.{Path, has_path}
+use Rattle.gb_ask_command.specs.Graph.{path_at}
 
 pub any_at : {X : Type 0} (p : X → Bool) (xs : List X) (i : ℕ) (y : X) → slice_get xs i ≡ Some y → p y ≡ true → list_any p xs ≡ true
 any_at p [] i y e h = absurd (cc)
 any_at p (x ∷ xs) zero y e h = let same : x ≡ y = cc in ap (λ b. b || list_any p xs) (ap p same ∙ h)
 any_at p (x ∷ xs) (suc i) y e h = or_right (p x) (list_any p xs) (any_at p xs i y e h)
 
-pub is_number : (plan : Plan) (path : Path) (i : ℕ) (x : Planned) → i < length plan → x ≡ get_or plan i x → bytes_eq x.task.path path ≡ true
-    → IsNumberOf plan path i
-is_number plan path i x lt is equal =
-    let same : x.task.path ≡ path = (bytes_decides x.task.path path).0 equal in
-    let found : slice_get (order plan) i ≡ Some x.task.path = slice_get-map path_of plan i ∙ ap (option_map path_of) (slice_get_read plan (length plan) i x refl lt is) in
-    record {
-      scheduled = any_at (bytes_eq path) (order plan) i x.task.path found ((bytes_decides path x.task.path).1 (sym same));
-      at = ap (λ o. unwrap_or o []) found ∙ same;
-    }
+-- what is found at an index is what stands there
+at_index : (paths : List Path) (i : ℕ) (path : Path) → i < length paths → slice_index_or paths i [] ≡ path → slice_get paths i ≡ Some path
+at_index [] i path lt is = absurd (omega arith)
+at_index (first ∷ paths) zero path lt is = ap Some is
+at_index (first ∷ paths) (suc i) path lt is = at_index paths i path (omega arith) is
 
--- ---- Numbers of tasks
+-- a path of the list stands at some index
+has_index : (paths : List Path) (path : Path) → has_path paths path ≡ true → (i : ℕ) × (i < length paths) × (slice_index_or paths i [] ≡ path)
+has_index [] path e = absurd (cc)
+has_index (first ∷ paths) path e = by (has_index paths path) (bytes_eq path first) refl e
+  where
+    by : (has_path paths path ≡ true → (i : ℕ) × (i < length paths) × (slice_index_or paths i [] ≡ path))
+        → (b : Bool) → bytes_eq path first ≡ b → (b || has_path paths path) ≡ true → (i : ℕ) × (i < length (first ∷ paths)) × (slice_index_or (first ∷ paths) i [] ≡ path)
+    by rest true same e = (zero, omega arith, sym ((bytes_decides path first).0 same))
+    by rest false other e = let found = rest e in (suc found.0, omega (arith, found.1), found.2)
 
--- one path more
-pub filter_step : (p : Path → Bool) (before now : List Path) (path : Path) (rest left : List Path) → left ≡ path ∷ rest
-    → now ≡ before ++ filter p (path ∷ []) → now ++ filter p rest ≡ before ++ filter p left
-filter_step p before now path rest left is added =
-    let by : (b : Bool) → cond b (path ∷ []) [] ++ filter p rest ≡ cond b (path ∷ filter p rest) (filter p rest) = λ b. elim b as (λ v. cond v (path ∷ []) [] ++ filter p rest ≡ cond v (path ∷ filter p rest) (filter p rest)) [ true ↦ refl | false ↦ refl ] in
-    ap (λ t. t ++ filter p rest) added
-    ∙ append_assoc before (filter p (path ∷ [])) (filter p rest)
-    ∙ ap (λ t. before ++ t) (by (p path))
-    ∙ ap (λ ps. before ++ filter p ps) (sym is)
+-- the paths of the numbers of some tasks are those that are in the plan
+pub scheduled_numbers : (plan : Plan) (numbers : Numbers) → TellNumbers (order plan) numbers → (paths : List Path)
+    → map (path_at plan) (numbers_in numbers paths) ≡ filter (is_scheduled_in plan) paths
+scheduled_numbers plan numbers tell [] = refl
+scheduled_numbers plan numbers tell (path ∷ paths) = by (scheduled_numbers plan numbers tell paths) (number_at numbers path) refl
+  where
+    in_plan : (number : ℕ) → number_at numbers path ≡ Some number → slice_get (order plan) number ≡ Some path
+    in_plan number e = let found = (tell path number).0 e in at_index (order plan) number path found.0 found.1
+
+    not_there : number_at numbers path ≡ None → (b : Bool) → is_scheduled_in plan path ≡ b → b ≡ false
+    not_there none true is = let found = has_index (order plan) path is in let e : None ≡ Some found.0 = sym none ∙ (tell path found.0).1 (found.1, found.2) in absurd (cc)
+    not_there none false is = refl
+
+    by : map (path_at plan) (numbers_in numbers paths) ≡ filter (is_scheduled_in plan) paths → (o : Option ℕ) → number_at numbers path ≡ o
+        → map (path_at plan) (numbers_in numbers (path ∷ paths)) ≡ filter (is_scheduled_in plan) (path ∷ paths)
+    by rest (Some number) is =
+        ap (λ o. map (path_at plan) (cons_option o (numbers_in numbers paths))) is
+        ∙ ap₂ (λ x xs. x ∷ xs) (ap (λ o. unwrap_or o []) (in_plan number is)) rest
+        ∙ sym (ap (λ b. cond b (path ∷ filter (is_scheduled_in plan) paths) (filter (is_scheduled_in plan) paths))
+        (any_at (bytes_eq path) (order plan) number path (in_plan number is) ((bytes_decides path path).1 refl)))
+    by rest None is =
+        ap (λ o. map (path_at plan) (cons_option o (numbers_in numbers paths))) is
+        ∙ rest
+        ∙ sym (ap (λ b. cond b (path ∷ filter (is_scheduled_in plan) paths) (filter (is_scheduled_in plan) paths)) (not_there is (is_scheduled_in plan path) refl))

@@ -19,11 +19,6 @@ use Rattle.gb_ask_command.specs.declared.words.Style.TheVariants as styles
 abbrev pub path_at : Plan → ℕ → Path
 path_at plan number = unwrap_or (slice_get (order plan) number) []
 
--- the task of this path is in the plan, and has this number
-pub record IsNumberOf (plan : Plan) (path : Path) (number : ℕ) : Type 0 where
-  pub scheduled : is_scheduled_in plan path ≡ true
-  pub at : path_at plan number ≡ path
-
 -- The node has the path of the task as its name, and its edges are exactly the tasks of the plan that the
 -- task needs, that it must run after, and that finalize it.
 pub record IsNodeOf (plan : Plan) (planned : Planned) (node : Node) : Type 0 where

@@ -1,5 +1,7 @@
 -- What the words behind the program's name ask.
 use Rattle.std.specs.Prelude.{ℕ, ◌||◌, List, Option, Some, None, bytes_eq, codes, if◌then◌else◌}
+use Rattle.gb_query.specs.declared.notation.Notation.{Notation}
+use Rattle.gb_query.specs.declared.notation.Notation.TheVariants as notations
 use Rattle.gb_ask_command.specs.declared.words.Mode.{Mode}
 use Rattle.gb_ask_command.specs.declared.words.Mode.TheVariants as modes
 use Rattle.gb_ask_command.specs.declared.words.Question.{Question}
@@ -13,6 +15,9 @@ question_of word =
     else if bytes_eq word (codes "fmt") then questions.Fmt
     else if bytes_eq word (codes "tasks") then questions.Tasks
     else if bytes_eq word (codes "graph") then questions.Graph
+    else if bytes_eq word (codes "reads") then questions.Reads
+    else if bytes_eq word (codes "makes") then questions.Makes
+    else if bytes_eq word (codes "status") then questions.Status
     else if bytes_eq word (codes "help") || bytes_eq word (codes "--help") then questions.Help
     else questions.Unknown
 
@@ -22,6 +27,9 @@ style_of word =
     else if bytes_eq word (codes "--mermaid") then Some styles.Mermaid
     else if bytes_eq word (codes "--svg") then Some styles.Svg
     else None
+
+abbrev pub notation_of : List ℕ → Option Notation
+notation_of word = if bytes_eq word (codes "--json") then Some notations.Json else None
 
 abbrev pub mode_of : List ℕ → Option Mode
 mode_of word =

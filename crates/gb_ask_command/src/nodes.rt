@@ -1,32 +1,45 @@
 //! The tasks of a plan as the nodes of a graph.
-ghost use Rattle.std.specs.Prelude.{◌≡◌, [], ◌∷◌, ◌++◌, false, IfOk, MatchOption, OnOk, map};
-ghost use Rattle.std.specs.List.{filter};
-ghost use Rattle.gb_plan.specs.Graph.{is_scheduled_in};
-ghost use Rattle.gb_ask_command.specs.Graph.{AreNodesOf, IsNodeOf, IsNumberOf, path_at};
+ghost use Rattle.std.specs.Prelude.{◌≡◌, IfOk, true};
+ghost use Rattle.gb_graph.specs.Ranked.{TellNumbers, numbers_in};
+ghost use Rattle.gb_plan.specs.Graph.{Plan, no_repeats, order};
+ghost use Rattle.gb_ask_command.specs.Graph.{AreNodesOf, IsNodeOf};
 
-use gb_core::path::TaskPath;
 use gb_core::tasks::TaskPaths;
+use gb_graph::by_path::Numbers;
+use gb_graph::ranked::numbers_of;
 use gb_picture::graph::Node;
 use gb_plan::plan::Planned;
 use std::alloc::{AllocError, Global};
 
-/// The nodes of a plan, in its order.
+/// The nodes of a plan, in its order. A path is looked up in a table, so that the steps grow as n log n.
 pub(crate) fn nodes_of(alloc: Global, plan: &[Planned]) -> Result<Vec<Node>, AllocError>
+    requires { no_repeats (order plan.now) ≡ true }
+    ensures { IfOk result (λ nodes. AreNodesOf plan.now nodes.items) }
+{
+    let numbers = numbers_of(alloc, plan)?;
+    numbered(alloc, &numbers, plan)
+}
+
+/// The nodes of a plan with these numbers.
+fn numbered(alloc: Global, numbers: &Numbers<'_>, plan: &[Planned]) -> Result<Vec<Node>, AllocError>
+    requires { TellNumbers (order plan.now) numbers.now }
     ensures { IfOk result (λ nodes. AreNodesOf plan.now nodes.items) }
 {
     let mut nodes = Vec::new(alloc);
     for planned in plan {
-        nodes.push(node_of(alloc, plan, planned)?)?;
+        nodes.push(node_of(alloc, numbers, planned)?)?;
     }
     Ok(nodes)
 }
 
-fn node_of(alloc: Global, plan: &[Planned], planned: &Planned) -> Result<Node, AllocError>
-    ensures { IfOk result (IsNodeOf plan.now planned.now) }
+/// The node of a task of the plan that has these numbers.
+fn node_of(alloc: Global, numbers: &Numbers<'_>, planned: &Planned) -> Result<Node, AllocError>
+    ensures { (plan : Plan) → TellNumbers (order plan) numbers.now
+        → IfOk result (IsNodeOf plan planned.now) }
 {
-    let needs = numbers_of(alloc, plan, &planned.task.needs)?;
-    let runs_after = numbers_of(alloc, plan, &planned.task.must_run_after)?;
-    let finalizers = numbers_of(alloc, plan, &planned.task.finalizers)?;
+    let needs = numbers_in(alloc, numbers, &planned.task.needs)?;
+    let runs_after = numbers_in(alloc, numbers, &planned.task.must_run_after)?;
+    let finalizers = numbers_in(alloc, numbers, &planned.task.finalizers)?;
     let name = String::from_str(alloc, planned.task.path.as_str())?;
     Ok(Node {
         name,
@@ -36,40 +49,19 @@ fn node_of(alloc: Global, plan: &[Planned], planned: &Planned) -> Result<Node, A
     })
 }
 
-/// The numbers of those of these tasks that are in the plan.
-fn numbers_of(alloc: Global, plan: &[Planned], paths: &TaskPaths) -> Result<Vec<usize>, AllocError>
-    ensures { IfOk result (λ numbers.
-        map (path_at plan.now) numbers.items ≡ filter (is_scheduled_in plan.now) paths.now) }
+/// The numbers of those of these tasks that have one.
+fn numbers_in(
+    alloc: Global,
+    numbers: &Numbers<'_>,
+    paths: &TaskPaths,
+) -> Result<Vec<usize>, AllocError>
+    ensures { IfOk result (λ found. found.items ≡ numbers_in numbers.now paths.now) }
 {
-    let mut numbers = Vec::new(alloc);
+    let mut found = Vec::new(alloc);
     for path in paths.iter() {
-        push_number(&mut numbers, plan, path)?;
-    }
-    Ok(numbers)
-}
-
-fn push_number(
-    numbers: &mut Vec<usize>,
-    plan: &[Planned],
-    path: &TaskPath,
-) -> Result<(), AllocError>
-    ensures { OnOk result (map (path_at plan.now) numbers.new.items
-        ≡ map (path_at plan.now) numbers.old.items ++ filter (is_scheduled_in plan.now) (path.now ∷ [])) }
-{
-    if let Some(number) = number_in(plan, path) {
-        numbers.push(number)?;
-    }
-    Ok(())
-}
-
-/// The number of the task of a plan that has this path.
-fn number_in(plan: &[Planned], path: &TaskPath) -> Option<usize>
-    ensures { MatchOption result (is_scheduled_in plan.now path.now ≡ false) (IsNumberOf plan.now path.now) }
-{
-    for (number, planned) in plan.iter().enumerate() {
-        if planned.task.path == *path {
-            return Some(number);
+        if let Some(number) = numbers.get(path) {
+            found.push(number)?;
         }
     }
-    None
+    Ok(found)
 }

@@ -1,6 +1,8 @@
 //! The words behind the program's name.
 ghost use Rattle.std.specs.Prelude.{◌≡◌, string_bytes};
-ghost use Rattle.gb_ask_command.specs.Words.{mode_of, question_of, style_of};
+ghost use Rattle.gb_ask_command.specs.Words.{mode_of, notation_of, question_of, style_of};
+
+use gb_query::notation::Notation;
 
 /// What is asked.
 #[derive(Clone, Copy, Debug, PartialEq, Eq)]
@@ -13,6 +15,12 @@ pub enum Question {
     Tasks,
     /// The plan as a graph.
     Graph,
+    /// The tasks that read a place.
+    Reads,
+    /// The tasks that make a place.
+    Makes,
+    /// Whether a build runs, and what the files of `.gb` are.
+    Status,
     /// How to ask.
     Help,
     /// Nothing that is known.
@@ -52,6 +60,9 @@ pub fn question_of(word: &str) -> Question
         "fmt" => Question::Fmt,
         "tasks" => Question::Tasks,
         "graph" => Question::Graph,
+        "reads" => Question::Reads,
+        "makes" => Question::Makes,
+        "status" => Question::Status,
         "help" | "--help" => Question::Help,
         _ => Question::Unknown,
     }
@@ -65,6 +76,16 @@ pub fn style_of(word: &str) -> Option<Style>
         "--tree" => Some(Style::Tree),
         "--mermaid" => Some(Style::Mermaid),
         "--svg" => Some(Style::Svg),
+        _ => None,
+    }
+}
+
+/// The notation that an option names, if it is one of a notation.
+pub fn notation_of(word: &str) -> Option<Notation>
+    ensures { result ≡ notation_of word.now }
+{
+    match word {
+        "--json" => Some(Notation::Json),
         _ => None,
     }
 }
@@ -86,6 +107,12 @@ gb_ask why [WORD ..]       what each task would come to, and why it would run
 gb_ask tasks [WORD ..]     every registered task, what it does and what it makes
 gb_ask graph [--tree | --mermaid | --svg] [WORD ..]
                            the plan as a graph: for Graphviz, where no form is named
+gb_ask reads [--json] PLACE [WORD ..]
+                           every task that reads the place, with the property that takes it in
+gb_ask makes [--json] PLACE [WORD ..]
+                           every task that makes the place, with the output
+gb_ask status [--json] [WORD ..]
+                           whether a build runs, and what each file of `.gb` is
 gb_ask fmt [--write | --check] FILE ..
                            the files in one layout; `-` is standard input
 gb_ask help                this text

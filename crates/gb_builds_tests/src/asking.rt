@@ -1,13 +1,17 @@
-//! What `gb_ask` prints of registered tasks, of plans and of scripts.
+//! What `gb_ask` prints of registered tasks, of places, of records, of plans and of scripts.
 use crate::building::{is_told, put_bytes, words_of};
 use crate::offering::offered;
 use gb_action::actions::Actions;
 use gb_ask_command::words::{Mode, Style};
-use gb_ask_command::{fmt, graph, tasks};
+use gb_ask_command::{fmt, graph, places, status, tasks};
+use gb_command::run::run;
 use gb_folder::memory::MemoryFolder;
 use gb_kinds::builtin::Builtin;
 use gb_printer::page::Page;
 use gb_provider::transforms::Transforms;
+use gb_query::lines::Activity;
+use gb_query::notation::Notation;
+use gb_query::search::Relation;
 use gb_registry::tables::Tables;
 use std::alloc::Global;
 use std::test::Fail;
@@ -164,4 +168,176 @@ fn a_script_is_formatted_once(rt: HostRuntime) -> Result<(), Fail> {
         }
     }
     Ok(())
+}
+
+/// A site, whose report has no value where none is given.
+const SITE: &str = "defaultTasks \"site\"\nregister pages : copyFiles {\n    \
+     inputFiles src from dir(\"src\")\n    outputDir out = dir(\"build/pages\")\n}\n\
+     register site {\n    dependsOn \"pages\"\n    finalizedBy \"report\"\n}\n\
+     register report : writeText(gradleProperty(\"text\")) {\n    mustRunAfter \"pages\"\n    \
+     outputFile out = file(\"build/report\")\n}\n";
+
+/// What is asked of a place, and what is printed.
+type Asked<'a> = (Relation, Notation, &'a str, &'a str);
+
+const PLACES: [Asked<'static>; 8] = [
+    (
+        Relation::Reads,
+        Notation::Lines,
+        "src/a.md -Ptext=done",
+        ":pages src\n",
+    ),
+    (
+        Relation::Makes,
+        Notation::Lines,
+        "build/pages/a.md -Ptext=done",
+        ":pages out\n",
+    ),
+    (Relation::Makes, Notation::Lines, "build -Ptext=done", ""),
+    (
+        Relation::Reads,
+        Notation::Lines,
+        "src/a.md",
+        ":pages src\n:report cannot be read: 33 no value :report writeText\n",
+    ),
+    (
+        Relation::Reads,
+        Notation::Json,
+        "src/a.md",
+        "[{\"property\":\"src\",\"task\":\":pages\"},\
+         {\"fault\":\"33 no value :report writeText\",\"task\":\":report\"}]\n",
+    ),
+    (
+        Relation::Makes,
+        Notation::Json,
+        "build/report -Ptext=done",
+        "[{\"output\":\"out\",\"task\":\":report\"}]\n",
+    ),
+    (
+        Relation::Reads,
+        Notation::Lines,
+        "../a",
+        "REFUSED 2 bad place ../a\n",
+    ),
+    (
+        Relation::Reads,
+        Notation::Lines,
+        "a b",
+        "REFUSED 96 usage\n",
+    ),
+];
+
+/// A folder with that site.
+fn site(alloc: Global) -> Result<MemoryFolder, Fail> {
+    let mut folder = MemoryFolder::new(alloc);
+    put_bytes(alloc, &mut folder, "build.gb", SITE.as_bytes())?;
+    put_bytes(alloc, &mut folder, "src/a.md", b"a")?;
+    Ok(folder)
+}
+
+/// What is printed of a place.
+fn related<A: Actions, T: Transforms>(
+    alloc: Global,
+    tables: &Tables<A, T>,
+    asked: &Asked<'_>,
+) -> Result<String, Fail> {
+    let mut folder = site(alloc)?;
+    let words = words_of(alloc, asked.2)?;
+    let mut out = Vec::new(alloc);
+    places::run(
+        alloc,
+        &mut folder,
+        asked.1,
+        asked.0,
+        Ok(words),
+        &mut Page::new(&mut out),
+        tables,
+    );
+    Ok(String::from_utf8(out)?)
+}
+
+/// What is printed of the folder.
+fn status_of<A: Actions, T: Transforms>(
+    alloc: Global,
+    folder: &mut MemoryFolder,
+    tables: &Tables<A, T>,
+    notation: Notation,
+    activity: Activity,
+) -> Result<String, Fail> {
+    let words = words_of(alloc, "-Ptext=done")?;
+    let mut out = Vec::new(alloc);
+    status::run(
+        alloc,
+        folder,
+        notation,
+        activity,
+        Ok(words),
+        &mut Page::new(&mut out),
+        tables,
+    );
+    Ok(String::from_utf8(out)?)
+}
+
+/// Builds the site.
+fn built<A: Actions, T: Transforms>(
+    alloc: Global,
+    tables: &Tables<A, T>,
+) -> Result<MemoryFolder, Fail> {
+    let mut folder = site(alloc)?;
+    let words = words_of(alloc, "-Ptext=done")?;
+    let mut out = Vec::new(alloc);
+    run(
+        alloc,
+        &mut folder,
+        Ok(words),
+        &mut Page::new(&mut out),
+        tables,
+    );
+    Ok(folder)
+}
+
+/// Fails where something else is printed of the folder once some of its records are damaged or are those of
+/// no task, and other files are in `.gb`.
+fn is_status<A: Actions, T: Transforms>(alloc: Global, tables: &Tables<A, T>) -> Result<(), Fail> {
+    let mut folder = built(alloc, tables)?;
+    put_bytes(
+        alloc,
+        &mut folder,
+        "build.gb",
+        b"register other {}\nregister report {}",
+    )?;
+    put_bytes(alloc, &mut folder, ".gb/tasks/other.record", b"x")?;
+    put_bytes(alloc, &mut folder, ".gb/tasks/other.txt", b"x")?;
+    let text = status_of(alloc, &mut folder, tables, Notation::Lines, Activity::Idle)?;
+    is_told(STATUS, text.as_str())?;
+    let text = status_of(alloc, &mut folder, tables, Notation::Json, Activity::Builds)?;
+    is_told(STATUS_JSON, text.as_str())
+}
+
+const STATUS: &str = "no build runs\n:other damaged record\n.gb/tasks/other.txt not a record\n\
+     :pages record of a task that no script registers\n:report record\n";
+
+const STATUS_JSON: &str =
+    "{\"build\":\"runs\",\"files\":[{\"kind\":\"damaged\",\"task\":\":other\"},\
+     {\"kind\":\"foreign\",\"place\":\".gb/tasks/other.txt\"},\
+     {\"kind\":\"unregistered\",\"task\":\":pages\"},{\"kind\":\"record\",\"task\":\":report\"}]}\n";
+
+fn are_related<A: Actions, T: Transforms>(
+    alloc: Global,
+    tables: &Tables<A, T>,
+) -> Result<(), Fail> {
+    for asked in &PLACES {
+        is_told(asked.3, related(alloc, tables, asked)?.as_str())?;
+    }
+    is_status(alloc, tables)
+}
+
+#[test]
+fn places_and_records_are_printed(rt: HostRuntime) -> Result<(), Fail> {
+    let (actions, transforms) = offered(rt.alloc())?;
+    let tables = Tables::<Builtin, Builtin> {
+        actions,
+        transforms,
+    };
+    are_related::<Builtin, Builtin>(rt.alloc(), &tables)
 }

@@ -1,0 +1,148 @@
+//! The tasks that read a place, or those that make it.
+ghost use Rattle.std.specs.Prelude.{◌≡◌, IfOk, IfSome, IsTrue, map, string_bytes};
+ghost use Rattle.std.specs.Io.KnownBytes.{Appends};
+ghost use Rattle.gb_command.specs.Answered.{given_of};
+ghost use Rattle.gb_declare.specs.Registered.{registry_said};
+ghost use Rattle.gb_folder.specs.Calls.{Asks, no_change};
+ghost use Rattle.gb_printer.specs.Printing.{Prints};
+ghost use Rattle.gb_query.specs.Asked.{asked_place};
+ghost use Rattle.gb_query.specs.Notation.{IsFoundText};
+ghost use Rattle.gb_query.specs.Search.{found_in};
+ghost use Rattle.gb_registry.specs.Tables.{tables_of};
+ghost use Rattle.gb_ask_command.specs.Reply.{Reply as Replied, reply_status, reply_text};
+ghost use Rattle.gb_ask_command.specs.Replies.{IsFoundReply, IsReplyAbout, RepliesPlace};
+
+use crate::reply::{Reply, print_reply};
+use gb_action::actions::Actions;
+use gb_build::reading::read_registry;
+use gb_command::run::asked_by;
+use gb_core::place::Place;
+use gb_folder::folder::Folder;
+use gb_meaning::events::Invocation;
+use gb_printer::printer::Printer;
+use gb_project::script_tasks::ScriptTasks;
+use gb_provider::transforms::Transforms;
+use gb_query::answers::search_text;
+use gb_query::asked::asked_place;
+use gb_query::notation::Notation;
+use gb_query::search::Relation;
+use gb_registry::configured::Configured;
+use gb_registry::tables::Tables;
+use gb_report::fault::Fault;
+use std::alloc::Global;
+
+/// Prints a line for each file property that takes the place in, or for each output at or above it, in the
+/// order of registration: the path of the task, and the name. A task that cannot be read has a line with its
+/// fault. Of the words the place and the values of properties count, and no other. The status is 0, or 1
+/// where the place or the scripts are refused, and 2 where no place or more than one is named.
+pub fn run<A: Actions, T: Transforms, F: Folder, W: Printer>(
+    alloc: Global,
+    folder: &mut F,
+    notation: Notation,
+    relation: Relation,
+    words: Result<Vec<String>, Fault>,
+    writer: &mut W,
+    tables: &Tables<A, T>,
+) -> Option<u8>
+    // Over any folder no change is asked for.
+    ensures asks { Asks F.failures F.may_leave F.asked no_change folder.old folder.new }
+    ensures same { IsTrue F.tells → F.contents folder.new ≡ F.contents folder.old }
+    ensures told { (reply : Replied)
+        × RepliesPlace (tables_of T.meanings A.meanings tables.now) F.tells notation relation
+        (given_of (λ words. map string_bytes words.items) words)
+        (F.contents folder.old).files reply
+        × Prints W.contents W.whole (reply_text reply) writer.old writer.new
+        × IfSome result (λ status.
+        Appends (W.contents writer.old) (W.contents writer.new) (reply_text reply)
+        × (status ≡ reply_status reply)) }
+{
+    let reply = replied(alloc, folder, notation, relation, words, tables);
+    let status = print_reply(alloc, writer, &reply);
+    drop(reply);
+    status
+}
+
+fn replied<A: Actions, T: Transforms, F: Folder>(
+    alloc: Global,
+    folder: &mut F,
+    notation: Notation,
+    relation: Relation,
+    words: Result<Vec<String>, Fault>,
+    tables: &Tables<A, T>,
+) -> Reply
+    ensures asks { Asks F.failures F.may_leave F.asked no_change folder.old folder.new }
+    ensures same { IsTrue F.tells → F.contents folder.new ≡ F.contents folder.old }
+    ensures replies { RepliesPlace (tables_of T.meanings A.meanings tables.now) F.tells notation relation
+        (given_of (λ words. map string_bytes words.items) words)
+        (F.contents folder.old).files result }
+{
+    match asked_by(alloc, words) {
+        Ok(asked) => answer(alloc, folder, notation, relation, tables, &asked),
+        Err(fault) => Err(fault),
+    }
+}
+
+/// The answer about the place that is asked about.
+fn answer<A: Actions, T: Transforms, F: Folder>(
+    alloc: Global,
+    folder: &mut F,
+    notation: Notation,
+    relation: Relation,
+    tables: &Tables<A, T>,
+    asked: &Invocation,
+) -> Reply
+    ensures asks { Asks F.failures F.may_leave F.asked no_change folder.old folder.new }
+    ensures same { IsTrue F.tells → F.contents folder.new ≡ F.contents folder.old }
+    ensures reply { IsReplyAbout (tables_of T.meanings A.meanings tables.now) F.tells notation relation asked.now
+        (F.contents folder.old).files result (asked_place asked.now.requested) }
+{
+    match asked_place(alloc, asked.requested.as_slice()) {
+        Ok(place) => search_folder(alloc, folder, notation, relation, tables, asked, &place),
+        Err(fault) => Err(fault),
+    }
+}
+
+/// What is found of the tasks that the scripts of a folder register with the values that are given.
+fn search_folder<A: Actions, T: Transforms, F: Folder>(
+    alloc: Global,
+    folder: &mut F,
+    notation: Notation,
+    relation: Relation,
+    tables: &Tables<A, T>,
+    asked: &Invocation,
+    place: &Place,
+) -> Reply
+    ensures asks { Asks F.failures F.may_leave F.asked no_change folder.old folder.new }
+    ensures same { IsTrue F.tells → F.contents folder.new ≡ F.contents folder.old }
+    ensures reply { IsFoundReply (tables_of T.meanings A.meanings tables.now) F.tells notation relation asked.now
+        (F.contents folder.old).files place.now result }
+{
+    let copied = asked.properties.copy(alloc)?;
+    let given = copied.into_vec();
+    let configured = read_registry(alloc, folder, tables, given)?;
+    search_registered(alloc, notation, relation, &configured, place)
+}
+
+fn search_registered<A: Actions, T: Transforms>(
+    alloc: Global,
+    notation: Notation,
+    relation: Relation,
+    configured: &Configured<'_, A, T>,
+    place: &Place,
+) -> Reply
+    ensures { let tables = tables_of T.meanings A.meanings configured.now.tables.now in
+        IfOk result (λ text. IsFoundText notation relation
+        (found_in relation place.now (registry_said tables configured.now.registry)) (string_bytes text)) }
+{
+    let _registered = configured.registry.tasks();
+    let names = configured.registry.names(alloc)?;
+    let mut tasks = ScriptTasks::declare(alloc, configured)?;
+    search_text(
+        alloc,
+        notation,
+        relation,
+        &mut tasks,
+        names.as_slice(),
+        place,
+    )
+}

@@ -1,0 +1,117 @@
+//! Whether a build runs, and what each file of `.gb` is.
+ghost use Rattle.std.specs.Prelude.{◌≡◌, IfOk, IfSome, IsTrue, map, string_bytes};
+ghost use Rattle.std.specs.Io.KnownBytes.{Appends};
+ghost use Rattle.gb_command.specs.Answered.{given_of};
+ghost use Rattle.gb_declare.specs.Registered.{registry_said};
+ghost use Rattle.gb_folder.specs.Calls.{Asks, no_change};
+ghost use Rattle.gb_printer.specs.Printing.{Prints};
+ghost use Rattle.gb_plan.specs.Graph.{paths_of};
+ghost use Rattle.gb_query.specs.Notation.{IsStatusOf};
+ghost use Rattle.gb_registry.specs.Tables.{tables_of};
+ghost use Rattle.gb_ask_command.specs.Reply.{Reply as Replied, reply_status, reply_text};
+ghost use Rattle.gb_ask_command.specs.Replies.{IsStatusReply, RepliesStatus};
+
+use crate::reply::{Reply, print_reply};
+use gb_action::actions::Actions;
+use gb_build::reading::read_registry;
+use gb_command::run::asked_by;
+use gb_folder::folder::Folder;
+use gb_meaning::events::Invocation;
+use gb_printer::printer::Printer;
+use gb_provider::transforms::Transforms;
+use gb_query::answers::inventory_text;
+use gb_query::lines::Activity;
+use gb_query::notation::Notation;
+use gb_registry::configured::Configured;
+use gb_registry::tables::Tables;
+use gb_report::fault::Fault;
+use std::alloc::Global;
+
+/// Prints whether a build runs, and then what each file of `.gb` is, in the order of the places: the record of
+/// a task, a damaged one, that of a task that no script registers, or no record. Of the words the values of
+/// properties count, and no other. The status is 0, or 1 where the scripts are refused.
+pub fn run<A: Actions, T: Transforms, F: Folder, W: Printer>(
+    alloc: Global,
+    folder: &mut F,
+    notation: Notation,
+    activity: Activity,
+    words: Result<Vec<String>, Fault>,
+    writer: &mut W,
+    tables: &Tables<A, T>,
+) -> Option<u8>
+    // Over any folder no change is asked for.
+    ensures asks { Asks F.failures F.may_leave F.asked no_change folder.old folder.new }
+    ensures same { IsTrue F.tells → F.contents folder.new ≡ F.contents folder.old }
+    ensures told { (reply : Replied)
+        × RepliesStatus (tables_of T.meanings A.meanings tables.now) F.tells notation activity
+        (given_of (λ words. map string_bytes words.items) words)
+        (F.contents folder.old).files reply
+        × Prints W.contents W.whole (reply_text reply) writer.old writer.new
+        × IfSome result (λ status.
+        Appends (W.contents writer.old) (W.contents writer.new) (reply_text reply)
+        × (status ≡ reply_status reply)) }
+{
+    let reply = replied(alloc, folder, notation, activity, words, tables);
+    let status = print_reply(alloc, writer, &reply);
+    drop(reply);
+    status
+}
+
+fn replied<A: Actions, T: Transforms, F: Folder>(
+    alloc: Global,
+    folder: &mut F,
+    notation: Notation,
+    activity: Activity,
+    words: Result<Vec<String>, Fault>,
+    tables: &Tables<A, T>,
+) -> Reply
+    ensures asks { Asks F.failures F.may_leave F.asked no_change folder.old folder.new }
+    ensures same { IsTrue F.tells → F.contents folder.new ≡ F.contents folder.old }
+    ensures replies { RepliesStatus (tables_of T.meanings A.meanings tables.now) F.tells notation activity
+        (given_of (λ words. map string_bytes words.items) words)
+        (F.contents folder.old).files result }
+{
+    match asked_by(alloc, words) {
+        Ok(asked) => look(alloc, folder, notation, activity, tables, &asked),
+        Err(fault) => Err(fault),
+    }
+}
+
+/// What is in `.gb`, beside the tasks that the scripts of a folder register with the values that are given.
+fn look<A: Actions, T: Transforms, F: Folder>(
+    alloc: Global,
+    folder: &mut F,
+    notation: Notation,
+    activity: Activity,
+    tables: &Tables<A, T>,
+    asked: &Invocation,
+) -> Reply
+    ensures asks { Asks F.failures F.may_leave F.asked no_change folder.old folder.new }
+    ensures same { IsTrue F.tells → F.contents folder.new ≡ F.contents folder.old }
+    ensures reply { IsStatusReply (tables_of T.meanings A.meanings tables.now) F.tells notation activity asked.now
+        (F.contents folder.old).files result }
+{
+    let copied = asked.properties.copy(alloc)?;
+    let given = copied.into_vec();
+    let configured = read_registry(alloc, folder, tables, given)?;
+    look_beside(alloc, folder, notation, activity, &configured)
+}
+
+/// What is in `.gb`, beside the tasks of these scripts.
+fn look_beside<A: Actions, T: Transforms, F: Folder>(
+    alloc: Global,
+    folder: &mut F,
+    notation: Notation,
+    activity: Activity,
+    configured: &Configured<'_, A, T>,
+) -> Reply
+    ensures asks { Asks F.failures F.may_leave F.asked no_change folder.old folder.new }
+    ensures same { IsTrue F.tells → F.contents folder.new ≡ F.contents folder.old }
+    ensures text { let tables = tables_of T.meanings A.meanings configured.now.tables.now in
+        IfOk result (λ text. IsStatusOf F.tells notation activity (F.contents folder.old).files
+        (paths_of (registry_said tables configured.now.registry)) (string_bytes text)) }
+{
+    let _registered = configured.registry.tasks();
+    let names = configured.registry.names(alloc)?;
+    inventory_text(alloc, notation, activity, folder, names.as_slice())
+}

@@ -1,0 +1,4 @@
+mod Segments
+mod Members
+mod Owners
+mod Depths

@@ -1,0 +1,29 @@
+-- What each file of `.gb` is.
+use Rattle.std.specs.Prelude.{◌≡◌, false, List, Some, None, IsTrue, codes}
+use Rattle.std.specs.List.{AllZip}
+use Rattle.gb_folder.specs.Files.{Files, Place, places_under}
+use Rattle.gb_history.specs.Record.{Record}
+use Rattle.gb_plan.specs.Task.{Path, has_path}
+use Rattle.gb_records.specs.Said.{IsReadAt}
+use Rattle.gb_query.specs.Owner.{IsOwner}
+use Rattle.gb_query.specs.declared.inventory.Entry.{Entry}
+use Rattle.gb_query.specs.declared.inventory.Entry.TheVariants as entries
+
+-- the files have a record of the task
+abbrev pub HasRecord : Files → Path → Type 0
+HasRecord files path = (run : Record) × IsReadAt files path (Some run)
+
+-- A file is the record of a registered task or of one that is not registered, it is no record though that of
+-- a task belongs there, or it is at the place of no record.
+abbrev pub IsEntryOf : Files → List Path → Place → Entry → Type 0
+IsEntryOf files registered place (entries.Record path) =
+    IsOwner place (Some path) × HasRecord files path × IsTrue (has_path registered path)
+IsEntryOf files registered place (entries.Unregistered path) =
+    IsOwner place (Some path) × HasRecord files path × (has_path registered path ≡ false)
+IsEntryOf files registered place (entries.Damaged path) = IsOwner place (Some path) × IsReadAt files path None
+IsEntryOf files registered place (entries.Foreign at) = IsOwner place None × (at ≡ place)
+
+-- exactly the files of `.gb`, in the order of their places
+abbrev pub AreEntriesOf : Files → List Path → List Entry → Type 0
+AreEntriesOf files registered found =
+    AllZip (IsEntryOf files registered) (places_under files (codes ".gb")) found

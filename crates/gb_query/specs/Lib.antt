@@ -1,0 +1,9 @@
+pub mod Membership
+pub mod Search
+pub mod Owner
+pub mod Inventory
+pub mod Lines
+pub mod Asked
+pub mod Laws
+pub mod Objects
+pub mod Notation

@@ -1,0 +1,55 @@
+//! The whole answer to a query.
+ghost use Rattle.std.specs.Prelude.{◌≡◌, IfOk, IsTrue, string_bytes};
+ghost use Rattle.gb_folder.specs.Calls.{Asks, no_change};
+ghost use Rattle.gb_plan.specs.Graph.{paths_of};
+ghost use Rattle.gb_query.specs.Notation.{IsFoundText, IsStatusOf};
+ghost use Rattle.gb_query.specs.Search.{found_in};
+
+use crate::inventory::inventory;
+use crate::lines::Activity;
+use crate::notation::{Notation, write_found, write_status};
+use crate::search::{Relation, search};
+use gb_core::path::TaskPath;
+use gb_core::place::Place;
+use gb_folder::folder::Folder;
+use gb_graph::tasks::Tasks;
+use gb_report::fault::Fault;
+use std::alloc::Global;
+
+/// The text of what is found of all registered tasks, whose paths these are.
+pub fn search_text<Ts: Tasks>(
+    alloc: Global,
+    notation: Notation,
+    relation: Relation,
+    tasks: &mut Ts,
+    names: &[TaskPath],
+    place: &Place,
+) -> Result<String, Fault>
+    requires { names.now ≡ paths_of (Ts.registry tasks.old) }
+    ensures { IfOk result (λ text. IsFoundText notation relation
+        (found_in relation place.now (Ts.registry tasks.old)) (string_bytes text)) }
+{
+    let found = search(alloc, relation, tasks, names, place)?;
+    let text = write_found(alloc, notation, relation, found.as_slice());
+    drop(found);
+    Ok(text?)
+}
+
+/// The text of what each file of `.gb` is, where these tasks are registered, behind whether a build runs.
+pub fn inventory_text<F: Folder>(
+    alloc: Global,
+    notation: Notation,
+    activity: Activity,
+    folder: &mut F,
+    registered: &[TaskPath],
+) -> Result<String, Fault>
+    ensures asks { Asks F.failures F.may_leave F.asked no_change folder.old folder.new }
+    ensures same { IsTrue F.tells → F.contents folder.new ≡ F.contents folder.old }
+    ensures text { IfOk result (λ text. IsStatusOf F.tells notation activity
+        (F.contents folder.old).files registered.now (string_bytes text)) }
+{
+    let entries = inventory(alloc, folder, registered)?;
+    let text = write_status(alloc, notation, activity, entries.as_slice());
+    drop(entries);
+    Ok(text?)
+}

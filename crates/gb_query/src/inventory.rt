@@ -1,0 +1,149 @@
+//! What each file of `.gb` is.
+ghost use Rattle.std.specs.Prelude.{◌≡◌, Option, Some, IfOk, IsTrue, codes, if◌then◌else◌, is_some, not};
+ghost use Rattle.std.specs.List.{AllZip};
+ghost use Rattle.gb_folder.specs.Calls.{Asks, no_change};
+ghost use Rattle.gb_history.specs.Record.{Record};
+ghost use Rattle.gb_plan.specs.Task.{has_path};
+ghost use Rattle.gb_records.specs.Said.{IsReadAt};
+ghost use Rattle.gb_query.specs.Inventory.{AreEntriesOf, IsEntryOf};
+ghost use Rattle.gb_query.specs.Owner.{IsOwner};
+
+use crate::owner::owner_of;
+use gb_core::path::TaskPath;
+use gb_core::place::{Place, PlaceFault};
+use gb_folder::folder::Folder;
+use gb_records::reading::read_records;
+use gb_report::fault::Fault;
+use gb_store::listing::listed_at;
+use std::alloc::{AllocError, Global};
+
+/// What a file of `.gb` is.
+#[derive(Drop)]
+pub enum Entry {
+    /// The record of a registered task.
+    Record(TaskPath),
+    /// No record, where that of this task belongs.
+    Damaged(TaskPath),
+    /// The record of a task that is not registered.
+    Unregistered(TaskPath),
+    /// A file at a place where no record belongs.
+    Foreign(Place),
+}
+
+/// What the files of `.gb` are, in the order of their places, where these tasks are registered.
+pub fn inventory<F: Folder>(
+    alloc: Global,
+    folder: &mut F,
+    registered: &[TaskPath],
+) -> Result<Vec<Entry>, Fault>
+    ensures asks { Asks F.failures F.may_leave F.asked no_change folder.old folder.new }
+    ensures same { IsTrue F.tells → F.contents folder.new ≡ F.contents folder.old }
+    ensures entries { IsTrue F.tells → IfOk result
+        (λ entries. AreEntriesOf (F.contents folder.old).files registered.now entries.items) }
+{
+    let own = own_folder(alloc)?;
+    let places = listed_at(alloc, folder, &own)?;
+    entries_of(alloc, folder, registered, places.as_slice())
+}
+
+/// The place `.gb`.
+fn own_folder(alloc: Global) -> Result<Place, AllocError>
+    ensures { IfOk result (λ place. place ≡ codes ".gb") }
+{
+    match Place::read(alloc, ".gb") {
+        Ok(place) => Ok(place),
+        Err(PlaceFault::OutOfMemory) => Err(AllocError),
+        Err(PlaceFault::BadPlace) => unreachable!(),
+    }
+}
+
+/// What the files at these places are.
+fn entries_of<F: Folder>(
+    alloc: Global,
+    folder: &mut F,
+    registered: &[TaskPath],
+    places: &[Place],
+) -> Result<Vec<Entry>, Fault>
+    ensures asks { Asks F.failures F.may_leave F.asked no_change folder.old folder.new }
+    ensures same { IsTrue F.tells → F.contents folder.new ≡ F.contents folder.old }
+    ensures entries { IsTrue F.tells → IfOk result (λ entries.
+        AllZip (IsEntryOf (F.contents folder.old).files registered.now) places.now entries.items) }
+{
+    let mut entries = Vec::new(alloc);
+    for place in places {
+        entries.push(entry_of(alloc, folder, registered, place)?)?;
+    }
+    Ok(entries)
+}
+
+/// What the file at a place is.
+fn entry_of<F: Folder>(
+    alloc: Global,
+    folder: &mut F,
+    registered: &[TaskPath],
+    place: &Place,
+) -> Result<Entry, Fault>
+    ensures asks { Asks F.failures F.may_leave F.asked no_change folder.old folder.new }
+    ensures same { IsTrue F.tells → F.contents folder.new ≡ F.contents folder.old }
+    ensures entry { IsTrue F.tells → IfOk result
+        (IsEntryOf (F.contents folder.old).files registered.now place.now) }
+{
+    match owner_of(alloc, place)? {
+        Some(path) => record_entry(alloc, folder, registered, place, path),
+        None => Ok(Entry::Foreign(place.copy()?)),
+    }
+}
+
+/// What the file is where the record of this task belongs.
+fn record_entry<F: Folder>(
+    alloc: Global,
+    folder: &mut F,
+    registered: &[TaskPath],
+    place: &Place,
+    path: TaskPath,
+) -> Result<Entry, Fault>
+    requires { IsOwner place.now (Some path) }
+    ensures asks { Asks F.failures F.may_leave F.asked no_change folder.old folder.new }
+    ensures same { IsTrue F.tells → F.contents folder.new ≡ F.contents folder.old }
+    ensures entry { IsTrue F.tells → IfOk result
+        (IsEntryOf (F.contents folder.old).files registered.now place.now) }
+{
+    let has_record = has_record(alloc, folder, &path)?;
+    Ok(class_of(registered, path, has_record))
+}
+
+/// The entry of a task whose file is a record or is none.
+fn class_of(registered: &[TaskPath], path: TaskPath, has_record: bool) -> Entry
+    ensures { result ≡ (if not has_record then Entry.Damaged path
+        else if has_path registered.now path then Entry.Record path else Entry.Unregistered path) }
+{
+    if !has_record {
+        Entry::Damaged(path)
+    } else if is_among(registered, &path) {
+        Entry::Record(path)
+    } else {
+        Entry::Unregistered(path)
+    }
+}
+
+fn is_among(registered: &[TaskPath], path: &TaskPath) -> bool
+    ensures { result ≡ has_path registered.now path.now }
+{
+    registered.iter().any(|other| *path == *other)
+}
+
+/// Whether there is a record of the task.
+fn has_record<F: Folder>(alloc: Global, folder: &mut F, path: &TaskPath) -> Result<bool, Fault>
+    ensures asks { Asks F.failures F.may_leave F.asked no_change folder.old folder.new }
+    ensures same { IsTrue F.tells → F.contents folder.new ≡ F.contents folder.old }
+    ensures read { IsTrue F.tells → IfOk result (λ has_record. (read : Option Record)
+        × IsReadAt (F.contents folder.old).files path.now read × (has_record ≡ is_some read)) }
+{
+    let mut paths = Vec::new(alloc);
+    paths.push(path.copy()?)?;
+    let records = read_records(alloc, folder, paths.as_slice())?;
+    match records.as_slice() {
+        [record] => Ok(record.is_some()),
+        _ => unreachable!(),
+    }
+}

@@ -1,0 +1,7 @@
+//! What follows from the definitions alone.
+ghost use Rattle.gb_query.specs.Laws.{FilesAreTakenIn};
+
+/// In whatever files, a property reads exactly the files whose places it takes in.
+pub fn files_are_taken_in()
+    ensures { FilesAreTakenIn }
+{}
