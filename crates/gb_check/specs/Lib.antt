@@ -1,0 +1,4 @@
+pub mod Sites
+pub mod Found
+pub mod Warnings
+pub mod All

@@ -1,0 +1,52 @@
+//! All that is wrong with registered tasks, and what is odd about them.
+ghost use Rattle.std.specs.Prelude.{◌≡◌, IfOk, IsTrue};
+ghost use Rattle.gb_folder.specs.Calls.{Asks, no_change};
+ghost use Rattle.gb_plan.specs.Graph.{paths_of};
+ghost use Rattle.gb_registry.specs.Seen.{scripts_in};
+ghost use Rattle.gb_check.specs.All.{AreFindings};
+
+use crate::checking::check;
+use crate::sites::read_sites;
+use crate::warning::warn;
+use gb_core::path::TaskPath;
+use gb_folder::folder::Folder;
+use gb_graph::tasks::Tasks;
+use gb_registry::checking::Scripted;
+use gb_report::fault::Fault;
+use std::alloc::Global;
+
+/// What is found, a line each.
+#[derive(Drop)]
+pub struct Findings {
+    /// What keeps builds from starting.
+    pub faults: String,
+    /// What keeps none from starting, and may not be meant.
+    pub warnings: String,
+}
+
+/// What is found of the tasks that these scripts of a folder register. `names` are the paths of all tasks, in
+/// the order of registration.
+///
+/// Faults: that of each task that has one, in that order, behind the script and the line that registers the
+/// task. Where none has, the reason why there is no plan of all tasks, behind the line of the first task that
+/// it names.
+///
+/// Warnings: each two file properties of a task that have a root in common, and each root without files.
+pub fn find<Ts: Tasks, F: Folder>(
+    alloc: Global,
+    folder: &mut F,
+    tasks: &mut Ts,
+    names: &[TaskPath],
+    scripts: &[Scripted],
+) -> Result<Findings, Fault>
+    requires { names.now ≡ paths_of (Ts.registry tasks.old) }
+    ensures asks { Asks F.failures F.may_leave F.asked no_change folder.old folder.new }
+    ensures same { IsTrue F.tells → F.contents folder.new ≡ F.contents folder.old }
+    ensures findings { IfOk result (AreFindings F.tells (F.contents folder.old)
+        (Ts.registry tasks.old) (scripts_in scripts.now)) }
+{
+    let sites = read_sites(alloc, folder, scripts)?;
+    let faults = check(alloc, tasks, names, sites.as_slice())?;
+    let warnings = warn(alloc, folder, tasks, names, sites.as_slice())?;
+    Ok(Findings { faults, warnings })
+}

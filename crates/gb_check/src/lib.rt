@@ -1,0 +1,13 @@
+//! What is wrong with the tasks of a folder, found before any of them is asked for: the fault of each task,
+//! with the line of the script that registers it, or that of the plan of all tasks; and warnings.
+#![tactic(auto)]
+
+mod bare;
+mod checking;
+pub mod finding;
+pub mod found;
+mod places;
+mod planning;
+mod shared;
+pub mod sites;
+mod warning;

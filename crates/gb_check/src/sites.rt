@@ -1,0 +1,217 @@
+//! Where scripts register tasks.
+ghost use Rattle.std.specs.Prelude.{◌≡◌, ℕ, [], ◌∷◌, ◌++◌, All, IfErr, IfOk, IsTrue, List, OnOk};
+ghost use Rattle.std.specs.Option.{option_copied};
+ghost use Rattle.gb_core.specs.Path.{task_in};
+ghost use Rattle.gb_core.specs.Place.{joined};
+ghost use Rattle.gb_folder.specs.Calls.{Asks, no_change};
+ghost use Rattle.gb_registry.specs.Seen.{scripts_in};
+ghost use Rattle.gb_report.specs.declared.fault.Fault.TheVariants.{OutOfMemory};
+ghost use Rattle.gb_script.specs.Lines.{AreLinesOf};
+ghost use Rattle.gb_check.specs.Sites.{AreLinesAt, IsSiteIn, Lines, first_line, other_lines, registered_at};
+ghost use Rattle.gb_check.specs.Sites.{script_of_project, sites_of};
+
+use gb_core::name::{Name, NameFault};
+use gb_core::path::{ProjectPath, TaskPath};
+use gb_core::place::{Place, PlaceFault};
+use gb_core::text::Text;
+use gb_folder::folder::{Folder, FolderFault};
+use gb_registry::checking::Scripted;
+use gb_registry::paths::path_in;
+use gb_registry::project::Project;
+use gb_report::fault::Fault;
+use gb_script::fault::ScriptFault;
+use gb_script::script::Statement;
+use gb_script::{MAX_SCRIPT, StatementLines, read_script_lines};
+use gb_store::faults::fault_at;
+use std::alloc::Global;
+
+/// A registered task, and the statement that registers it.
+#[derive(Drop)]
+pub struct Site {
+    /// The path of the task.
+    pub path: TaskPath,
+    /// The script of its project.
+    pub script: Place,
+    /// The line in which the statement begins.
+    pub line: u64,
+}
+
+/// Where these scripts register tasks. Each script is read once more for its lines. A task has the line 1 if
+/// its script lost statements since it was read first.
+pub(crate) fn read_sites<F: Folder>(
+    alloc: Global,
+    folder: &mut F,
+    scripts: &[Scripted],
+) -> Result<Vec<Site>, Fault>
+    ensures asks { Asks F.failures F.may_leave F.asked no_change folder.old folder.new }
+    ensures same { IsTrue F.tells → F.contents folder.new ≡ F.contents folder.old }
+    ensures sites { IsTrue F.tells → IfOk result (λ sites.
+        All (IsSiteIn (F.contents folder.old).files (scripts_in scripts.now)) sites.items) }
+{
+    let mut sites = Vec::new(alloc);
+    for scripted in scripts {
+        push_script(alloc, folder, &mut sites, scripted)?;
+    }
+    Ok(sites)
+}
+
+/// Adds the tasks that a script registers.
+fn push_script<F: Folder>(
+    alloc: Global,
+    folder: &mut F,
+    sites: &mut Vec<Site>,
+    scripted: &Scripted,
+) -> Result<(), Fault>
+    ensures asks { Asks F.failures F.may_leave F.asked no_change folder.old folder.new }
+    ensures same { IsTrue F.tells → F.contents folder.new ≡ F.contents folder.old }
+    ensures sites { OnOk result ((lines : List Lines)
+        × (IsTrue F.tells
+        → AreLinesAt (F.contents folder.old).files (script_of_project scripted.now.project) lines)
+        × (sites.new.items ≡ sites.old.items ++ sites_of scripted.now.project
+        (script_of_project scripted.now.project) scripted.now.script lines)) }
+{
+    let script = script_of_project(alloc, &scripted.project)?;
+    let lines = lines_at(alloc, folder, &script)?;
+    push_registered(
+        alloc,
+        sites,
+        &scripted.project,
+        &script,
+        scripted.script.statements(),
+        lines.as_slice(),
+    )
+}
+
+/// The place of the script of a project.
+fn script_of_project(alloc: Global, project: &Project) -> Result<Place, Fault>
+    ensures { IfOk result (λ place. place ≡ script_of_project project.now) }
+{
+    match Place::join(alloc, project.folder(), "build.gb") {
+        Ok(place) => Ok(place),
+        Err(PlaceFault::OutOfMemory) => Err(Fault::OutOfMemory),
+        Err(PlaceFault::BadPlace) => Err(Fault::BadPlace(Text::from_str(alloc, "build.gb")?)),
+    }
+}
+
+/// The lines of the statements of the script at a place. Where there is no file, there are none.
+fn lines_at<F: Folder>(
+    alloc: Global,
+    folder: &mut F,
+    place: &Place,
+) -> Result<Vec<StatementLines>, Fault>
+    ensures asks { Asks F.failures F.may_leave F.asked no_change folder.old folder.new }
+    ensures same { IsTrue F.tells → F.contents folder.new ≡ F.contents folder.old }
+    ensures lines { IsTrue F.tells → IfOk result (λ lines.
+        AreLinesAt (F.contents folder.old).files place.now lines.items) }
+{
+    match folder.read(alloc, place, MAX_SCRIPT as u64) {
+        Ok(bytes) => lines_in(alloc, bytes.as_slice(), place),
+        Err(fault) => match fault {
+            FolderFault::Missing => Ok(Vec::new(alloc)),
+            other => Err(fault_at(other, place)),
+        },
+    }
+}
+
+/// The lines of the statements of these bytes, which are those of the script at this place.
+fn lines_in(alloc: Global, bytes: &[u8], place: &Place) -> Result<Vec<StatementLines>, Fault>
+    ensures { IfOk result (λ lines. AreLinesOf bytes.now lines.items) }
+{
+    match read_script_lines(alloc, bytes) {
+        Ok(lines) => Ok(lines),
+        Err(fault) => Err(in_file(fault, place.copy()?)),
+    }
+}
+
+/// The fault of a text, with the place of its file.
+fn in_file(fault: ScriptFault, place: Place) -> Fault {
+    match fault {
+        ScriptFault::OutOfMemory => Fault::OutOfMemory,
+        ScriptFault::Syntax(line) => Fault::Syntax(place, line),
+        ScriptFault::TooLong => Fault::TooLong(place),
+        ScriptFault::TooDeep(line) => Fault::TooDeep(place, line),
+        ScriptFault::NotUtf8 => Fault::NotUtf8(place),
+    }
+}
+
+/// Adds the tasks that these statements register, by their lines.
+fn push_registered(
+    alloc: Global,
+    sites: &mut Vec<Site>,
+    project: &Project,
+    script: &Place,
+    statements: &[Statement],
+    lines: &[StatementLines],
+) -> Result<(), Fault>
+    ensures { OnOk result (sites.new.items
+        ≡ sites.old.items ++ sites_of project.now script.now statements.now lines.now) }
+{
+    let mut rest = lines;
+    for statement in statements {
+        let (line, others) = first_line(rest);
+        push_statement(alloc, sites, project, script, statement, line)?;
+        rest = others;
+    }
+    Ok(())
+}
+
+/// The line of the first statement, and the lines of the others.
+fn first_line(lines: &[StatementLines]) -> (u64, &[StatementLines])
+    ensures line { result.0 ≡ first_line lines.now }
+    ensures others { result.1.now ≡ other_lines lines.now }
+{
+    match lines.split_first() {
+        Some((first, others)) => (first.statement(), others),
+        None => (1, lines),
+    }
+}
+
+/// Adds the task that a statement in this line registers, if it registers one.
+fn push_statement(
+    alloc: Global,
+    sites: &mut Vec<Site>,
+    project: &Project,
+    script: &Place,
+    statement: &Statement,
+    line: u64,
+) -> Result<(), Fault>
+    ensures { OnOk result (sites.new.items
+        ≡ sites.old.items ++ registered_at project.now script.now line statement.now) }
+{
+    match statement {
+        Statement::Register(registration) => {
+            push_site(alloc, sites, project, script, &registration.name, line)
+        }
+        _ => Ok(()),
+    }
+}
+
+fn push_site(
+    alloc: Global,
+    sites: &mut Vec<Site>,
+    project: &Project,
+    script: &Place,
+    name: &Name,
+    line: u64,
+) -> Result<(), Fault>
+    ensures { OnOk result (sites.new.items ≡ sites.old.items
+        ++ record { path = task_in project.now name.now; script = script.now; line = line } ∷ []) }
+{
+    let path = task_path(alloc, project.path(), name)?;
+    let script = script.copy()?;
+    sites.push(Site { path, script, line })?;
+    Ok(())
+}
+
+/// The path of the task of a name in a project.
+fn task_path(alloc: Global, project: &ProjectPath, name: &Name) -> Result<TaskPath, Fault>
+    ensures path { IfOk result (λ path. path ≡ task_in project.now name.now) }
+    ensures fault { IfErr result (λ fault. fault ≡ OutOfMemory) }
+{
+    let path = path_in(alloc, project.as_str(), name.as_str())?;
+    match TaskPath::read(alloc, path.as_str()) {
+        Ok(path) => Ok(path),
+        Err(NameFault::OutOfMemory) => Err(Fault::OutOfMemory),
+        Err(NameFault::BadName) => unreachable!(),
+    }
+}
