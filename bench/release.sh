@@ -1,0 +1,24 @@
+#!/usr/bin/env bash
+# release.sh [FOLDER]: one archive of the last commit, gb-COMMIT.tar.gz in FOLDER (here by default). It has the
+# programs gb, gb_ask and gb_site as `rt run` builds them, proved and then stripped; the pages of the manual and the
+# files for shells and editors; explain with the documents that it reads; the commit; and SHA-256 sums of all.
+set -eu
+folder=$(cd "${1:-.}" && pwd)
+cd "$(dirname "$0")/.."
+[ -z "$(git status --porcelain)" ] || { echo "release.sh: there are changes that are not committed" >&2; exit 1; }
+commit=$(git rev-parse --short=12 HEAD)
+made=$(mktemp -d)
+trap 'rm -rf "$made"' EXIT
+top=$made/gb-$commit
+mkdir -p "$top/bin" "$top/share"
+for program in gb gb_ask gb_site; do
+  # without a script the program is refused (64), or prints how to ask: either way it was proved and built
+  (cd "crates/$program" && rt run </dev/null >/dev/null 2>&1) || true
+  [ -x "crates/$program/out/$program" ] || { echo "release.sh: $program was not built" >&2; exit 1; }
+  strip -o "$top/bin/$program" "crates/$program/out/$program"
+done
+git archive HEAD README.md docs tools | tar -x -C "$top/share"
+git rev-parse HEAD >"$top/COMMIT"
+(cd "$top" && find . -type f ! -name SHA256SUMS -print0 | sort -z | xargs -0 sha256sum >SHA256SUMS)
+tar -C "$made" --sort=name --owner=0 --group=0 --mtime="@$(git log -1 --format=%ct)" -czf "$folder/gb-$commit.tar.gz" "gb-$commit"
+echo "$folder/gb-$commit.tar.gz"
