@@ -2,3 +2,4 @@ mod Told
 pub mod Numbers
 pub mod Listed
 pub mod Writing
+pub mod Quiet
