@@ -6,7 +6,7 @@ use gb_action::actions::Actions;
 use gb_action::table::ActionTable;
 use gb_answer::{builtin_actions, builtin_functions};
 use gb_ask_command::words::{Mode, Question, Style, USAGE, mode_of, question_of, style_of};
-use gb_ask_command::{fmt, graph, tasks, why};
+use gb_ask_command::{check, fmt, graph, tasks, why};
 use gb_command::run::UNPRINTED;
 use gb_disk::disk::DiskFolder;
 use gb_folder::folder::Folder;
@@ -79,6 +79,7 @@ fn asked<A: Actions, T: Transforms, W: Printer>(
         Question::Tasks => tasks::run(alloc, &mut folder, Ok(words), page, tables),
         Question::Graph => drawn(alloc, &mut folder, words, page, tables),
         Question::Fmt => formatted(rt, &mut folder, words, page),
+        Question::Check => check::run(alloc, &mut folder, Ok(words), page, tables),
         Question::Help => helped(page),
         Question::Unknown => Some(2),
     }

@@ -13,6 +13,7 @@ question_of word =
     else if bytes_eq word (codes "fmt") then questions.Fmt
     else if bytes_eq word (codes "tasks") then questions.Tasks
     else if bytes_eq word (codes "graph") then questions.Graph
+    else if bytes_eq word (codes "check") then questions.Check
     else if bytes_eq word (codes "help") || bytes_eq word (codes "--help") then questions.Help
     else questions.Unknown
 

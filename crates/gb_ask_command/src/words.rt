@@ -13,6 +13,8 @@ pub enum Question {
     Tasks,
     /// The plan as a graph.
     Graph,
+    /// What is wrong with the tasks.
+    Check,
     /// How to ask.
     Help,
     /// Nothing that is known.
@@ -52,6 +54,7 @@ pub fn question_of(word: &str) -> Question
         "fmt" => Question::Fmt,
         "tasks" => Question::Tasks,
         "graph" => Question::Graph,
+        "check" => Question::Check,
         "help" | "--help" => Question::Help,
         _ => Question::Unknown,
     }
