@@ -9,7 +9,7 @@ use gb_answer::{builtin_actions, builtin_functions};
 use gb_ask_command::words::{
     Mode, Question, Style, USAGE, mode_of, notation_of, question_of, style_of,
 };
-use gb_ask_command::{fmt, graph, places, status, tasks, why};
+use gb_ask_command::{check, fmt, graph, places, status, tasks, why};
 use gb_command::run::UNPRINTED;
 use gb_disk::disk::DiskFolder;
 use gb_folder::folder::Folder;
@@ -90,6 +90,7 @@ fn asked<A: Actions, T: Transforms, W: Printer>(
         Question::Makes => related(alloc, &mut folder, Relation::Makes, words, page, tables),
         Question::Status => looked(alloc, &mut folder, activity(rt), words, page, tables),
         Question::Fmt => formatted(rt, &mut folder, words, page),
+        Question::Check => check::run(alloc, &mut folder, Ok(words), page, tables),
         Question::Help => helped(page),
         Question::Unknown => Some(2),
     }

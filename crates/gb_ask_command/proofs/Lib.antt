@@ -3,3 +3,4 @@ pub mod Numbers
 pub mod Listed
 pub mod Writing
 pub mod Treating
+pub mod Quiet

@@ -6,3 +6,5 @@ pub mod Listing
 pub mod Graph
 pub mod Replies
 pub mod Fmt
+pub mod Unread
+pub mod Check

@@ -18,6 +18,7 @@ question_of word =
     else if bytes_eq word (codes "reads") then questions.Reads
     else if bytes_eq word (codes "makes") then questions.Makes
     else if bytes_eq word (codes "status") then questions.Status
+    else if bytes_eq word (codes "check") then questions.Check
     else if bytes_eq word (codes "help") || bytes_eq word (codes "--help") then questions.Help
     else questions.Unknown
 

@@ -21,6 +21,8 @@ pub enum Question {
     Makes,
     /// Whether a build runs, and what the files of `.gb` are.
     Status,
+    /// What is wrong with the tasks.
+    Check,
     /// How to ask.
     Help,
     /// Nothing that is known.
@@ -63,6 +65,7 @@ pub fn question_of(word: &str) -> Question
         "reads" => Question::Reads,
         "makes" => Question::Makes,
         "status" => Question::Status,
+        "check" => Question::Check,
         "help" | "--help" => Question::Help,
         _ => Question::Unknown,
     }
@@ -103,7 +106,7 @@ pub fn mode_of(word: &str) -> Option<Mode>
 
 /// How to ask.
 pub const USAGE: &str = "\
-gb_ask why [WORD ..]       what each task would come to, and why it would run
+gb_ask why [WORD ..]       the outcome of each task if it ran now, and why it would run
 gb_ask tasks [WORD ..]     every registered task, what it does and what it makes
 gb_ask graph [--tree | --mermaid | --svg] [WORD ..]
                            the plan as a graph: for Graphviz, where no form is named
@@ -113,6 +116,7 @@ gb_ask makes [--json] PLACE [WORD ..]
                            every task that makes the place, with the output
 gb_ask status [--json] [WORD ..]
                            whether a build runs, and what each file of `.gb` is
+gb_ask check [WORD ..]     every fault of every task with its line, and warnings
 gb_ask fmt [--write | --check] FILE ..
                            the files in one layout; `-` is standard input
 gb_ask help                this text

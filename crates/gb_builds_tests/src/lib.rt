@@ -10,6 +10,8 @@ mod asking;
 #[cfg(test)]
 mod building;
 #[cfg(test)]
+mod checking;
+#[cfg(test)]
 mod commanding;
 #[cfg(test)]
 mod damaging;

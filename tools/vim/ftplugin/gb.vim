@@ -6,6 +6,6 @@ endif
 let b:did_ftplugin = 1
 
 setlocal comments=:// commentstring=//\ %s iskeyword=@,48-57,_,-
-setlocal makeprg=gb errorformat=REFUSED\ %n\ %m\ %f:%l,%-G%.%#
+setlocal makeprg=gb errorformat=%f:%l:\ %tarning:\ %m,%f:%l:\ %n\ %m,REFUSED\ %n\ %m\ %f:%l,%-G%.%#
 setlocal formatprg=gb_ask\ fmt\ -
 let b:undo_ftplugin = "setlocal comments< commentstring< iskeyword< makeprg< errorformat< formatprg<"

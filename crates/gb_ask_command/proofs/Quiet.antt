@@ -1,0 +1,85 @@
+-- What is found of a folder, and that builds of it are refused for no task where no fault is found.
+use Rattle.std.proofs.Common.{ℕ, ◌≡◌, ◌⊎◌, List, [], Ok, Err, Result, ap, subst, sym, ◌∙◌, inl, inr}
+use Rattle.std.specs.Prelude.{All, Bool, IsTrue}
+use Rattle.gb_build.proofs.OneLemmas.{folders_one}
+use Rattle.gb_build.proofs.Readings.{registered}
+use Rattle.gb_build.specs.Registering.{registers_in}
+use Rattle.gb_build.specs.Scripts.{FolderSays}
+use Rattle.gb_check.specs.All.{AreFindings}
+use Rattle.gb_check.specs.Found.{IsSilent}
+use Rattle.gb_check.specs.Sites.{IsSiteIn}
+use Rattle.gb_check.specs.Warnings.{bare_roots_text}
+use Rattle.gb_check.specs.declared.finding.Findings.{Findings}
+use Rattle.gb_declare.specs.Registered.{registry_said}
+use Rattle.gb_folder.specs.Files.{Contents, Place}
+use Rattle.gb_meaning.specs.Events.{IsDeviceFault, IsRefusedBy}
+use Rattle.gb_meaning.specs.TrueRecord.{outside}
+use Rattle.gb_meaning.specs.declared.events.Invocation.{Invocation}
+use Rattle.gb_plan.specs.Graph.{Plan, Registry}
+use Rattle.gb_plan.specs.Refusal.{IsScheduleFault, request_of}
+use Rattle.gb_plan.specs.Task.{Path, Text}
+use Rattle.gb_registry.specs.Source.{Source}
+use Rattle.gb_registry.specs.Tables.{Tables}
+use Rattle.gb_report.specs.declared.fault.Fault.{Fault}
+use Rattle.gb_report.specs.declared.fault.Fault.TheVariants as faults
+use Rattle.gb_script.specs.declared.script.Statement.{Statement}
+use Rattle.gb_ask_command.specs.Check.{AreFindingsOf, IsNotForATask, IsQuiet}
+
+-- ---- The same folder
+
+-- what is found of a folder is found of one that has the same contents
+pub found_of_same : (tells : Bool) (old new : Contents) → (IsTrue tells → new ≡ old) → (registry : Registry) (scripts : List (Path × List Statement)) (findings : Findings)
+    → AreFindings tells new registry scripts findings → AreFindings tells old registry scripts findings
+found_of_same tells old new same registry scripts findings are = record {
+  sites = are.sites;
+  are_sites = λ told. subst (λ (contents : Contents). All (IsSiteIn contents.files scripts) are.sites) (same told) (are.are_sites told);
+  faults = are.faults;
+  silent = are.silent;
+  warnings = record {
+    bare = are.warnings.bare;
+    are_bare = λ told. subst (λ (contents : Contents). are.warnings.bare ≡ bare_roots_text are.sites contents registry) (same told) (are.warnings.are_bare told);
+    text_is = are.warnings.text_is;
+  };
+}
+
+module _ {M F Z S A : Type 0} (tables : Tables M F Z S A) where
+  pub found_in_same : (tells : Bool) (old new : Contents) → (IsTrue tells → new ≡ old) → (source : Source) (findings : Findings)
+      → AreFindingsOf tables tells source new findings → AreFindingsOf tables tells source old findings
+  found_in_same tells old new same source findings are = record {
+    scripts = are.scripts;
+    are_scripts = are.are_scripts;
+    in_tasks = are.in_tasks;
+    findings = found_of_same tells old new same (registry_said tables source) are.scripts are.in_tasks are.findings;
+    faults = are.faults;
+    warnings = are.warnings;
+  }
+
+  -- ---- Builds of the folder
+
+  module _ (source : Source) (contents : Contents) (given : List (Text × Text)) (says : FolderSays tables contents.files given (Ok source)) (silent : IsSilent (registry_said tables source)) where
+    there : (asked : Invocation) → asked.properties ≡ given → registers_in tables (outside contents).files asked.properties (Ok (registry_said tables source))
+    there asked same = registered tables contents given asked.properties (sym same) source says
+
+    no_other : (asked : Invocation) → asked.properties ≡ given → (registry : Registry) → registers_in tables (outside contents).files asked.properties (Ok registry) → registry ≡ registry_said tables source
+    no_other asked same registry (other, says_other, is) =
+        let here = there asked same in
+        let one = folders_one tables (outside contents).files asked.properties (Ok other) (Ok here.0) says_other here.1 in
+        let same_source : other ≡ here.0 = cc in
+        is ∙ ap (registry_said tables) same_source ∙ sym here.2
+
+    of_refusal : (asked : Invocation) (fault : Fault) → IsRefusedBy (registry_said tables source) asked fault
+        → (fault ≡ faults.OutOfMemory) ⊎ ((request_of (registry_said tables source) asked.requested asked.excluded ≡ Err fault) ⊎ ((plan : Plan) × IsScheduleFault plan fault))
+    of_refusal asked fault refused = silent asked.requested asked.excluded fault (inr refused)
+
+    pub quiet : IsQuiet tables source contents given
+    quiet asked failures after fault same (inl scripts) =
+        let here = there asked same in
+        let two = folders_one tables (outside contents).files asked.properties (Ok here.0) (Err fault) here.1 scripts in
+        absurd (cc)
+    quiet asked failures after fault same (inr (inl (registry, scripts, refused))) =
+        elim (of_refusal asked fault (subst (λ (r : Registry). IsRefusedBy r asked fault) (no_other asked same registry scripts) refused)) as (λ _. IsNotForATask (registry_said tables source) asked failures after fault) [
+          | inl memory ↦ inl memory
+          | inr rest ↦ inr (inr rest)
+        ]
+    quiet asked failures after fault same (inr (inr (inl memory))) = inl memory
+    quiet asked failures after fault same (inr (inr (inr (place, first, device)))) = inr (inl (place, device))

@@ -1,0 +1,35 @@
+use Rattle.std.proofs.Common.{◌≡◌, Ok, List, ap, subst, sym, ◌∙◌}
+use Rattle.std.specs.Prelude.{IfOk, IsTrue, string_bytes}
+use Rattle.std.proofs.lemmas.Result.{IfOk-weaker}
+use Rattle.gb_build.specs.Scripts.{FolderSays}
+use Rattle.gb_folder.specs.Files.{Contents}
+use Rattle.gb_registry.specs.Tables.{tables_of}
+use Rattle.gb_registry.specs.declared.tables.Tables as handed
+use Rattle.gb_check.specs.declared.finding.Findings.{Findings}
+use Rattle.gb_ask_command.specs.Check.{AreFindingsOf, IsChecked}
+use Rattle.gb_ask_command.proofs.Quiet.{found_in_same, quiet}
+use Rattle.gb_ask_command.proofs.check.check_asked.Goals as goal
+
+pub returns-clause-reply : goal.returns-clause-reply
+returns-clause-reply g c =
+    let F = g.F.Folder in
+    let M = g.A.Actions.meanings in
+    let source = c.in_ok-configured.configured.registry in
+    let old : Contents = F.contents c.args.folder.now in
+    let mid : Contents = F.contents c.read_registry.new.folder in
+    let tables = tables_of g.T.Transforms.meanings M c.args.tables.now in
+    let given = c.args.asked.now.properties in
+    let said : IsTrue F.tells → FolderSays tables old.files given (Ok source) =
+    λ tells. subst (λ values. FolderSays tables old.files values (Ok source)) (c.into_vec-given.ensures ∙ c.in_ok-copied.ensures) (c.in_ok-configured.ensures.said tells) in
+    let found : IfOk c.check_configured.result (AreFindingsOf tables F.tells source mid) =
+    subst (λ (handed_in : handed.Tables _ _ _ _ _ _ _). IfOk c.check_configured.result (AreFindingsOf (tables_of g.T.Transforms.meanings M handed_in) F.tells source mid)) c.in_ok-configured.ensures.tables c.check_configured.ensures.found in
+    IfOk-weaker c.check_configured.result _ (IsChecked tables F.tells c.args.asked.now old)
+    (λ findings are.
+    let here : AreFindingsOf tables F.tells source old findings = found_in_same tables F.tells old mid c.read_registry.ensures.same source findings are in
+    record {
+      source = source;
+      said = said;
+      found_of = here;
+      quiet = λ tells none. quiet tables source old given (said tells) (here.findings.silent (sym here.faults ∙ none));
+    })
+    found

@@ -1,0 +1,26 @@
+use Rattle.std.proofs.Common.{◌≡◌, ap, subst, sym, ◌∙◌}
+use Rattle.std.specs.Prelude.{IfOk}
+use Rattle.gb_plan.specs.Graph.{Registry, paths_of}
+use Rattle.gb_registry.specs.Seen.{scripts_in}
+use Rattle.gb_registry.specs.Source.{Source}
+use Rattle.gb_registry.specs.Tables.{tables_of}
+use Rattle.gb_check.specs.All.{AreFindings}
+use Rattle.gb_declare.specs.Registered.{registry_said}
+use Rattle.gb_project.proofs.SoundLemmas.{paths_said}
+use Rattle.gb_project.specs.Scripts.{registry_in}
+use Rattle.gb_ask_command.proofs.check.check_tasks.Goals as goal
+
+pub find-requires : goal.find-requires
+find-requires g c =
+    let tasks = c.in_ok-tasks.tasks in
+    let source : Source = c.args.configured.now.registry in
+    let tables = tables_of g.T.Transforms.meanings g.A.Actions.meanings c.args.configured.now.tables.now in
+    let same : registry_in g.T.Transforms.meanings g.A.Actions.meanings tasks.workspace ≡ registry_said tables source = c.in_ok-tasks.ensures.registry in
+    c.as_slice.ensures.value ∙ c.in_ok-names.ensures ∙ sym c.tasks-registered.ensures.tasks ∙ c.tasks-registered.ensures.registered ∙ sym (paths_said tables source) ∙ ap paths_of (sym same)
+
+pub returns-clause-found : goal.returns-clause-found
+returns-clause-found g c =
+    let F = g.F.Folder in
+    let tables = tables_of g.T.Transforms.meanings g.A.Actions.meanings c.args.configured.now.tables.now in
+    let same : registry_in g.T.Transforms.meanings g.A.Actions.meanings c.in_ok-tasks.tasks.workspace ≡ registry_said tables c.args.configured.now.registry = c.in_ok-tasks.ensures.registry in
+    subst (λ (registry : Registry). IfOk c.find.result (AreFindings F.tells (F.contents c.args.folder.now) registry (scripts_in c.args.scripts.now))) same c.find.ensures.findings

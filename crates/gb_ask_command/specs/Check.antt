@@ -1,0 +1,83 @@
+-- What is replied where faults are asked for.
+use Rattle.std.specs.Prelude.{ℕ, ◌≡◌, ◌⊎◌, ◌++◌, Bool, IfOk, IsTrue, List, [], Result, Ok, Err, if◌then◌else◌}
+use Rattle.std.specs.Prelude.{nat_eq, string_bytes}
+use Rattle.std.specs.List.{flat_map}
+use Rattle.gb_build.specs.Registering.{registers_in}
+use Rattle.gb_build.specs.Scripts.{FolderSays}
+use Rattle.gb_check.specs.All.{AreFindings}
+use Rattle.gb_check.specs.Found.{unread_text}
+use Rattle.gb_check.specs.declared.finding.Findings.{Findings}
+use Rattle.gb_command.specs.Answered.{AreRefused, AskFor, Given}
+use Rattle.gb_declare.specs.Registered.{registry_said}
+use Rattle.gb_folder.specs.Files.{Contents, Place, is_empty}
+use Rattle.gb_meaning.specs.Events.{IsDeviceFault, IsNotBuilt}
+use Rattle.gb_meaning.specs.declared.events.Invocation.{Invocation}
+use Rattle.gb_plan.specs.Graph.{Plan, Registry}
+use Rattle.gb_plan.specs.Refusal.{IsScheduleFault, request_of}
+use Rattle.gb_plan.specs.Task.{Text}
+use Rattle.gb_registry.specs.Projects.{Path}
+use Rattle.gb_registry.specs.Said.{said_by}
+use Rattle.gb_registry.specs.Source.{Source}
+use Rattle.gb_registry.specs.Tables.{Tables}
+use Rattle.gb_report.specs.Fault.{fault_number}
+use Rattle.gb_report.specs.declared.fault.Fault.{Fault}
+use Rattle.gb_report.specs.declared.fault.Fault.TheVariants as faults
+use Rattle.gb_script.specs.declared.script.Statement.{Statement}
+use Rattle.gb_ask_command.specs.Unread.{unread_values_text}
+
+-- what is found, or why scripts or arguments cannot be read
+abbrev pub CheckReply : Type 0
+CheckReply = Result Findings Fault
+
+-- faults, and then warnings
+abbrev pub check_text : CheckReply → List ℕ
+check_text (Ok found) = string_bytes found.faults ++ string_bytes found.warnings
+check_text (Err fault) = unread_text fault
+
+-- the status: 0 where there is no fault, 2 for words that ask for nothing that is known (96), and else 1
+abbrev pub check_status : CheckReply → ℕ
+check_status (Ok found) = if is_empty (string_bytes found.faults) then 0 else 1
+check_status (Err fault) = if nat_eq (fault_number fault) 96 then 2 else 1
+
+-- a refusal for want of memory, for a device that failed, for a word, or for the plan (60 to 63)
+abbrev pub IsNotForATask : Registry → Invocation → ℕ → ℕ → Fault → Type 0
+IsNotForATask registry asked before after fault =
+    (fault ≡ faults.OutOfMemory) ⊎ (((place : Place) × IsDeviceFault before after place fault)
+    ⊎ ((request_of registry asked.requested asked.excluded ≡ Err fault)
+    ⊎ ((plan : Plan) × IsScheduleFault plan fault)))
+
+module _ {M F Z S A : Type 0} (tables : Tables M F Z S A) where
+  -- The theorem of silence, for builds of this folder with these values: whatever else is asked for, a refusal
+  -- is for no task.
+  abbrev pub IsQuiet : Source → Contents → List (Text × Text) → Type 0
+  IsQuiet source contents given =
+      (asked : Invocation) (failures after : ℕ) (fault : Fault) → asked.properties ≡ given
+      → IsNotBuilt (registers_in tables) (record { contents = contents; failures = failures }) asked fault after
+      → IsNotForATask (registry_said tables source) asked failures after fault
+
+module _ {M F Z S A : Type 0} (tables : Tables M F Z S A) (tells : Bool) where
+  -- What is found of what some scripts say. A warning of each value that nothing reads comes before those of
+  -- tasks. Where the folder tells, the scripts are its own.
+  pub record AreFindingsOf (source : Source) (contents : Contents) (found : Findings) : Type 0 where
+    pub scripts : List (Path × List Statement)
+    pub are_scripts : flat_map said_by scripts ≡ source.said
+    pub in_tasks : Findings
+    pub findings : AreFindings tells contents (registry_said tables source) scripts in_tasks
+    pub faults : string_bytes found.faults ≡ string_bytes in_tasks.faults
+    pub warnings : string_bytes found.warnings
+        ≡ unread_values_text scripts source.given ++ string_bytes in_tasks.warnings
+
+  pub record IsChecked (asked : Invocation) (contents : Contents) (found : Findings) : Type 0 where
+    pub source : Source
+    pub said : IsTrue tells → FolderSays tables contents.files asked.properties (Ok source)
+    pub found_of : AreFindingsOf source contents found
+    pub quiet : IsTrue tells → string_bytes found.faults ≡ [] → IsQuiet tables source contents asked.properties
+
+  abbrev pub IsCheckReply : Invocation → Contents → CheckReply → Type 0
+  IsCheckReply asked contents reply = IfOk reply (IsChecked asked contents)
+
+  -- the words are refused, or they ask for something, and this is the reply to it
+  abbrev pub RepliesCheck : Given → Contents → CheckReply → Type 0
+  RepliesCheck given contents reply =
+      ((fault : Fault) × AreRefused given fault × (reply ≡ Err fault))
+      ⊎ ((asked : Invocation) × AskFor given asked × IsCheckReply asked contents reply)

@@ -1,0 +1,87 @@
+//! What `gb_ask check` prints of a folder, as the guide has it.
+use crate::building::{is_told, put_bytes, words_of};
+use crate::offering::offered;
+use gb_action::actions::Actions;
+use gb_ask_command::check;
+use gb_folder::memory::MemoryFolder;
+use gb_kinds::builtin::Builtin;
+use gb_printer::page::Page;
+use gb_provider::transforms::Transforms;
+use gb_registry::tables::Tables;
+use std::alloc::Global;
+use std::test::Fail;
+
+const WRONG: &str = "register pages : copyFile {\n    inputFiles src from dir(\"src\")\n    \
+     outputDir out = buildDir.map(child(\"pages\"))\n}\nregister notes : copyFiles {\n    \
+     inputFiles src from dir(\"notes\")\n    outputDir out = dir(\"notes/out\")\n}\n";
+
+const FAULTS: &str =
+    "build.gb:1: 40 unknown action copyFile\nbuild.gb:5: 56 output outside build :notes notes/out\n\
+     -Pversion: warning: nothing reads it\n";
+
+const RIGHT: &str = "register pages : copyFiles {\n    inputFiles src from dir(\"src\")\n    \
+     outputDir out = buildDir.map(child(\"pages\"))\n}\nregister notes : copyFiles {\n    \
+     inputFiles src from dir(\"notes\")\n    outputDir out = buildDir.map(child(\"notes\"))\n}\n";
+
+const BARE: &str = "build.gb:5: warning: no file is at notes\n";
+
+const MET: &str = "register a:writeText(\"x\"){outputFile out=file(\"build/a\")}\n\
+     register b:writeText(\"y\"){inputFiles one from dir(\"src\")\ninputFiles two from dir(\"src\")\n\
+     outputFile out=file(\"build/a\")}";
+
+const MEETING: &str =
+    "build.gb:1: 61 overlapping outputs :a :b build/a\nbuild.gb:2: warning: one and two read one folder\n";
+
+const BROKEN: &str = "register a {}\nregister {}\n";
+
+/// Fails where something else is printed of a script, or with another status.
+fn is_checked<A: Actions, T: Transforms>(
+    alloc: Global,
+    tables: &Tables<A, T>,
+    script: &str,
+    words: &str,
+    text: &str,
+    status: u8,
+) -> Result<(), Fail> {
+    let mut folder = MemoryFolder::new(alloc);
+    put_bytes(alloc, &mut folder, "build.gb", script.as_bytes())?;
+    put_bytes(alloc, &mut folder, "src/a", b"a")?;
+    let words = words_of(alloc, words)?;
+    let mut out = Vec::new(alloc);
+    let got = check::run(
+        alloc,
+        &mut folder,
+        Ok(words),
+        &mut Page::new(&mut out),
+        tables,
+    );
+    is_told(text, String::from_utf8(out)?.as_str())?;
+    if got == Some(status) {
+        Ok(())
+    } else {
+        Err(Fail::new("another status"))
+    }
+}
+
+fn all_hold<A: Actions, T: Transforms>(alloc: Global, tables: &Tables<A, T>) -> Result<(), Fail> {
+    let rows = [
+        (WRONG, "-Pversion=2", FAULTS, 1),
+        (RIGHT, "", BARE, 0),
+        (MET, "", MEETING, 1),
+        (BROKEN, "", "build.gb:2: 20 syntax build.gb:2\n", 1),
+    ];
+    for (script, words, text, status) in rows {
+        is_checked(alloc, tables, script, words, text, status)?;
+    }
+    Ok(())
+}
+
+#[test]
+fn faults_and_warnings_are_printed(rt: HostRuntime) -> Result<(), Fail> {
+    let (actions, transforms) = offered(rt.alloc())?;
+    let tables = Tables::<Builtin, Builtin> {
+        actions,
+        transforms,
+    };
+    all_hold::<Builtin, Builtin>(rt.alloc(), &tables)
+}
