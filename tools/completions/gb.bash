@@ -3,7 +3,7 @@ _gb() {
     local word=${COMP_WORDS[COMP_CWORD]} before=${COMP_WORDS[*]:1:COMP_CWORD-1}
     COMPREPLY=()
     if [[ ${COMP_WORDS[0]##*/} == gb_ask && $COMP_CWORD == 1 ]]; then
-        COMPREPLY=($(compgen -W 'why tasks graph reads makes status fmt help' -- "$word"))
+        COMPREPLY=($(compgen -W 'why tasks graph check reads makes status fmt help' -- "$word"))
         return
     fi
     case ${COMP_WORDS[0]##*/}:${COMP_WORDS[1]} in
