@@ -20,7 +20,11 @@ const REASONS: [Row; 9] = [
     (FIRST, "stale", "upToDateWhen is false\n"),
     (FILE, "", "src MODIFIED a\n"),
     (VERSION, "", "action copyFiles has another version\n"),
-    (ARGUMENT, "", "argument 1 of copyFiles was \"x\", is \"y\"\n"),
+    (
+        ARGUMENT,
+        "",
+        "argument 1 of copyFiles was \"x\", is \"y\"\n",
+    ),
     (VALUE, "", "input value v was \"v\", is \"w\"\n"),
     (OUTPUT, "", "output build/o/a was modified\n"),
 ];
