@@ -1,4 +1,4 @@
-" Comments and names of the notation, :make, which goes to the line of a fault, and gq, which formats.
+" Comments and names of the notation, :make, which goes to the line of a fault, and gq and =, which format.
 
 if exists("b:did_ftplugin")
   finish
@@ -7,5 +7,5 @@ let b:did_ftplugin = 1
 
 setlocal comments=:// commentstring=//\ %s iskeyword=@,48-57,_,-
 setlocal makeprg=gb errorformat=%f:%l:\ %tarning:\ %m,%f:%l:\ %n\ %m,REFUSED\ %n\ %m\ %f:%l,%-G%.%#
-setlocal formatprg=gb_ask\ fmt\ -
-let b:undo_ftplugin = "setlocal comments< commentstring< iskeyword< makeprg< errorformat< formatprg<"
+setlocal formatprg=gb_ask\ fmt\ - equalprg=gb_ask\ fmt\ -
+let b:undo_ftplugin = "setlocal comments< commentstring< iskeyword< makeprg< errorformat< formatprg< equalprg<"
