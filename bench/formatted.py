@@ -2,10 +2,11 @@
 """formatted.py GB_ASK [--differ]: formats every script of the repository by the built gb_ask, and prints how
 many are in its layout. --differ also prints each that differs, as a diff.
 
-The scripts are crates/*/data/**/*.gb, what the examples of the documents and the replays of bench/replays put at
-a place `*.gb`, and what the documents show behind `$ cat` and `$ gb_ask fmt`. A script that is refused has its
-fault on purpose. The formatted text is formatted once more, and must stay the same. The status is 1 where it does
-not, or where a script differs, but for those behind `$ cat`. The text of a `put` may lack its last line feed.
+The scripts are crates/*/data/**/*.gb, what the examples of the documents and the replays of bench/replays
+put at a place `*.gb`, and what the documents show behind `$ cat` and `$ gb_ask fmt`. A script that is refused
+has its fault on purpose. The formatted text is formatted once more, and must stay the same. The status is 1
+where it does not, or where a script differs, but for those behind `$ cat`. The text of a `put` may lack its
+last line feed.
 """
 import difflib
 import glob
@@ -44,12 +45,14 @@ def of_examples():
 
 
 def shown_behind(command):
-    """What the documents show behind such a command, up to the next one: where, the name of its file, the text."""
+    """What the documents show behind such a command, up to the next: where, its file's name, the text."""
     for path in guide.DOCS:
         with open(os.path.join(guide.ROOT, path), encoding="utf-8") as file:
-            shown = re.finditer(rf"^    \$ {command} (\S*\.gb)\n((?:    [^$\n].*\n|\n+(?=    ))+)", file.read(), re.M)
+            block = rf"^    \$ {command} (\S*\.gb)\n((?:    [^$\n].*\n|\n+(?=    ))+)"
+            shown = re.finditer(block, file.read(), re.M)
         for at, block in enumerate(shown, 1):
-            yield f"{path} {command} {at}", os.path.basename(block[1]), re.sub(r"^    ", "", block[2], flags=re.M)
+            text = re.sub(r"^    ", "", block[2], flags=re.M)
+            yield f"{path} {command} {at}", os.path.basename(block[1]), text
 
 
 def of_documents():

@@ -11,7 +11,7 @@ import re
 import sys
 
 ROOT = os.path.dirname(os.path.dirname(os.path.abspath(__file__)))
-# A page: its line of purpose, the document, and of each part the text that it begins with and the one behind it.
+# A page: its line of purpose, the document, and of each part its first text and the text behind it.
 PAGES = {
     "gb": ("build the current folder", "docs/REFERENCE.md",
            [("    gb [WORD ..] [OPTION ..]", "`gb_ask` answers questions")]),
@@ -55,7 +55,8 @@ def roff(text):
         if lines[0].startswith("##"):
             made += [".SH " + lines[0].lstrip("# ").upper()]
         elif lines[0].startswith("    "):
-            made += [".PP", ".nf", *(inline(line.strip()) for line in lines if line.startswith("    ")), ".fi"]
+            shown = [inline(line.strip()) for line in lines if line.startswith("    ")]
+            made += [".PP", ".nf", *shown, ".fi"]
             made += [inline(line) for line in lines if not line.startswith("    ")]
         elif lines[0].startswith("|"):
             made += rows(lines)

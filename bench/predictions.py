@@ -1,13 +1,13 @@
 #!/usr/bin/env python3
-"""Asks `gb_ask why` what a build will do, runs `gb` with the same words, and counts the lines that were wrong.
+"""Asks `gb_ask why` what a build will do, runs `gb` with the same words, and counts wrong lines.
 
     bench/predictions.py GB GB_ASK [FIRST [FOLDERS]]     two built programs, the first seed, how many folders
 
 In each folder is a random script of 3 to 8 tasks: sources, outputs of other tasks as inputs, skipWhenEmpty,
-incremental properties, tests by -P. Five times the words are asked for and then built; then sources, outputs and
-records are edited. A line without a mark has to be what the build does, up to the first task that fails: the
-outcome, and for an incremental run the first change and how many there are. It prints the counts, and each line
-that was wrong with its seed. The status is 1 if one was.
+incremental properties, tests by -P. Five times the words are asked for and then built; then sources, outputs
+and records are edited. A line without a mark has to be what the build does, up to the first task that fails:
+the outcome, and for an incremental run the first change and how many there are. It prints the counts, and
+each line that was wrong with its seed. The status is 1 if one was.
 """
 import os
 import random
@@ -17,7 +17,8 @@ import subprocess
 import sys
 import tempfile
 
-KINDS = ["copyFiles", "copyFiles", "concat", "sums", "writeText", "replaceTokens", "keepLines", "none", "print"]
+KINDS = ["copyFiles", "copyFiles", "concat", "sums", "writeText", "replaceTokens", "keepLines"]
+KINDS += ["none", "print"]
 ARGUMENTS = {"replaceTokens": '("a", gradleProperty("v").orElse("d"))', "keepLines": '("a")'}
 TEXTS = ["a\n", "b @a@\n", "c a\n", ""]
 
@@ -45,7 +46,7 @@ def task(at, number, makers):
     elif kind != "none":
         head += f" : {kind}{ARGUMENTS.get(kind, '')}"
         roots = dict.fromkeys(root(at, makers, clauses) for _ in range(at.randint(1, 2)))
-        flags = "".join(flag for flag, share in [(" incremental", 0.5), (" skipWhenEmpty", 0.5)] if at.random() < share)
+        flags = "".join(flag for flag in (" incremental", " skipWhenEmpty") if at.random() < 0.5)
         clauses.append(f"inputFiles src{flags} from {', '.join(roots)}")
         clauses.append(("outputFile " if kind == "concat" else "outputDir ") + output)
     for share, clause in [(0.15, f'onlyIf gradleProperty("go{at.randint(0, 1)}").orElse("true") is isTrue'),
@@ -85,7 +86,8 @@ def edit(at):
 
 def words(at, count):
     asked = [f"t{number}" for number in sorted(at.sample(range(count), at.randint(1, count)))]
-    return asked + [f"-P{name}={at.choice(['true', 'false', 'd'])}" for name in ("v", "go0", "go1") if at.random() < 0.3]
+    given = [name for name in ("v", "go0", "go1") if at.random() < 0.3]
+    return asked + [f"-P{name}={at.choice(['true', 'false', 'd'])}" for name in given]
 
 
 def run(program, given):
@@ -111,7 +113,8 @@ def is_right(rest, outcome, lines):
         return said != "RUN" or all(line.startswith("ADDED ") for line in changes)
     more = re.search(r", and (\d+) more", rest)
     first = re.search(r" src (\S+ [^ ,]+)", rest)
-    return not changes or (first and changes[0] == first[1] and len(changes) == 1 + (int(more[1]) if more else 0))
+    count = 1 + (int(more[1]) if more else 0)
+    return not changes or (first and changes[0] == first[1] and len(changes) == count)
 
 
 def outcomes(text):

@@ -1,11 +1,15 @@
 #!/usr/bin/env bash
 # release.sh [FOLDER]: one archive of the last commit, gb-COMMIT.tar.gz in FOLDER (here by default). It has the
-# programs gb, gb_ask and gb_site as `rt run` builds them, proved and then stripped; the pages of the manual and the
-# files for shells and editors; explain with the documents that it reads; the commit; and SHA-256 sums of all.
+# programs gb, gb_ask and gb_site as `rt run` builds them, proved and then stripped; the pages of the manual and
+# the files for shells and editors; explain with the documents that it reads; the commit; and SHA-256 sums of
+# all.
 set -eu
 folder=$(cd "${1:-.}" && pwd)
 cd "$(dirname "$0")/.."
-[ -z "$(git status --porcelain)" ] || { echo "release.sh: there are changes that are not committed" >&2; exit 1; }
+if [ -n "$(git status --porcelain)" ]; then
+  echo "release.sh: there are changes that are not committed" >&2
+  exit 1
+fi
 commit=$(git rev-parse --short=12 HEAD)
 made=$(mktemp -d)
 trap 'rm -rf "$made"' EXIT
@@ -20,5 +24,6 @@ done
 git archive HEAD README.md docs tools | tar -x -C "$top/share"
 git rev-parse HEAD >"$top/COMMIT"
 (cd "$top" && find . -type f ! -name SHA256SUMS -print0 | sort -z | xargs -0 sha256sum >SHA256SUMS)
-tar -C "$made" --sort=name --owner=0 --group=0 --mtime="@$(git log -1 --format=%ct)" -czf "$folder/gb-$commit.tar.gz" "gb-$commit"
+tar -C "$made" --sort=name --owner=0 --group=0 --mtime="@$(git log -1 --format=%ct)" \
+  -czf "$folder/gb-$commit.tar.gz" "gb-$commit"
 echo "$folder/gb-$commit.tar.gz"
