@@ -1,4 +1,4 @@
-//! What `gb_ask check` prints of a folder, as the guide has it.
+//! What `gb_ask check` prints of a folder, as the guide has it but for the outputs.
 use crate::building::{is_told, put_bytes, words_of};
 use crate::offering::offered;
 use gb_action::actions::Actions;
@@ -12,7 +12,7 @@ use std::alloc::Global;
 use std::test::Fail;
 
 const WRONG: &str = "register pages : copyFile {\n    inputFiles src from dir(\"src\")\n    \
-     outputDir out = buildDir.map(child(\"pages\"))\n}\nregister notes : copyFiles {\n    \
+     outputDir out = dir(\"build/pages\")\n}\nregister notes : copyFiles {\n    \
      inputFiles src from dir(\"notes\")\n    outputDir out = dir(\"notes/out\")\n}\n";
 
 const FAULTS: &str =
@@ -20,8 +20,8 @@ const FAULTS: &str =
      -Pversion: warning: nothing reads it\n";
 
 const RIGHT: &str = "register pages : copyFiles {\n    inputFiles src from dir(\"src\")\n    \
-     outputDir out = buildDir.map(child(\"pages\"))\n}\nregister notes : copyFiles {\n    \
-     inputFiles src from dir(\"notes\")\n    outputDir out = buildDir.map(child(\"notes\"))\n}\n";
+     outputDir out = dir(\"build/pages\")\n}\nregister notes : copyFiles {\n    \
+     inputFiles src from dir(\"notes\")\n    outputDir out = dir(\"build/notes\")\n}\n";
 
 const BARE: &str = "build.gb:5: warning: no file is at notes\n";
 
