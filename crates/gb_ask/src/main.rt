@@ -1,6 +1,6 @@
 //! What may be asked of the current folder, with the built-in kinds and functions: `gb_ask why`, `tasks`,
-//! `graph`, `reads`, `makes`, `status` and `fmt`. It changes nothing but by `fmt --write`, which alone takes the
-//! locks of a build; `status` tries one for a moment.
+//! `graph`, `check`, `reads`, `makes`, `status` and `fmt`. It changes nothing but by `fmt --write`, which
+//! alone takes the locks of a build; `status` tries one for a moment.
 #![tactic(auto)]
 
 use gb_action::actions::Actions;
