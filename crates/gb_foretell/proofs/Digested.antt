@@ -7,14 +7,15 @@ use Rattle.gb_history.specs.Record.{Record}
 use Rattle.gb_history.specs.declared.decide.Decision.{Decision}
 use Rattle.gb_history.specs.declared.decide.Decision.TheVariants as decisions
 use Rattle.gb_action.specs.Changes.{Changes}
-use Rattle.gb_label.specs.Deciding.{IsDecided, by_record}
+use Rattle.gb_label.specs.Deciding.{GoesBy, IsBasisIn, IsDecided}
+use Rattle.gb_label.specs.declared.deciding.Basis.{Basis}
+use Rattle.gb_label.specs.declared.deciding.Basis.TheVariants as bases
 use Rattle.gb_label.specs.Reading.{recorded_of}
 use Rattle.gb_reason.specs.Real.{ChangesAreReasons}
 use Rattle.gb_reason.specs.Reasons.{change_reasons}
 use Rattle.gb_reason.specs.declared.reason.Reason.{Reason}
-use Rattle.gb_label.specs.declared.prepare.Prepared.TheVariants as prepared
-use Rattle.gb_label.specs.declared.prepare.Seen.{Seen}
 use Rattle.gb_meaning.specs.Kinds.{Kinds}
+use Rattle.gb_meaning.specs.Label.{early_case}
 use Rattle.gb_meaning.specs.Memory.{Memory, World, output_files}
 use Rattle.gb_meaning.specs.TrueRecord.{outside}
 use Rattle.gb_meaning.specs.Turn.{Rules}
@@ -27,7 +28,7 @@ use Rattle.gb_plan.specs.declared.task.TaskDeclaration.{TaskDeclaration as Task}
 use Rattle.gb_records.specs.Said.{IsReadAt}
 use Rattle.gb_report.specs.declared.report.Options.{Options}
 use Rattle.gb_run.proofs.Owned.{narrowed}
-use Rattle.gb_turn.specs.Case.{DecisionIsCase, IsCaseFor, IsKnown, OutsideIsEnough}
+use Rattle.gb_turn.specs.Case.{DecidedOutside, DecisionIsCase, IsCaseFor, IsKnown}
 use Rattle.gb_turn.specs.Known.{AreWorth, WhatIsReadIsKnown}
 use Rattle.gb_turn.specs.Turns.{IsRunFor, RunsAreOfCase, goes_by_changes}
 use Rattle.gb_turn.proofs.Outside.{early_outside}
@@ -41,16 +42,23 @@ use Rattle.gb_foretell.proofs.Keeping.{predictions_are_kept}
 use Rattle.gb_foretell.proofs.Telling.{by_machine, empty_mapped}
 
 -- where it is decided to run incrementally, the reasons are the changes
+by_basis : ChangesAreReasons → (options : Options) (task : Task) (folder : Contents) (read : Option Record) (changes : List Changes) (why : List Reason) (basis : Basis)
+    → GoesBy options task read (decisions.Incremental changes) basis → IsBasisIn options task folder basis → AreReasons options task folder read why
+    → is_empty task.outputs ≡ false → why ≡ change_reasons changes
+by_basis law options task folder read changes why (bases.Anew cause) goes so are outputs = absurd (let e = goes.0 in (cc))
+by_basis law options task folder None changes why (bases.Compared present) goes so are outputs = absurd goes
+by_basis law options task folder (Some run) changes why (bases.Compared present) goes so are outputs =
+    are present so
+    ∙ law run present goes.1
+    (ap (λ (now : Record). is_empty now.outputs) so.now ∙ empty_mapped (recorded_of folder.files) task.outputs ∙ outputs)
+    ∙ ap change_reasons (sym goes.2)
+
 reasons_are : ChangesAreReasons → (options : Options) (task : Task) (folder : Contents) (read : Option Record) (changes : List Changes) (why : List Reason)
     → IsDecided options task folder read (decisions.Incremental changes) → AreReasons options task folder read why → is_empty task.outputs ≡ false → why ≡ change_reasons changes
-reasons_are law options task folder (Some run) changes why (by_record present is decides) are outputs =
-    are present is
-    ∙ law run present decides.1
-    (ap (λ (now : Record). is_empty now.outputs) is.now ∙ empty_mapped (recorded_of folder.files) task.outputs ∙ outputs)
-    ∙ ap change_reasons (sym decides.2)
-reasons_are law options task folder None changes why decided are outputs = elim decided [ ]
+reasons_are law options task folder read changes why decided are outputs =
+    by_basis law options task folder read changes why decided.0 decided.1 decided.2 are outputs
 
-module _ (decision_is_case : DecisionIsCase) (outside_is_enough : OutsideIsEnough) (runs_are_of_case : RunsAreOfCase) (changes_are_reasons : ChangesAreReasons) (seen : Seen)
+module _ (decision_is_case : DecisionIsCase) (decided_outside : DecidedOutside) (runs_are_of_case : RunsAreOfCase) (changes_are_reasons : ChangesAreReasons)
     (kinds : Kinds) (options : Options) (task : Task) (folder : Contents) (memory : Memory) where
   world : World
   world = world_of folder memory
@@ -75,6 +83,12 @@ module _ (decision_is_case : DecisionIsCase) (outside_is_enough : OutsideIsEnoug
     machine_or_not true e f {A} = not_true (sym f)
     machine_or_not false e f {A} = not_true e
 
+    decided_there : (decision : Decision) → early_case task folder ≡ None → IsDecided options task folder read decision
+        → (early_case task (outside folder) ≡ None) × IsCaseFor kinds options task (world_of folder memory) decision
+    decided_there decision none decided =
+        let early = early_outside task folder ∙ none in
+        (early, decision_is_case kinds options task (world_of folder memory) read decision known early (decided_outside options task folder read decision out decided))
+
     pub predicted_of : (before after : ℕ) (coming : Coming) → IsOfFolder coming → IsForetold kinds options task folder read before after coming
         → IsPredicted kinds options task (world_of folder memory) coming
     predicted_of before after comings.Skips of is = early_outside task folder ∙ is
@@ -84,18 +98,15 @@ module _ (decision_is_case : DecisionIsCase) (outside_is_enough : OutsideIsEnoug
     predicted_of before after (comings.CannotRead fault) of (inl machine) = not_true (sym of ∙ by_machine before after fault machine)
     predicted_of before after (comings.CannotRead fault) of (inr first) = (first.0, early_outside task folder ∙ first.1, first.2)
     predicted_of before after comings.UpToDate of is =
-        let there = outside_is_enough options task folder read (prepared.Decided decisions.UpToDate seen) out is in
-        (there.0, decision_is_case kinds options task (world_of folder memory) read decisions.UpToDate known there.0 there.1)
+        decided_there decisions.UpToDate is.0 is.1
     predicted_of before after comings.HasGrown of is =
-        let there = outside_is_enough options task folder read (prepared.Decided decisions.Full seen) out (is.0, is.1.0) in
-        (there.0, decision_is_case kinds options task (world_of folder memory) read decisions.Full known there.0 there.1)
+        decided_there decisions.Full is.0 is.1.0
     predicted_of before after (comings.Runs by_changes reasons) of is =
         let run = is.1 in
-        let there = outside_is_enough options task folder read (prepared.Decided run.decision seen) out (is.0, run.decided) in
-        let case = decision_is_case kinds options task (world_of folder memory) read run.decision known there.0 there.1 in
-        (there.0, way run.decision by_changes reasons.items run.by_changes run.decided run.reasons case (runs_are_of_case kinds options task (world_of folder memory) run.decision run.due case))
+        let there = decided_there run.decision is.0 run.decided in
+        (there.0, way run.decision by_changes reasons.items run.by_changes run.decided run.reasons there.1 (runs_are_of_case kinds options task (world_of folder memory) run.decision run.due there.1))
 
-module _ (decision_is_case : DecisionIsCase) (outside_is_enough : OutsideIsEnough) (what_is_read_is_known : WhatIsReadIsKnown) (runs_are_of_case : RunsAreOfCase) (changes_are_reasons : ChangesAreReasons) (seen : Seen)
+module _ (decision_is_case : DecisionIsCase) (decided_outside : DecidedOutside) (what_is_read_is_known : WhatIsReadIsKnown) (runs_are_of_case : RunsAreOfCase) (changes_are_reasons : ChangesAreReasons)
     (rules : Rules) where
   module _ (folder : Contents) (memory : Memory) (before after : ℕ) where
     all_predicted : (plan : List Planned) (records : List (Option Record)) (told : List Foretold)
@@ -109,7 +120,7 @@ module _ (decision_is_case : DecisionIsCase) (outside_is_enough : OutsideIsEnoug
     all_predicted (planned ∷ plan) [] told worth read is of = absurd read
     all_predicted (planned ∷ plan) (record_of ∷ records) [] worth read told of = absurd told
     all_predicted (planned ∷ plan) (record_of ∷ records) (one ∷ more) worth read told of = (
-      predicted_of decision_is_case outside_is_enough runs_are_of_case changes_are_reasons seen rules.kinds rules.options planned.task folder memory worth.0.not_own record_of
+      predicted_of decision_is_case decided_outside runs_are_of_case changes_are_reasons rules.kinds rules.options planned.task folder memory worth.0.not_own record_of
           (what_is_read_is_known rules.kinds planned.task folder.files memory (world_of folder memory) record_of worth.0 read.0) before after one.coming of.0 told.0,
       all_predicted plan records more worth.1 read.1 told.1 of.1,
     )

@@ -1,33 +1,36 @@
 -- From the decision on a task to its prediction.
-use Rattle.std.specs.Prelude.{ℕ, ◌≡◌, ◌≤◌, Bool, true, false, not, List, [], ◌∷◌, ◌++◌, map, if◌then◌else◌, Option, None, Some, Result, Ok, Err, IfOk, IfErr, OnOk}
-use Rattle.std.specs.List.{AllZip, flat_map}
-use Rattle.std.proofs.Common.{refl, sym, ap, subst, ◌∙◌, inl, inr, true≢false}
+use Rattle.std.specs.Prelude.{ℕ, ◌≡◌, ◌≤◌, ◌⊎◌, Bool, true, false, not, List, [], ◌∷◌, ◌++◌, map, if◌then◌else◌, Option, None, Some, Result, Ok, Err, IfOk, IfErr}
+use Rattle.std.specs.List.{AllZip}
+use Rattle.std.proofs.Common.{refl, sym, ap, subst, ◌∙◌, inl, inr}
 use Rattle.gb_core.specs.Lists.{first_of}
 use Rattle.gb_folder.specs.Files.{Contents, is_empty}
-use Rattle.gb_history.specs.Record.{Record}
+use Rattle.gb_history.specs.Decision.{Decides, DecidesFrom}
+use Rattle.gb_history.specs.Record.{Prints, Record}
+use Rattle.gb_history.specs.declared.decide.Decision.{Decision}
 use Rattle.gb_history.specs.declared.decide.Decision.TheVariants as decisions
 use Rattle.gb_history.specs.declared.decide.Present.{Present}
 use Rattle.gb_history.specs.declared.record.OutputRecord.{OutputRecord}
-use Rattle.gb_history.specs.Record.{Prints}
-use Rattle.gb_label.specs.Deciding.{IsDecided, IsGrown, IsPresentOf, anew, by_record, forgotten}
-use Rattle.gb_label.proofs.Cases.{by_source, cannot_before, hindered_at_outputs}
-use Rattle.gb_label.proofs.Growth.{CannotPrint}
+use Rattle.gb_label.specs.Deciding.{GoesBy, IsBasisIn, IsDecided, IsPresentOf}
+use Rattle.gb_label.specs.Reading.{CannotRead, recorded_of}
+use Rattle.gb_label.specs.declared.deciding.Basis.{Basis}
+use Rattle.gb_label.specs.declared.deciding.Basis.TheVariants as bases
+use Rattle.gb_label.specs.declared.deciding.Cause.TheVariants as causes
 use Rattle.gb_meaning.specs.Kinds.{Kinds}
 use Rattle.gb_meaning.specs.Label.{HasNoSource, early_case}
 use Rattle.gb_meaning.specs.Memory.{output_files}
-use Rattle.gb_meaning.specs.Tree.{has_no_source, input_faults, listing_faults, trees_of}
+use Rattle.gb_meaning.specs.Tree.{has_no_source, input_faults, listing_faults}
 use Rattle.gb_meaning.proofs.Common.{none_some}
 use Rattle.gb_plan.specs.declared.task.TaskDeclaration.{TaskDeclaration as Task}
 use Rattle.gb_reason.specs.Reasons.{differences, reasons_of}
 use Rattle.gb_reason.specs.declared.reason.Reason.{Reason}
 use Rattle.gb_reason.specs.declared.reason.Reason.TheVariants as reasons
 use Rattle.gb_report.specs.declared.fault.Fault.{Fault}
+use Rattle.gb_report.specs.declared.fault.Fault.TheVariants as faults
 use Rattle.gb_report.specs.declared.report.Options.{Options}
 use Rattle.gb_store.specs.Faults.{IsOfMachine}
 use Rattle.gb_store.proofs.Machine.{machine_after, machine_before}
-use Rattle.gb_label.specs.Reading.{CannotRead, digests_in, print_faults, recorded_of}
 use Rattle.gb_foretell.proofs.Finding.{case_by}
-use Rattle.gb_foretell.specs.Explained.{IsExplained}
+use Rattle.gb_foretell.specs.Explained.{IsCompared, IsExplained, why_without}
 use Rattle.gb_foretell.specs.Foretold.{AreReasons, IsForetold, IsFound, IsReasoned, RunsFor, is_of_machine, told_of}
 use Rattle.gb_foretell.specs.declared.coming.Coming.{Coming}
 use Rattle.gb_foretell.specs.declared.coming.Coming.TheVariants as comings
@@ -59,24 +62,6 @@ full_runs e = cc
 -- ---- What is found
 
 module _ (kinds : Kinds) (options : Options) (task : Task) (folder : Contents) where
-  -- what is explained by a record on what stands is found so
-  pub found_of : (run : Record) (present : Present) (coming : Coming)
-      → IsPresentOf options task (digests_in (trees_of task folder.files)) (map (recorded_of folder.files) task.outputs) present
-      → IsExplained kinds task run present coming → IsFound kinds options task folder (Some run) coming
-  found_of run present comings.Skips is never = absurd never
-  found_of run present comings.HasNoActions is never = absurd never
-  found_of run present (comings.HasNoSource removes) is never = absurd never
-  found_of run present (comings.CannotRead fault) is never = absurd never
-  found_of run present comings.UpToDate is from = by_record present is from
-  found_of run present comings.HasGrown is never = absurd never
-  found_of run present (comings.Runs by_changes told) is from = record {
-    decision = from.0;
-    decided = by_record present is from.1;
-    due = from.2;
-    by_changes = from.3;
-    reasons = λ other is_other. from.4 ∙ same_reasons options task _ _ run present other is is_other;
-  }
-
   runs_found : (old : Option Record) (reason : Reason) (coming : Coming) → RunsFor reason coming
       → IsDecided options task folder old decisions.Full → AreReasons options task folder old (reason ∷ [])
       → IsFound kinds options task folder old coming
@@ -94,27 +79,61 @@ module _ (kinds : Kinds) (options : Options) (task : Task) (folder : Contents) w
     reasons = λ present is_present. is.1 ∙ why present is_present;
   }
 
-  abbrev pub why_without : Bool → Reason
-  why_without none = if none then reasons.NoOutputs else reasons.NoRecord
+  abbrev without : Bool → Reason
+  without none = if none then reasons.NoOutputs else reasons.NoRecord
 
-  pub forgotten_found : (coming : Coming) → RunsFor (why_without (is_empty task.outputs)) coming → IsFound kinds options task folder None coming
+  forgotten_found : (coming : Coming) → RunsFor (why_without task) coming → IsFound kinds options task folder None coming
   forgotten_found coming is =
-      runs_found None (why_without (is_empty task.outputs)) coming is forgotten
-      (λ present is_present. ap (λ none. why_without none ∷ [])
+      runs_found None (why_without task) coming is (bases.Anew causes.NoRecord, (refl, tt), tt)
+      (λ present is_present. ap (λ none. without none ∷ [])
       (sym (ap (λ (now : Record). is_empty now.outputs) is_present.now ∙ empty_mapped (recorded_of folder.files) task.outputs)))
 
-  pub rerun_found : (run : Record) (coming : Coming) → options.rerun ≡ true → RunsFor reasons.Rerun coming
+  rerun_found : (run : Record) (coming : Coming) → options.rerun ≡ true → RunsFor reasons.Rerun coming
       → IsFound kinds options task folder (Some run) coming
   rerun_found run coming asked is =
-      runs_found (Some run) reasons.Rerun coming is (anew (inl asked))
+      runs_found (Some run) reasons.Rerun coming is (bases.Anew causes.Rerun, (refl, asked), tt)
       (λ present is_present. sym (ap (λ rerun. by_parts run present.now rerun present.is_stale) (is_present.rerun ∙ asked)))
 
-  pub stale_found : (run : Record) (coming : Coming) → options.rerun ≡ false → task.is_stale ≡ true → RunsFor reasons.Stale coming
+  stale_found : (run : Record) (coming : Coming) → options.rerun ≡ false → task.is_stale ≡ true → RunsFor reasons.Stale coming
       → IsFound kinds options task folder (Some run) coming
   stale_found run coming none stale is =
-      runs_found (Some run) reasons.Stale coming is (anew (inr stale))
+      runs_found (Some run) reasons.Stale coming is (bases.Anew causes.Stale, (refl, (none, stale)), tt)
       (λ present is_present. sym (ap (λ rerun. by_parts run present.now rerun present.is_stale) (is_present.rerun ∙ none)
       ∙ ap (λ b. by_parts run present.now false b) (is_present.stale ∙ stale)))
+
+  compared_found : (run : Record) (decision : Decision) (present : Present) (coming : Coming) → DecidesFrom run present decision
+      → IsBasisIn options task folder (bases.Compared present) → IsCompared kinds task (Some run) decision present coming
+      → IsFound kinds options task folder (Some run) coming
+  compared_found run decision present comings.Skips goes so never = absurd never
+  compared_found run decision present comings.HasNoActions goes so never = absurd never
+  compared_found run decision present (comings.HasNoSource removes) goes so never = absurd never
+  compared_found run decision present (comings.CannotRead fault) goes so never = absurd never
+  compared_found run decision present comings.UpToDate goes so is =
+      (bases.Compared present, subst (λ (d : Decision). DecidesFrom run present d) is goes, so)
+  compared_found run decision present comings.HasGrown goes so never = absurd never
+  compared_found run decision present (comings.Runs by_changes told) goes so is = record {
+    decision = decision;
+    decided = (bases.Compared present, goes, so);
+    due = is.0;
+    by_changes = is.1;
+    reasons = λ other is_other. is.2 ∙ same_reasons options task _ _ run present other so is_other;
+  }
+
+  -- what is explained by what a decision goes by is found so
+  pub found_by : (old : Option Record) (decision : Decision) (basis : Basis) (coming : Coming) → GoesBy options task old decision basis
+      → IsBasisIn options task folder basis → IsExplained kinds task old decision basis coming → IsFound kinds options task folder old coming
+  found_by None decision (bases.Anew causes.NoRecord) coming goes so is = forgotten_found coming is
+  found_by None decision (bases.Anew causes.Rerun) coming goes so is = absurd goes.1
+  found_by None decision (bases.Anew causes.Stale) coming goes so is = absurd goes.1
+  found_by None decision (bases.Anew causes.Grown) coming goes so is = absurd goes.1
+  found_by None decision (bases.Compared present) coming goes so is = absurd goes
+  found_by (Some run) decision (bases.Anew causes.NoRecord) coming goes so is = absurd goes.1
+  found_by (Some run) decision (bases.Anew causes.Rerun) coming goes so is = rerun_found run coming goes.1 is
+  found_by (Some run) decision (bases.Anew causes.Stale) coming goes so is = stale_found run coming goes.1.0 goes.1.1 is
+  found_by (Some run) decision (bases.Anew causes.Grown) coming goes so is =
+      subst (λ (c : Coming). IsFound kinds options task folder (Some run) c) (sym is)
+      ((bases.Anew causes.Grown, (refl, goes.1), so), so)
+  found_by (Some run) decision (bases.Compared present) coming goes so is = compared_found run decision present coming goes so is
 
   -- ---- What is told
 
@@ -129,16 +148,15 @@ module _ (kinds : Kinds) (options : Options) (task : Task) (folder : Contents) w
     foretold_of before after comings.HasGrown none found = (none, found)
     foretold_of before after (comings.Runs by_changes told) none found = (none, found)
 
-    -- what is found of a task that has a source, or what hinders it, is told
-    pub sourced_foretold : (before mid after : ℕ) (found : Result Coming Fault) → before ≤ mid → mid ≤ after
-        → task.runs ≡ true → is_empty task.actions ≡ false → input_faults task folder ≡ [] → has_no_source task folder.files ≡ false
-        → OnOk found (listing_faults task folder ≡ []) → IfOk found (IsFound kinds options task folder old)
-        → IfErr found (CannotRead mid after (listing_faults task folder))
-        → IsForetold kinds options task folder old before after (told_of found)
-    sourced_foretold before mid after (Ok coming) le more runs acts inputs source none is err =
-        foretold_of before after coming (by_source task folder false runs acts inputs none source) is
-    sourced_foretold before mid after (Err fault) le more runs acts inputs source none is err =
-        hindered_at_outputs task folder before after fault runs acts inputs (cannot_before task folder folder before mid after fault refl le more err)
+    -- what is found of a task that has a source is predicted, unless memory is out
+    pub decided_foretold : (before after : ℕ) (decision : Decision) (basis : Basis) (coming : Coming) → early_case task folder ≡ None
+        → GoesBy options task old decision basis → IsBasisIn options task folder basis
+        → (coming ≡ comings.CannotRead faults.OutOfMemory) ⊎ IsExplained kinds task old decision basis coming
+        → IsForetold kinds options task folder old before after coming
+    decided_foretold before after decision basis coming none goes so (inl full) =
+        subst (λ (c : Coming). IsForetold kinds options task folder old before after c) (sym full) (inl (inl refl))
+    decided_foretold before after decision basis coming none goes so (inr is) =
+        foretold_of before after coming none (found_by old decision basis coming goes so is)
 
     no_hindrance : (runs idle dry : Bool) (hindrances : List Fault) → case_by runs idle hindrances dry ≡ Some HasNoSource → hindrances ≡ []
     no_hindrance false idle dry hindrances e = absurd (cc)
@@ -198,31 +216,14 @@ all_related R S follows [] (y ∷ ys) all = absurd all
 all_related R S follows (x ∷ xs) [] all = absurd all
 all_related R S follows (x ∷ xs) (y ∷ ys) all = (follows x y all.0, all_related R S follows xs ys all.1)
 
--- what holds of a present for each of the kinds
-pub with_present : {E : Type 0} (found : Result Coming E) (B : Present → Type 0) (A : Kinds → Type 0) (Q : Kinds → Present → Coming → Type 0) (present : Present)
-    → B present → ((kinds : Kinds) → A kinds → IfOk found (Q kinds present))
-    → IfOk found (λ coming. (p : Present) × B p × ((kinds : Kinds) → A kinds → Q kinds p coming))
-with_present (Ok coming) B A Q present is each = (present, is, each)
-with_present (Err fault) B A Q present is each = tt
+-- what a record decides it decides
+pub decides_by : (options : Options) (task : Task) (old : Option Record) (decision : Decision) (present : Present)
+    → GoesBy options task old decision (bases.Compared present) → Decides old present decision
+decides_by options task None decision present goes = absurd goes
+decides_by options task (Some run) decision present goes = goes
 
--- ---- Outputs that cannot be compared
+-- ---- Faults of the machine
 
 pub by_machine : (before after : ℕ) (fault : Fault) → IsOfMachine before after fault → is_of_machine fault ≡ true
 by_machine before after fault (inl memory) = ap is_of_machine memory
 by_machine before after fault (inr device) = ap is_of_machine device.1
-
-no_growth : (fault : Fault) → IsGrown fault → is_of_machine fault ≡ false
-no_growth fault (inl at) = ap is_of_machine at.1
-no_growth fault (inr of) = ap is_of_machine of.1
-
-pub machine_read : (task : Task) (folder : Contents) (before after : ℕ) (fault : Fault) → is_of_machine fault ≡ true
-    → CannotPrint task folder before after fault → CannotRead before after (listing_faults task folder) fault
-machine_read task folder before after fault machine (inl has) = absurd (true≢false (sym machine ∙ no_growth fault has.0))
-machine_read task folder before after fault machine (inr read) = read
-
--- where they can be listed, and the machine did not fail, they have grown
-pub outputs_grown : (task : Task) (folder : Contents) (before after : ℕ) (fault : Fault) → is_of_machine fault ≡ false → listing_faults task folder ≡ []
-    → CannotPrint task folder before after fault → is_empty (flat_map (print_faults folder) task.outputs) ≡ false
-outputs_grown task folder before after fault other none (inl has) = has.1
-outputs_grown task folder before after fault other none (inr (inl machine)) = absurd (true≢false (sym (by_machine before after fault machine) ∙ other))
-outputs_grown task folder before after fault other none (inr (inr first)) = none_some (ap first_of (sym none) ∙ first)

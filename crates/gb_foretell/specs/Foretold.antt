@@ -1,4 +1,4 @@
--- What a task's turn comes to on a folder as it stands, in the words of builds.
+-- The outcome of a task on a folder as it is, in the words of builds.
 use Rattle.std.specs.Prelude.{ℕ, ◌≡◌, ◌≢◌, Bool, false, true, not, List, []}
 use Rattle.std.specs.Prelude.{◌∷◌, map, Option, Some, None, Result, Ok, Err, ⊤}
 use Rattle.std.specs.List.{AllZip, flat_map, zip}
@@ -32,7 +32,7 @@ AreReasons options task folder old reasons =
     (present : Present) → IsPresentOf options task (digests_in (trees_of task folder.files))
     (map (recorded_of folder.files) task.outputs) present → reasons ≡ reasons_of old present
 
--- It is decided that the task runs, by changes or in full, and these are the reasons.
+-- It is decided that the task runs, incrementally or in full, and these are the reasons.
 pub record IsRun (kinds : Kinds) (options : Options) (task : Task) (folder : Contents)
     (old : Option Record) (goes_on : Bool) (told : List Reason) : Type 0 where
   pub decision : Decision
@@ -51,8 +51,7 @@ IsFound kinds options task folder old (comings.Runs by_changes reasons) =
     IsRun kinds options task folder old by_changes reasons.items
 IsFound kinds options task folder old other = ⊥
 
--- It is what the turn of the task, which has this record, comes to on the folder; the machine fails between
--- these counts.
+-- It is the outcome of the task, which has this record, on the folder; the machine fails between these counts.
 abbrev pub IsForetold : Kinds → Options → Task → Contents → Option Record → ℕ → ℕ → Coming → Type 0
 IsForetold kinds options task folder old before after comings.Skips = early_case task folder ≡ Some Skips
 IsForetold kinds options task folder old before after comings.HasNoActions =
@@ -81,12 +80,12 @@ abbrev pub IsReasoned : Coming → Type 0
 IsReasoned (comings.Runs by_changes reasons) = reasons.items ≢ []
 IsReasoned other = ⊤
 
--- what is told of a task that was to be read
+-- the prediction for a task that was to be read
 abbrev pub told_of : Result Coming Fault → Coming
 told_of (Ok coming) = coming
 told_of (Err fault) = comings.CannotRead fault
 
--- Each of these tasks, with what was read of its record, is told so.
+-- Each of these tasks, with what was read of its record, is predicted so.
 abbrev pub AreForetold : Kinds → Options → Contents → ℕ → ℕ → Plan → List (Option Record) → List Foretold
     → Type 0
 AreForetold kinds options folder before after plan records told =

@@ -42,8 +42,6 @@ pub fn foretell<A: Actions, F: Folder>(
 ) -> Result<Vec<Foretold>, AllocError>
     requires ready { AllByRecursion (λ planned. IsReady A.meanings table.now planned.task) plan.now }
     requires in_order { AllByRecursion (λ planned. HasNamesInOrder planned.task) plan.now }
-    requires not_own { AllByRecursion (λ planned.
-        list_any (λ output. is_own output.place) planned.task.outputs ≡ false) plan.now }
     requires each { length records.now ≡ length plan.now }
     ensures asks { Asks F.failures F.may_leave F.asked no_change folder.old folder.new }
     ensures same { IsTrue F.tells → F.contents folder.new ≡ F.contents folder.old }
@@ -93,7 +91,6 @@ fn foretold<A: Actions, F: Folder>(
 ) -> Result<Foretold, AllocError>
     requires ready { IsReady A.meanings table.now planned.now.task }
     requires in_order { HasNamesInOrder planned.now.task }
-    requires not_own { list_any (λ output. is_own output.place) planned.now.task.outputs ≡ false }
     requires rising { IsRising row.now }
     requires of_plan { AreSamePlaces (with_places [] (places_from output_places 0 plan.now)) row.now }
     requires each { length told.now ≤ length plan.now }

@@ -1,12 +1,10 @@
 //! Laws of predictions, each the contract of a function that does nothing.
 ghost use Rattle.gb_foretell.specs.Predicted.{FolderPredictionsAreKept, PredictionsAreKept};
 
-use gb_label::prepare::Seen;
 use gb_reason::laws::changes_are_reasons;
 use gb_turn::case_laws::{
-    decision_is_case, outside_is_enough, runs_are_of_case, what_is_read_is_known,
+    decided_outside, decision_is_case, runs_are_of_case, what_is_read_is_known,
 };
-use std::alloc::Global;
 
 /// The rules of a build.
 pub trait Build {
@@ -23,22 +21,11 @@ pub fn predictions_are_kept<B: Build>()
 {}
 
 /// The same of predictions by the records of a folder.
-pub fn folder_predictions_are_kept<B: Build>(alloc: Global)
-    ensures { FolderPredictionsAreKept B.rules }
-{
-    let nothing = Seen {
-        inputs: Vec::new(alloc),
-        outputs: Vec::new(alloc),
-    };
-    kept_by::<B>(&nothing);
-}
-
-/// The same, by the laws of what is decided; it wants some value of what is read of a task.
-fn kept_by<B: Build>(seen: &Seen)
+pub fn folder_predictions_are_kept<B: Build>()
     ensures { FolderPredictionsAreKept B.rules }
 {
     decision_is_case();
-    outside_is_enough();
+    decided_outside();
     what_is_read_is_known();
     runs_are_of_case();
     changes_are_reasons();

@@ -1,24 +1,23 @@
-//! The outcome of one task, if it were executed now.
-ghost use Rattle.std.specs.Prelude.{◌≡◌, Bool, IfErr, IfOk, IsTrue, false, not, option_copied};
-ghost use Rattle.std.specs.List.{list_any};
+//! The outcome of one task, if it were executed now: what an execution decides, without doing it.
+ghost use Rattle.std.specs.Prelude.{◌≡◌, Bool, IfErr, IfOk, IsTrue, not, option_copied};
 ghost use Rattle.gb_folder.specs.Calls.{Asks, no_change};
-ghost use Rattle.gb_folder.specs.Files.{is_empty, is_own};
+ghost use Rattle.gb_folder.specs.Files.{is_empty};
 ghost use Rattle.gb_foretell.specs.Foretold.{IsForetold, IsReasoned, told_of};
 ghost use Rattle.gb_label.specs.Deciding.{HasNamesInOrder};
+ghost use Rattle.gb_label.specs.Reading.{CannotRead};
 ghost use Rattle.gb_meaning.specs.Headline.{Agrees};
 ghost use Rattle.gb_meaning.specs.Kinds.{Kinds};
 ghost use Rattle.gb_meaning.specs.Memory.{output_files};
 ghost use Rattle.gb_meaning.specs.Tree.{listing_faults};
-ghost use Rattle.gb_label.specs.Reading.{CannotRead};
 ghost use Rattle.gb_plan.specs.Ready.{IsReady};
 
 use crate::coming::Coming;
-use crate::sourced::sourced;
+use crate::explained::explained;
 use gb_action::actions::Actions;
 use gb_action::table::ActionTable;
 use gb_folder::folder::Folder;
 use gb_history::record::Record;
-use gb_label::look::{Look, looked_at};
+use gb_label::prepare::{Prepared, prepare};
 use gb_plan::task::TaskDeclaration;
 use gb_report::fault::Fault;
 use gb_report::report::Options;
@@ -36,7 +35,6 @@ pub(crate) fn coming_of<A: Actions, F: Folder>(
 ) -> Coming
     requires ready { IsReady A.meanings table.now task.now }
     requires in_order { HasNamesInOrder task.now }
-    requires not_own { list_any (λ output. is_own output.place) task.now.outputs ≡ false }
     ensures asks { Asks F.failures F.may_leave F.asked no_change folder.old folder.new }
     ensures same { IsTrue F.tells → F.contents folder.new ≡ F.contents folder.old }
     // Over any folder there is a reason where it runs for reasons.
@@ -45,21 +43,13 @@ pub(crate) fn coming_of<A: Actions, F: Folder>(
         → IsForetold kinds options task.now (F.contents folder.old) (option_copied old.entry)
         (F.failures folder.old) (F.failures folder.new) result }
 {
-    match looked_at(alloc, folder, task, 0) {
-        Ok(Look::Skips) => Coming::Skips,
-        Ok(Look::HasNoActions) => Coming::HasNoActions,
-        Ok(Look::HasNoSource) => told(sourceless(alloc, folder, task)),
-        Ok(Look::Goes(inputs)) => {
-            let found = sourced::<A, F>(
-                alloc,
-                folder,
-                task,
-                table,
-                options,
-                old,
-                inputs.as_slice(),
-            );
-            told(found)
+    match prepare(alloc, folder, task, options, old, false) {
+        Ok(Prepared::Skips) => Coming::Skips,
+        Ok(Prepared::HasNoActions) => Coming::HasNoActions,
+        Ok(Prepared::HasNoSource) => told(sourceless(alloc, folder, task)),
+        Ok(Prepared::Decided(decision, basis, seen)) => {
+            drop(seen);
+            explained::<A>(alloc, task, table, old, &decision, &basis)
         }
         Err(fault) => Coming::CannotRead(fault),
     }

@@ -62,7 +62,7 @@ WasPrepared failures may_leave asked old new options task last prepared.Skips = 
 WasPrepared failures may_leave asked old new options task last prepared.HasNoActions = ⊤
 WasPrepared failures may_leave asked old new options task last prepared.HasNoSource =
     WasSourceless failures may_leave asked old new task
-WasPrepared failures may_leave asked old new options task last (prepared.Decided decision seen) =
+WasPrepared failures may_leave asked old new options task last (prepared.Decided decision basis seen) =
     AreInputs task seen.inputs.items
     × AreInputsAnswered failures may_leave asked old new task seen.inputs.items
     × WasDecided failures may_leave asked old new options task last seen.inputs.items decision

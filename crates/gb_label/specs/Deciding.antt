@@ -18,6 +18,10 @@ use Rattle.gb_report.specs.declared.fault.Fault.{Fault}
 use Rattle.gb_report.specs.declared.fault.Fault.TheVariants as faults
 use Rattle.gb_report.specs.declared.report.Options.{Options}
 use Rattle.gb_report.specs.declared.report.Outcome.TheVariants as outcomes
+use Rattle.gb_label.specs.declared.deciding.Basis.{Basis}
+use Rattle.gb_label.specs.declared.deciding.Basis.TheVariants as bases
+use Rattle.gb_label.specs.declared.deciding.Cause.{Cause}
+use Rattle.gb_label.specs.declared.deciding.Cause.TheVariants as causes
 use Rattle.gb_label.specs.Reading.{AreOutputs, AreOutputsSeen, Read, digests_in, print_faults, recorded_of}
 
 -- the names of the task's values, file properties and outputs strictly rise
@@ -41,20 +45,33 @@ pub record IsPresentOf (options : Options) (task : Task) (inputs : List Prints) 
   pub rerun : present.rerun ≡ options.rerun
   pub stale : present.is_stale ≡ task.is_stale
 
--- What is decided of a task from its record: what the record and the present say; or that it runs in full,
--- since it has no record, it is to run anew, or its outputs are such as no run leaves.
-pub data IsDecided (options : Options) (task : Task) (folder : Contents)
-    : Option Record → Decision → Type 0 where
-  by_record : {run : Record} {decision : Decision} (present : Present)
-      → IsPresentOf options task (digests_in (trees_of task folder.files))
-      (map (recorded_of folder.files) task.outputs) present
-      → DecidesFrom run present decision
-      → IsDecided options task folder (Some run) decision
-  forgotten : IsDecided options task folder None Full
-  anew : {run : Record} → (options.rerun ≡ true) ⊎ (task.is_stale ≡ true)
-      → IsDecided options task folder (Some run) Full
-  grown : {run : Record} → is_empty (flat_map (print_faults folder) task.outputs) ≡ false
-      → IsDecided options task folder (Some run) Full
+-- the cause to run in full holds of a task with this record; a record that counts is asked for last
+abbrev pub IsCause : Options → Task → Option Record → Cause → Type 0
+IsCause options task None causes.NoRecord = ⊤
+IsCause options task (Some run) causes.Rerun = options.rerun ≡ true
+IsCause options task (Some run) causes.Stale = (options.rerun ≡ false) × (task.is_stale ≡ true)
+IsCause options task (Some run) causes.Grown = (options.rerun ≡ false) × (task.is_stale ≡ false)
+IsCause options task old other = ⊥
+
+-- The decision follows from what it goes by: a cause to run in full, or the record and what the task has now.
+abbrev pub GoesBy : Options → Task → Option Record → Decision → Basis → Type 0
+GoesBy options task old decision (bases.Anew cause) = (decision ≡ Full) × IsCause options task old cause
+GoesBy options task (Some run) decision (bases.Compared present) = DecidesFrom run present decision
+GoesBy options task None decision (bases.Compared present) = ⊥
+
+-- And that is so in this folder: its outputs are such as no execution leaves, or that is what the task has.
+abbrev pub IsBasisIn : Options → Task → Contents → Basis → Type 0
+IsBasisIn options task folder (bases.Anew causes.Grown) =
+    is_empty (flat_map (print_faults folder) task.outputs) ≡ false
+IsBasisIn options task folder (bases.Anew other) = ⊤
+IsBasisIn options task folder (bases.Compared present) =
+    IsPresentOf options task (digests_in (trees_of task folder.files))
+    (map (recorded_of folder.files) task.outputs) present
+
+-- what is decided of a task with this record in this folder
+abbrev pub IsDecided : Options → Task → Contents → Option Record → Decision → Type 0
+IsDecided options task folder old decision =
+    (basis : Basis) × GoesBy options task old decision basis × IsBasisIn options task folder basis
 
 -- what may be decided over any folder: that a task is up to date only where it may be told so
 abbrev pub MayDecide : Options → Task → Decision → Type 0

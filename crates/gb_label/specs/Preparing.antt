@@ -1,4 +1,4 @@
--- What a started task's turn is prepared for.
+-- The outcome of a task that starts, as it is prepared before anything is changed.
 use Rattle.std.specs.Prelude.{◌≡◌, true, false, Option, Some, None, ⊤}
 use Rattle.std.specs.List.{list_any}
 use Rattle.gb_folder.specs.Files.{Contents, Files, is_empty}
@@ -9,18 +9,19 @@ use Rattle.gb_meaning.specs.Label.{HasNoActions, HasNoSource, Skips, early_case}
 use Rattle.gb_plan.specs.declared.task.TaskDeclaration.{TaskDeclaration as Task}
 use Rattle.gb_report.specs.declared.report.Options.{Options}
 use Rattle.gb_label.specs.Reading.{AreInputs, AreInputsSeen, AreOutputs, AreOutputsSeen}
-use Rattle.gb_label.specs.Deciding.{IsDecided, MayDecide}
+use Rattle.gb_label.specs.Deciding.{GoesBy, IsBasisIn, MayDecide}
 use Rattle.gb_label.specs.declared.prepare.Prepared.{Prepared}
 use Rattle.gb_label.specs.declared.prepare.Prepared.TheVariants as prepared
 use Rattle.gb_label.specs.declared.prepare.Seen.{Seen}
 
--- It is the task's case; and where it is none, what is decided from its record.
+-- It is the task's early case; and where there is none, what is decided by its record or without one.
 abbrev pub IsPrepared : Options → Task → Contents → Option Record → Prepared → Type 0
 IsPrepared options task folder run prepared.Skips = early_case task folder ≡ Some Skips
 IsPrepared options task folder run prepared.HasNoActions = early_case task folder ≡ Some HasNoActions
 IsPrepared options task folder run prepared.HasNoSource = early_case task folder ≡ Some HasNoSource
-IsPrepared options task folder run (prepared.Decided decision seen) =
-    (early_case task folder ≡ None) × IsDecided options task folder run decision
+IsPrepared options task folder run (prepared.Decided decision basis seen) =
+    (early_case task folder ≡ None) × GoesBy options task run decision basis
+    × IsBasisIn options task folder basis
 
 -- what it may be over any folder
 abbrev pub MayPrepare : Task → Prepared → Type 0
@@ -29,14 +30,21 @@ MayPrepare task prepared.HasNoActions = (task.runs ≡ true) × (is_empty task.a
 MayPrepare task prepared.HasNoSource =
     (task.runs ≡ true) × (is_empty task.actions ≡ false)
     × (list_any (λ property. property.skip_when_empty) task.files ≡ true)
-MayPrepare task (prepared.Decided decision seen) = (task.runs ≡ true) × (is_empty task.actions ≡ false)
+MayPrepare task (prepared.Decided decision basis seen) = (task.runs ≡ true) × (is_empty task.actions ≡ false)
 
 -- what may be decided over any folder, where that is the outcome
 abbrev pub MayDecideAs : Options → Task → Prepared → Type 0
 MayDecideAs options task prepared.Skips = ⊤
 MayDecideAs options task prepared.HasNoActions = ⊤
 MayDecideAs options task prepared.HasNoSource = ⊤
-MayDecideAs options task (prepared.Decided decision seen) = MayDecide options task decision
+MayDecideAs options task (prepared.Decided decision basis seen) = MayDecide options task decision
+
+-- over any folder a decision follows from what it goes by
+abbrev pub GoesByAs : Options → Task → Option Record → Prepared → Type 0
+GoesByAs options task run prepared.Skips = ⊤
+GoesByAs options task run prepared.HasNoActions = ⊤
+GoesByAs options task run prepared.HasNoSource = ⊤
+GoesByAs options task run (prepared.Decided decision basis seen) = GoesBy options task run decision basis
 
 -- What a run goes by was read: its inputs where it is due, and its outputs where it may go on by changes.
 abbrev pub IsReadFor : Task → Seen → Decision → Type 0
@@ -49,7 +57,7 @@ abbrev pub IsRead : Task → Prepared → Type 0
 IsRead task prepared.Skips = ⊤
 IsRead task prepared.HasNoActions = ⊤
 IsRead task prepared.HasNoSource = ⊤
-IsRead task (prepared.Decided decision seen) = IsReadFor task seen decision
+IsRead task (prepared.Decided decision basis seen) = IsReadFor task seen decision
 
 -- And so it stands in these files.
 abbrev pub IsSeenFor : Task → Files → Seen → Decision → Type 0
@@ -62,4 +70,4 @@ abbrev pub IsSeen : Task → Files → Prepared → Type 0
 IsSeen task files prepared.Skips = ⊤
 IsSeen task files prepared.HasNoActions = ⊤
 IsSeen task files prepared.HasNoSource = ⊤
-IsSeen task files (prepared.Decided decision seen) = IsSeenFor task files seen decision
+IsSeen task files (prepared.Decided decision basis seen) = IsSeenFor task files seen decision

@@ -5,13 +5,12 @@ ghost use Rattle.gb_folder.specs.Calls.{Asks, no_change};
 ghost use Rattle.gb_folder.specs.Files.{is_empty, is_own};
 ghost use Rattle.gb_history.specs.Decision.{DecidesFrom};
 ghost use Rattle.gb_history.specs.Record.{prints_in};
-ghost use Rattle.gb_history.specs.declared.decide.Present.{Present};
 ghost use Rattle.gb_meaning.specs.Tree.{listing_faults, trees_of};
 ghost use Rattle.gb_plan.specs.Task.{is_output_of};
 ghost use Rattle.gb_store.specs.Faults.{Blames, BlamesOnly};
 ghost use Rattle.gb_label.specs.Answered.{WasDecided};
-ghost use Rattle.gb_label.specs.Deciding.{AreOutputsFor, AreOutputsSeenFor, HasNamesInOrder};
-ghost use Rattle.gb_label.specs.Deciding.{IsDecided, IsGrown, IsPresentOf, MayDecide};
+ghost use Rattle.gb_label.specs.Deciding.{AreOutputsFor, AreOutputsSeenFor, GoesBy, HasNamesInOrder};
+ghost use Rattle.gb_label.specs.Deciding.{IsBasisIn, IsGrown, IsPresentOf, MayDecide};
 ghost use Rattle.gb_label.specs.ReadingAnswered.{AreOutputsAnswered};
 ghost use Rattle.gb_label.specs.Reading.{AreOutputs, AreOutputsSeen, CannotRead};
 ghost use Rattle.gb_label.specs.Reading.{digests_in, print_faults, prints_read, recorded_of, records_with};
@@ -31,9 +30,42 @@ use gb_tree::kept::Reading;
 use gb_tree::prints::Prints;
 use std::alloc::{AllocError, Global};
 
-/// What is to be done with a task that has a source: by its record and by what it has now. Its outputs are
-/// listed once, and they are read only where there is a record that may count; of their bytes so many are
-/// kept. Nothing is changed, also not by an error: the first odd thing at its outputs (14), or the machine's.
+/// Why a task runs in full, whatever its record says.
+#[derive(Clone, Copy)]
+pub enum Cause {
+    /// It has no record.
+    NoRecord,
+    /// Every task is to run.
+    Rerun,
+    /// A test of `upToDateWhen` is false.
+    Stale,
+    /// Its outputs are such as no execution leaves: a file is too large, or there are too many.
+    Grown,
+}
+
+/// What a decision goes by.
+#[derive(Drop)]
+pub enum Basis {
+    /// This alone.
+    Anew(Cause),
+    /// Its record, compared with this.
+    Compared(Present),
+}
+
+/// What is decided of a task that has a source.
+#[derive(Drop)]
+pub struct Decided {
+    /// What is to be done with the task.
+    pub decision: Decision,
+    /// What that goes by.
+    pub basis: Basis,
+    /// The outputs of the task, where they were compared with its record; else nothing.
+    pub outputs: Vec<Reading>,
+}
+
+/// Decides on a task that has a source: by its record and by what it has now. Its outputs are listed once,
+/// and they are read only where there is a record that may count; of their bytes so many are kept. Nothing is
+/// changed, also not by an error: the first unsupported entry at its outputs (14), or the machine's.
 pub fn decided<F: Folder>(
     alloc: Global,
     folder: &mut F,
@@ -42,55 +74,67 @@ pub fn decided<F: Folder>(
     old: Option<&Record>,
     inputs: &[Reading],
     room: u64,
-) -> Result<(Decision, Vec<Reading>), Fault>
+) -> Result<Decided, Fault>
     requires in_order { HasNamesInOrder task.now }
     requires named { map (λ found. found.0) inputs.now ≡ map (λ property. property.name) task.now.files }
     ensures asks { Asks F.failures F.may_leave F.asked no_change folder.old folder.new }
     ensures blame { Blames result (F.failures folder.old) (F.failures folder.new) }
     ensures blamed { BlamesOnly (is_output_of task.now) result }
+    // Over any folder: the decision follows from what it goes by.
+    ensures goes_by { IfOk result (λ found.
+        GoesBy options task.now (option_copied old.entry) found.decision found.basis) }
     // Over any folder: what is up to date has outputs, is not stale, and no rerun is asked.
-    ensures may_decide { IfOk result (λ found. MayDecide options task.now found.0) }
+    ensures may_decide { IfOk result (λ found. MayDecide options task.now found.decision) }
     // Over any folder: where it may go on by changes its outputs were read.
-    ensures read { IfOk result (λ found. AreOutputsFor task.now found.0 found.1.items) }
+    ensures read { IfOk result (λ found. AreOutputsFor task.now found.decision found.outputs.items) }
     ensures answered { IfOk result (λ found. WasDecided F.failures F.may_leave F.asked folder.old folder.new
-        options task.now (option_copied old.entry) inputs.now found.0 found.1.items) }
+        options task.now (option_copied old.entry) inputs.now found.decision found.outputs.items) }
     ensures same { IsTrue F.tells → F.contents folder.new ≡ F.contents folder.old }
-    ensures decided { IsTrue F.tells
+    ensures based { IsTrue F.tells
         → prints_read inputs.now ≡ digests_in (trees_of task.now (F.contents folder.old).files)
-        → IfOk result (λ found. IsDecided options task.now (F.contents folder.old) (option_copied old.entry)
-        found.0) }
+        → IfOk result (λ found. IsBasisIn options task.now (F.contents folder.old) found.basis) }
     ensures seen { IsTrue F.tells → IfOk result
-        (λ found. AreOutputsSeenFor task.now (F.contents folder.old).files found.0 found.1.items) }
+        (λ found. AreOutputsSeenFor task.now (F.contents folder.old).files found.decision
+        found.outputs.items) }
     ensures none_odd { IsTrue F.tells → OnOk result (listing_faults task.now (F.contents folder.old) ≡ []) }
     ensures err { IsTrue F.tells → IfErr result (CannotRead (F.failures folder.old) (F.failures folder.new)
         (listing_faults task.now (F.contents folder.old))) }
 {
     let Some(run) = old else {
-        return in_full(alloc, folder, task);
+        return in_full(alloc, folder, task, Cause::NoRecord);
     };
-    if options.rerun || task.is_stale {
-        return in_full(alloc, folder, task);
+    if options.rerun {
+        return in_full(alloc, folder, task, Cause::Rerun);
+    }
+    if task.is_stale {
+        return in_full(alloc, folder, task, Cause::Stale);
     }
     by_record(alloc, folder, task, options, run, inputs, room)
 }
 
-/// To do all anew, where nothing odd stands at the outputs.
+/// That the task runs in full for this cause, where its outputs can be listed.
 fn in_full<F: Folder>(
     alloc: Global,
     folder: &mut F,
     task: &TaskDeclaration,
-) -> Result<(Decision, Vec<Reading>), Fault>
+    cause: Cause,
+) -> Result<Decided, Fault>
     ensures asks { Asks F.failures F.may_leave F.asked no_change folder.old folder.new }
     ensures blame { Blames result (F.failures folder.old) (F.failures folder.new) }
     ensures blamed { BlamesOnly (is_output_of task.now) result }
     ensures same { IsTrue F.tells → F.contents folder.new ≡ F.contents folder.old }
-    ensures full { IfOk result (λ found. found.0 ≡ Decision.Full) }
+    ensures full { IfOk result (λ found.
+        (found.decision ≡ Decision.Full) × (found.basis ≡ Basis.Anew cause)) }
     ensures none_odd { IsTrue F.tells → OnOk result (listing_faults task.now (F.contents folder.old) ≡ []) }
     ensures err { IsTrue F.tells → IfErr result (CannotRead (F.failures folder.old) (F.failures folder.new)
         (listing_faults task.now (F.contents folder.old))) }
 {
     check_outputs(alloc, folder, task)?;
-    Ok((Decision::Full, Vec::new(alloc)))
+    Ok(Decided {
+        decision: Decision::Full,
+        basis: Basis::Anew(cause),
+        outputs: Vec::new(alloc),
+    })
 }
 
 /// What is decided by this record.
@@ -102,40 +146,48 @@ fn by_record<F: Folder>(
     run: &Record,
     inputs: &[Reading],
     room: u64,
-) -> Result<(Decision, Vec<Reading>), Fault>
+) -> Result<Decided, Fault>
     requires in_order { HasNamesInOrder task.now }
     requires named { map (λ found. found.0) inputs.now ≡ map (λ property. property.name) task.now.files }
+    requires counts { (options.rerun ≡ false) × (task.now.is_stale ≡ false) }
     ensures asks { Asks F.failures F.may_leave F.asked no_change folder.old folder.new }
     ensures blame { Blames result (F.failures folder.old) (F.failures folder.new) }
     ensures blamed { BlamesOnly (is_output_of task.now) result }
-    ensures may_decide { IfOk result (λ found. MayDecide options task.now found.0) }
-    ensures read { IfOk result (λ found. AreOutputsFor task.now found.0 found.1.items) }
+    ensures goes_by { IfOk result (λ found.
+        GoesBy options task.now (Some run.now) found.decision found.basis) }
+    ensures may_decide { IfOk result (λ found. MayDecide options task.now found.decision) }
+    ensures read { IfOk result (λ found. AreOutputsFor task.now found.decision found.outputs.items) }
     ensures answered { IfOk result (λ found. WasDecided F.failures F.may_leave F.asked folder.old folder.new
-        options task.now (Some run.now) inputs.now found.0 found.1.items) }
+        options task.now (Some run.now) inputs.now found.decision found.outputs.items) }
     ensures same { IsTrue F.tells → F.contents folder.new ≡ F.contents folder.old }
-    ensures decided { IsTrue F.tells
+    ensures based { IsTrue F.tells
         → prints_read inputs.now ≡ digests_in (trees_of task.now (F.contents folder.old).files)
-        → IfOk result (λ found. IsDecided options task.now (F.contents folder.old) (Some run.now) found.0) }
+        → IfOk result (λ found. IsBasisIn options task.now (F.contents folder.old) found.basis) }
     ensures seen { IsTrue F.tells → IfOk result
-        (λ found. AreOutputsSeenFor task.now (F.contents folder.old).files found.0 found.1.items) }
+        (λ found. AreOutputsSeenFor task.now (F.contents folder.old).files found.decision
+        found.outputs.items) }
     ensures none_odd { IsTrue F.tells → OnOk result (listing_faults task.now (F.contents folder.old) ≡ []) }
     ensures err { IsTrue F.tells → IfErr result (CannotRead (F.failures folder.old) (F.failures folder.new)
         (listing_faults task.now (F.contents folder.old))) }
 {
     match read_listed(alloc, folder, task, room) {
         Ok(outputs) => {
-            let decision = decide_by(alloc, task, options, run, inputs, outputs.as_slice())?;
-            Ok((decision, outputs))
+            let on = decide_by(alloc, task, options, run, inputs, outputs.as_slice())?;
+            Ok(Decided {
+                decision: on.decision,
+                basis: Basis::Compared(on.present),
+                outputs,
+            })
         }
         Err(fault) => {
             check_grown(fault)?;
-            in_full(alloc, folder, task)
+            in_full(alloc, folder, task, Cause::Grown)
         }
     }
 }
 
-/// The outputs of a task as they stand. An error is the machine's, the first odd thing there, or that of
-/// outputs such as no run leaves, behind which odd things may stand.
+/// The outputs of a task as they are. An error is the machine's, the first unsupported entry there, or that
+/// of outputs such as no execution leaves, after which unsupported entries may follow.
 fn read_listed<F: Folder>(
     alloc: Global,
     folder: &mut F,
@@ -196,12 +248,12 @@ fn read_checked<F: Folder>(
     read_outputs(alloc, folder, task, &mut room)
 }
 
-/// What is decided of a task by a record, and what it was decided on.
+/// What is decided of a task by its record, and what that was compared with.
 #[derive(Drop)]
 pub struct DecidedOn {
     /// What is to be done with the task.
     pub decision: Decision,
-    /// What stands of its inputs and outputs.
+    /// What the task has now.
     pub present: Present,
 }
 
@@ -235,19 +287,17 @@ fn decide_by(
     run: &Record,
     inputs: &[Reading],
     outputs: &[Reading],
-) -> Result<Decision, AllocError>
+) -> Result<DecidedOn, AllocError>
     requires in_order { HasNamesInOrder task.now }
     requires inputs { map (λ found. found.0) inputs.now ≡ map (λ property. property.name) task.now.files }
     requires outputs { map (λ found. found.0) outputs.now ≡ map (λ output. output.name) task.now.outputs }
-    ensures { IfOk result (λ decision. (present : Present)
-        × IsPresentOf options task.now (prints_read inputs.now)
-        (records_with task.now.outputs (prints_read outputs.now)) present
-        × DecidesFrom run.now present decision) }
+    ensures present { IfOk result (λ found. IsPresentOf options task.now (prints_read inputs.now)
+        (records_with task.now.outputs (prints_read outputs.now)) found.present) }
+    ensures decides { IfOk result (λ found. DecidesFrom run.now found.present found.decision) }
 {
     let inputs = prints_of(alloc, inputs)?;
     let outputs = prints_of(alloc, outputs)?;
-    let decided = decide_on(alloc, task, options, run, inputs, outputs)?;
-    Ok(decided.decision)
+    decide_on(alloc, task, options, run, inputs, outputs)
 }
 
 /// Whether an output lies in the tool's own folder.
@@ -257,7 +307,7 @@ fn has_own(outputs: &[Output]) -> bool
     outputs.iter().any(|output| is_own(&output.place))
 }
 
-/// Nothing, where the fault says that outputs are such as no run leaves; else the fault.
+/// Nothing, where the fault says that outputs are such as no execution leaves; else the fault.
 fn check_grown(fault: Fault) -> Result<(), Fault>
     ensures ok { OnOk result (IsGrown fault) }
     ensures err { IfErr result (λ other. (other ≡ fault) × (¬ IsGrown fault)) }

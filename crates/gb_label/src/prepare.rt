@@ -7,10 +7,10 @@ ghost use Rattle.gb_store.specs.Faults.{Blames, BlamesOnly};
 ghost use Rattle.gb_label.specs.Deciding.{HasNamesInOrder};
 ghost use Rattle.gb_label.specs.Looking.{IsHindered};
 ghost use Rattle.gb_label.specs.Answered.{WasPrepared};
-ghost use Rattle.gb_label.specs.Preparing.{IsPrepared, IsRead, IsSeen, MayDecideAs, MayPrepare};
+ghost use Rattle.gb_label.specs.Preparing.{GoesByAs, IsPrepared, IsRead, IsSeen, MayDecideAs, MayPrepare};
 ghost use Rattle.gb_label.specs.Reading.{is_input_of};
 
-use crate::deciding::decided;
+use crate::deciding::{Basis, decided};
 use crate::look::{Look, looked_at};
 use gb_folder::folder::Folder;
 use gb_history::decide::Decision;
@@ -30,8 +30,9 @@ pub enum Prepared {
     HasNoActions,
     /// All file properties that skip the task when empty are empty: its outputs are to be removed.
     HasNoSource,
-    /// None of these: it is up to date, or runs by changes or in full, on what was read of it.
-    Decided(Decision, Seen),
+    /// None of these: it is up to date, or runs incrementally or in full; by what that was decided, and what
+    /// was read for it.
+    Decided(Decision, Basis, Seen),
 }
 
 /// What was read of a task on the way to a decision.
@@ -46,15 +47,16 @@ pub struct Seen {
 /// How many bytes of a task's inputs are kept for its run, and as many of its outputs.
 const KEPT: u64 = 67_108_864;
 
-/// The outcome of a task by its record, its inputs and its outputs as they are. Nothing is changed,
-/// also not by an error: the first of what hinders reading its inputs or listing its outputs, or the
-/// machine's.
+/// The outcome of a task by its record, its inputs and its outputs as they are. Where an execution follows,
+/// bytes that were read are kept for it. Nothing is changed, also not by an error: the first of what hinders
+/// reading its inputs or listing its outputs, or the machine's.
 pub fn prepare<F: Folder>(
     alloc: Global,
     folder: &mut F,
     task: &TaskDeclaration,
     options: Options,
     old: Option<&Record>,
+    follows: bool,
 ) -> Result<Prepared, Fault>
     requires in_order { HasNamesInOrder task.now }
     ensures asks { Asks F.failures F.may_leave F.asked no_change folder.old folder.new }
@@ -64,6 +66,7 @@ pub fn prepare<F: Folder>(
     // actions reads nothing.
     ensures may_be { IfOk result (MayPrepare task.now) }
     ensures may_decide { IfOk result (MayDecideAs options task.now) }
+    ensures goes_by { IfOk result (GoesByAs options task.now (option_copied old.entry)) }
     ensures reads { OnErr result ((task.now.runs ≡ true) × (is_empty task.now.actions ≡ false)) }
     ensures same { IsTrue F.tells → F.contents folder.new ≡ F.contents folder.old }
     // What a run goes by was read; and it stands so in a folder that tells.
@@ -77,13 +80,14 @@ pub fn prepare<F: Folder>(
     ensures err { IsTrue F.tells → IfErr result
         (IsHindered task.now (F.contents folder.old) (F.failures folder.old) (F.failures folder.new)) }
 {
-    match looked_at(alloc, folder, task, input_room(task, options, old))? {
+    let room = input_room(task, options, old, follows);
+    match looked_at(alloc, folder, task, room)? {
         Look::Skips => Ok(Prepared::Skips),
         Look::HasNoActions => Ok(Prepared::HasNoActions),
         Look::HasNoSource => Ok(Prepared::HasNoSource),
         Look::Goes(inputs) => {
-            let room = output_room(task.files.as_slice());
-            let (decision, outputs) = decided(
+            let room = output_room(task.files.as_slice(), follows);
+            let found = decided(
                 alloc,
                 folder,
                 task,
@@ -92,22 +96,32 @@ pub fn prepare<F: Folder>(
                 inputs.as_slice(),
                 room,
             )?;
-            Ok(Prepared::Decided(decision, Seen { inputs, outputs }))
+            let outputs = found.outputs;
+            Ok(Prepared::Decided(found.decision, found.basis, Seen { inputs, outputs }))
         }
     }
 }
 
-/// How many bytes of the inputs are kept: all where the task is to run whatever they are.
-fn input_room(task: &TaskDeclaration, options: Options, old: Option<&Record>) -> u64 {
+/// How many bytes of the inputs are kept: all where the task is to run whatever they are, and none where no
+/// execution follows.
+fn input_room(
+    task: &TaskDeclaration,
+    options: Options,
+    old: Option<&Record>,
+    follows: bool,
+) -> u64 {
+    if !follows {
+        return 0;
+    }
     if old.is_none() || options.rerun || task.is_stale {
         return u64::MAX;
     }
     KEPT
 }
 
-/// How many bytes of the outputs are kept: none where no run goes on from them.
-fn output_room(properties: &[FileProperty]) -> u64 {
-    if properties.iter().any(|property| property.incremental) {
+/// How many bytes of the outputs are kept: none where no execution is based on them.
+fn output_room(properties: &[FileProperty], follows: bool) -> u64 {
+    if follows && properties.iter().any(|property| property.incremental) {
         return KEPT;
     }
     0

@@ -156,10 +156,10 @@ module _ {F : Type 0} (failures : F → ℕ) (may_leave : F → Tearing) (asked 
   was_settled options task last path need (Ok prepared.Skips) may was = λ told acts. absurd (let e = told in (cc))
   was_settled options task last path need (Ok prepared.HasNoActions) may was = λ told acts. absurd (true≢false (sym may.1 ∙ acts))
   was_settled options task last path need (Ok prepared.HasNoSource) may was = was
-  was_settled options task last path need (Ok (prepared.Decided decisions.UpToDate seen)) may was =
+  was_settled options task last path need (Ok (prepared.Decided decisions.UpToDate basis seen)) may was =
       λ told acts. current_on options task last seen.inputs.items seen.outputs.items was.0 was.1 was.2.0 was.2.1 was.2.2
-  was_settled options task last path need (Ok (prepared.Decided (decisions.Incremental changes) seen)) may was = (was.1, was.2)
-  was_settled options task last path need (Ok (prepared.Decided decisions.Full seen)) may was = (was.1, was.2)
+  was_settled options task last path need (Ok (prepared.Decided (decisions.Incremental changes) basis seen)) may was = (was.1, was.2)
+  was_settled options task last path need (Ok (prepared.Decided decisions.Full basis seen)) may was = (was.1, was.2)
 
   -- what was decided to go on by changes was decided on outputs that were answered
   pub outputs_answered : (options : Options) (task : Task) (last : Option Record) (inputs : List Read) (decision : Decision) (changes : List Changes) (outputs : List Read)

@@ -35,9 +35,9 @@ module _ (options : Options) (task : Task) where
   tells path need (Ok prepared.Skips) may decides = λ runs acts. not_true (sym may ∙ runs)
   tells path need (Ok prepared.HasNoActions) may decides = λ runs acts. not_true (sym acts ∙ may.1)
   tells path need (Ok prepared.HasNoSource) may decides = tt
-  tells path need (Ok (prepared.Decided decisions.UpToDate seen)) may decides = λ runs acts. decides
-  tells path need (Ok (prepared.Decided (decisions.Incremental changes) seen)) may decides = tt
-  tells path need (Ok (prepared.Decided decisions.Full seen)) may decides = tt
+  tells path need (Ok (prepared.Decided decisions.UpToDate basis seen)) may decides = λ runs acts. decides
+  tells path need (Ok (prepared.Decided (decisions.Incremental changes) basis seen)) may decides = tt
+  tells path need (Ok (prepared.Decided decisions.Full basis seen)) may decides = tt
 
   pub told_answers : (report : TaskReport) → report.lines ≡ [] → (task.runs ≡ true → is_empty task.actions ≡ false → MayAnswer options task report.outcome)
       → IsAnswer options task report

@@ -4,11 +4,11 @@ use Rattle.std.specs.List.{flat_map, list_any}
 use Rattle.std.proofs.Common.{refl, sym, ap, ap₂, subst, ◌∙◌}
 use Rattle.gb_action.specs.Files.{Trees}
 use Rattle.gb_folder.specs.Files.{Place, Bytes, Contents, Files, files_where, is_empty, is_own, places_under}
-use Rattle.gb_history.specs.Record.{Record}
-use Rattle.gb_history.specs.declared.decide.Decision.{Decision}
-use Rattle.gb_history.specs.declared.decide.Decision.TheVariants as decisions
 use Rattle.gb_history.specs.declared.record.OutputRecord.{OutputRecord}
-use Rattle.gb_label.specs.Deciding.{IsDecided, IsPresentOf, anew, by_record, forgotten, grown}
+use Rattle.gb_label.specs.Deciding.{IsBasisIn, IsPresentOf}
+use Rattle.gb_label.specs.declared.deciding.Basis.{Basis}
+use Rattle.gb_label.specs.declared.deciding.Basis.TheVariants as bases
+use Rattle.gb_label.specs.declared.deciding.Cause.TheVariants as causes
 use Rattle.gb_label.specs.declared.prepare.Prepared.TheVariants as prepared
 use Rattle.gb_meaning.specs.Label.{HasNoActions, HasNoSource, Skips}
 use Rattle.gb_meaning.specs.Tree.{told_of_tree, trees_of}
@@ -21,7 +21,7 @@ use Rattle.gb_report.specs.declared.report.Options.{Options}
 use Rattle.gb_tree.specs.Tree.{Entries, entries_from, odd_roots, too_large, too_many}
 use Rattle.gb_tree.specs.declared.fault.TreeFault.{TreeFault}
 use Rattle.gb_label.specs.Reading.{digests_in, print_faults, recorded_of}
-use Rattle.gb_turn.specs.Case.{OutsideIsEnough}
+use Rattle.gb_turn.specs.Case.{DecidedOutside, OutsideIsEnough}
 use Rattle.gb_turn.proofs.Outside.{early_outside, trees_outside}
 use Rattle.gb_turn.proofs.Own.{is_kept, kept_under}
 use Rattle.gb_turn.proofs.Part.{all_from, from_same, large_same, under_same}
@@ -67,21 +67,21 @@ module _ (folder : Contents) where
       (printed_outside outputs (none_right (is_own output.place) (list_any (λ (o : Output). is_own o.place) outputs) out))
 
 module _ (options : Options) (task : Task) (folder : Contents) (out : list_any (λ (o : Output). is_own o.place) task.outputs ≡ false) where
-  decided_outside : (read : Option Record) (decision : Decision) → IsDecided options task folder read decision → IsDecided options task (outside folder) read decision
-  decided_outside (Some run) decision (by_record present is decides) =
-      by_record present
-      (subst (λ (outputs : List OutputRecord). IsPresentOf options task (digests_in (trees_of task (outside folder).files)) outputs present) (sym (recorded_outside folder task.outputs out))
-      (subst (λ (ts : Trees). IsPresentOf options task (digests_in ts) (map (recorded_of folder.files) task.outputs) present) (sym (trees_outside task folder.files)) is))
-      decides
-  decided_outside None decisions.UpToDate decided = elim decided [ ]
-  decided_outside None (decisions.Incremental changes) decided = elim decided [ ]
-  decided_outside None decisions.Full forgotten = forgotten
-  decided_outside (Some run) decisions.Full (anew why) = anew why
-  decided_outside (Some run) decisions.Full (grown large) = grown (ap is_empty (printed_outside folder task.outputs out) ∙ large)
+  basis_outside : (basis : Basis) → IsBasisIn options task folder basis → IsBasisIn options task (outside folder) basis
+  basis_outside (bases.Anew causes.NoRecord) is = tt
+  basis_outside (bases.Anew causes.Rerun) is = tt
+  basis_outside (bases.Anew causes.Stale) is = tt
+  basis_outside (bases.Anew causes.Grown) large = ap is_empty (printed_outside folder task.outputs out) ∙ large
+  basis_outside (bases.Compared present) is =
+      subst (λ (outputs : List OutputRecord). IsPresentOf options task (digests_in (trees_of task (outside folder).files)) outputs present) (sym (recorded_outside folder task.outputs out))
+      (subst (λ (ts : Trees). IsPresentOf options task (digests_in ts) (map (recorded_of folder.files) task.outputs) present) (sym (trees_outside task folder.files)) is)
+
+pub decided_outside : DecidedOutside
+decided_outside options task folder read decision out decided = (decided.0, decided.1, basis_outside options task folder out decided.0 decided.2)
 
 pub outside_is_enough : OutsideIsEnough
 outside_is_enough options task folder read prepared.Skips out case = early_outside task folder ∙ case
 outside_is_enough options task folder read prepared.HasNoActions out case = early_outside task folder ∙ case
 outside_is_enough options task folder read prepared.HasNoSource out case = early_outside task folder ∙ case
-outside_is_enough options task folder read (prepared.Decided decision seen) out case =
-    (early_outside task folder ∙ case.0, decided_outside options task folder out read decision case.1)
+outside_is_enough options task folder read (prepared.Decided decision basis seen) out case =
+    (early_outside task folder ∙ case.0, case.1, basis_outside options task folder out basis case.2)

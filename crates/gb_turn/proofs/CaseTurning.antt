@@ -95,10 +95,10 @@ idle_turns_are_turns kinds options plan task moment prepared.Skips outcome case 
 idle_turns_are_turns kinds options plan task moment prepared.HasNoActions outcome case answer =
     subst (IsIdleTurn kinds options plan task moment) (sym answer) (without_actions kinds options plan task moment case)
 idle_turns_are_turns kinds options plan task moment prepared.HasNoSource outcome case answer = absurd answer
-idle_turns_are_turns kinds options plan task moment (prepared.Decided decisions.UpToDate seen) outcome case answer =
+idle_turns_are_turns kinds options plan task moment (prepared.Decided decisions.UpToDate basis seen) outcome case answer =
     subst (IsIdleTurn kinds options plan task moment) (sym answer) (current kinds options plan task moment case.0 case.1)
-idle_turns_are_turns kinds options plan task moment (prepared.Decided (decisions.Incremental changes) seen) outcome case answer = absurd answer
-idle_turns_are_turns kinds options plan task moment (prepared.Decided decisions.Full seen) outcome case answer = absurd answer
+idle_turns_are_turns kinds options plan task moment (prepared.Decided (decisions.Incremental changes) basis seen) outcome case answer = absurd answer
+idle_turns_are_turns kinds options plan task moment (prepared.Decided decisions.Full basis seen) outcome case answer = absurd answer
 
 -- ---- runs
 

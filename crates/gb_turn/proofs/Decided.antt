@@ -1,5 +1,5 @@
 -- What is decided of a task by digests is its case by whole contents.
-use Rattle.std.specs.Prelude.{◌≡◌, ◌⊎◌, true, false, [], Some, None}
+use Rattle.std.specs.Prelude.{◌≡◌, ◌⊎◌, true, false, [], Option, Some, None}
 use Rattle.std.specs.List.{flat_map}
 use Rattle.std.proofs.Common.{sym, ap, subst, ◌∙◌, inl, inr}
 use mathlib.Core.Bool.{true≢false}
@@ -10,10 +10,13 @@ use Rattle.gb_history.specs.declared.decide.Decision.{Decision}
 use Rattle.gb_history.specs.declared.decide.Decision.TheVariants as decisions
 use Rattle.gb_history.specs.declared.decide.Present.{Present}
 use Rattle.gb_label.proofs.Cases.{listed_if_none}
-use Rattle.gb_label.specs.Deciding.{anew, by_record, forgotten, grown}
+use Rattle.gb_label.specs.Deciding.{GoesBy, IsBasisIn}
+use Rattle.gb_label.specs.declared.deciding.Basis.{Basis}
+use Rattle.gb_label.specs.declared.deciding.Basis.TheVariants as bases
+use Rattle.gb_label.specs.declared.deciding.Cause.TheVariants as causes
 use Rattle.gb_label.specs.declared.prepare.Prepared.TheVariants as prepared
 use Rattle.gb_meaning.specs.Kinds.{Kinds}
-use Rattle.gb_meaning.specs.Label.{changes_from}
+use Rattle.gb_meaning.specs.Label.{changes_from, early_case}
 use Rattle.gb_meaning.specs.Memory.{Entry, World, entry_of, output_files, recalled}
 use Rattle.gb_meaning.specs.Tree.{listing_faults}
 use Rattle.gb_meaning.specs.TrueRecord.{IsMade}
@@ -25,7 +28,7 @@ use Rattle.gb_records.proofs.Digests.{up_to_date_is_current}
 use Rattle.gb_records.proofs.Going.{changes_are_of_contents, since_is_incremental}
 use Rattle.gb_report.specs.declared.report.Options.{Options}
 use Rattle.gb_label.specs.Reading.{print_faults}
-use Rattle.gb_turn.specs.Case.{DecisionIsCase, IsCaseFor, PreparedIsCase}
+use Rattle.gb_turn.specs.Case.{DecisionIsCase, IsCaseFor, IsKnown, PreparedIsCase}
 use Rattle.gb_turn.proofs.Grown.{made_is_not_grown}
 use Rattle.gb_turn.proofs.Present.{present_is_of_contents}
 
@@ -79,19 +82,32 @@ module _ (kinds : Kinds) (options : Options) (task : Task) (world : World) where
         not_grown since.entry (subst (IsMade kinds) same made) since.same_outputs since.same_files listed large,
   )
 
+module _ (kinds : Kinds) (options : Options) (task : Task) (world : World) (decision : Decision) (none : early_case task world.folder ≡ None) where
+  full_case : decision ≡ decisions.Full → IsCaseFor kinds options task world decisions.Full → IsCaseFor kinds options task world decision
+  full_case full case = subst (λ (d : Decision). IsCaseFor kinds options task world d) (sym full) case
+
+  pub basis_case : (read : Option Record) (basis : Basis) → IsKnown kinds task world read → GoesBy options task read decision basis
+      → IsBasisIn options task world.folder basis → IsCaseFor kinds options task world decision
+  basis_case None (bases.Anew causes.NoRecord) known goes so = full_case goes.0 (forgotten_case kinds options task world known)
+  basis_case None (bases.Anew causes.Rerun) known goes so = absurd goes.1
+  basis_case None (bases.Anew causes.Stale) known goes so = absurd goes.1
+  basis_case None (bases.Anew causes.Grown) known goes so = absurd goes.1
+  basis_case None (bases.Compared present) known goes so = absurd goes
+  basis_case (Some run) (bases.Anew causes.NoRecord) known goes so = absurd goes.1
+  basis_case (Some run) (bases.Anew causes.Rerun) known goes so = full_case goes.0 (anew_case kinds options task world (inl goes.1))
+  basis_case (Some run) (bases.Anew causes.Stale) known goes so = full_case goes.0 (anew_case kinds options task world (inr goes.1.1))
+  basis_case (Some run) (bases.Anew causes.Grown) known goes so =
+      full_case goes.0 (grown_case kinds options task world known.0 known.1 known.3.is_made (listed_if_none task world.folder none) so)
+  basis_case (Some run) (bases.Compared present) known goes so =
+      by_case kinds options task world run known.0 known.1 known.2 known.3 present (present_is_of_contents options task world.folder.files present so) decision goes
+
 pub decision_is_case : DecisionIsCase
-decision_is_case kinds options task world (Some run) decision known none (by_record present is decides) =
-    by_case kinds options task world run known.0 known.1 known.2 known.3 present (present_is_of_contents options task world.folder.files present is) decision decides
-decision_is_case kinds options task world None decisions.UpToDate known none decided = elim decided [ ]
-decision_is_case kinds options task world None (decisions.Incremental changes) known none decided = elim decided [ ]
-decision_is_case kinds options task world None decisions.Full known none forgotten = forgotten_case kinds options task world known
-decision_is_case kinds options task world (Some run) decisions.Full known none (anew why) = anew_case kinds options task world why
-decision_is_case kinds options task world (Some run) decisions.Full known none (grown large) =
-    grown_case kinds options task world known.0 known.1 known.3.is_made (listed_if_none task world.folder none) large
+decision_is_case kinds options task world read decision known none decided =
+    basis_case kinds options task world decision none read decided.0 known decided.1 decided.2
 
 pub prepared_is_case : PreparedIsCase
 prepared_is_case kinds options task world read prepared.Skips known case = case
 prepared_is_case kinds options task world read prepared.HasNoActions known case = case
 prepared_is_case kinds options task world read prepared.HasNoSource known case = case
-prepared_is_case kinds options task world read (prepared.Decided decision seen) known case =
-    (case.0, decision_is_case kinds options task world read decision known case.0 case.1)
+prepared_is_case kinds options task world read (prepared.Decided decision basis seen) known case =
+    (case.0, basis_case kinds options task world decision case.0 read basis known case.1 case.2)

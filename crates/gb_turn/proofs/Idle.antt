@@ -131,14 +131,14 @@ module _ (setting : Setting) (options : Options) (plan : Plan) (task : Task) (pa
       (are_turns setting.kinds options plan task moment prepared.HasNoActions (idle_outcome need) (case_of prepared.HasNoActions prepared_so)
       (same_outcome need ∙ ap (λ (b : Bool). if b then outcomes.Executed else outcomes.UpToDate) (sym needed)))
   settles (Ok prepared.HasNoSource) prepared_so stands_so cannot goes blamed = case_of prepared.HasNoSource prepared_so
-  settles (Ok (prepared.Decided decisions.UpToDate seen)) prepared_so stands_so cannot goes blamed =
+  settles (Ok (prepared.Decided decisions.UpToDate basis seen)) prepared_so stands_so cannot goes blamed =
       idle_started setting (own_files old) options plan task path moment after outcomes.UpToDate
-      (are_turns setting.kinds options plan task moment (prepared.Decided decisions.UpToDate seen) outcomes.UpToDate (case_of (prepared.Decided decisions.UpToDate seen) prepared_so) refl)
-  settles (Ok (prepared.Decided (decisions.Incremental changes) seen)) prepared_so stands_so cannot goes blamed =
-      let case = case_of (prepared.Decided (decisions.Incremental changes) seen) prepared_so in
+      (are_turns setting.kinds options plan task moment (prepared.Decided decisions.UpToDate basis seen) outcomes.UpToDate (case_of (prepared.Decided decisions.UpToDate basis seen) prepared_so) refl)
+  settles (Ok (prepared.Decided (decisions.Incremental changes) basis seen)) prepared_so stands_so cannot goes blamed =
+      let case = case_of (prepared.Decided (decisions.Incremental changes) basis seen) prepared_so in
       (case.0, case.1, are_runs setting.kinds options task moment.world (decisions.Incremental changes) (λ e. absurd (let d = e in (cc))) case.1, stands_so)
-  settles (Ok (prepared.Decided decisions.Full seen)) prepared_so stands_so cannot goes blamed =
-      let case = case_of (prepared.Decided decisions.Full seen) prepared_so in
+  settles (Ok (prepared.Decided decisions.Full basis seen)) prepared_so stands_so cannot goes blamed =
+      let case = case_of (prepared.Decided decisions.Full basis seen) prepared_so in
       (case.0, case.1, are_runs setting.kinds options task moment.world decisions.Full (λ e. absurd (let d = e in (cc))) case.1, stands_so)
 
 -- ---- over any folder
@@ -165,9 +165,9 @@ module _ (task : Task) (path : Path) (is_path : path ≡ task.path) (before afte
   of_task (Ok prepared.Skips) may read_so rises blamed = (is_path, refl, refl, silent outcomes.Skipped refl, refl)
   of_task (Ok prepared.HasNoActions) may read_so rises blamed = (is_path, refl, refl, silent (idle_outcome need) (failed_idly need), started_idly need)
   of_task (Ok prepared.HasNoSource) may read_so rises blamed = (is_path, may.2)
-  of_task (Ok (prepared.Decided decisions.UpToDate seen)) may read_so rises blamed = (is_path, refl, refl, silent outcomes.UpToDate refl, refl)
-  of_task (Ok (prepared.Decided (decisions.Incremental changes) seen)) may read_so rises blamed = (is_path, (λ e. absurd (let d = e in (cc))), read_so)
-  of_task (Ok (prepared.Decided decisions.Full seen)) may read_so rises blamed = (is_path, (λ e. absurd (let d = e in (cc))), read_so)
+  of_task (Ok (prepared.Decided decisions.UpToDate basis seen)) may read_so rises blamed = (is_path, refl, refl, silent outcomes.UpToDate refl, refl)
+  of_task (Ok (prepared.Decided (decisions.Incremental changes) basis seen)) may read_so rises blamed = (is_path, (λ e. absurd (let d = e in (cc))), read_so)
+  of_task (Ok (prepared.Decided decisions.Full basis seen)) may read_so rises blamed = (is_path, (λ e. absurd (let d = e in (cc))), read_so)
 
   pub alone : (result : Result Prepared Fault) → IfOk result (MayPrepare task) → OnErr result ((task.runs ≡ true) × (is_empty task.actions ≡ false))
       → AnswersAlone task.runs (is_empty task.actions) need (settled_as task path result need)
@@ -183,9 +183,9 @@ module _ (task : Task) (path : Path) (is_path : path ≡ task.path) (before afte
           acts_none (Ok prepared.Skips) may goes = not_true (sym may ∙ r)
           acts_none (Ok prepared.HasNoActions) may goes = refl
           acts_none (Ok prepared.HasNoSource) may goes = not_true (sym may.1 ∙ a)
-          acts_none (Ok (prepared.Decided decisions.UpToDate seen)) may goes = not_true (sym may.1 ∙ a)
-          acts_none (Ok (prepared.Decided (decisions.Incremental changes) seen)) may goes = not_true (sym may.1 ∙ a)
-          acts_none (Ok (prepared.Decided decisions.Full seen)) may goes = not_true (sym may.1 ∙ a)
+          acts_none (Ok (prepared.Decided decisions.UpToDate basis seen)) may goes = not_true (sym may.1 ∙ a)
+          acts_none (Ok (prepared.Decided (decisions.Incremental changes) basis seen)) may goes = not_true (sym may.1 ∙ a)
+          acts_none (Ok (prepared.Decided decisions.Full basis seen)) may goes = not_true (sym may.1 ∙ a)
       by false idle r a = skips result may goes
         where
           skips : (p : Result Prepared Fault) → IfOk p (MayPrepare task) → OnErr p ((task.runs ≡ true) × (is_empty task.actions ≡ false))
@@ -194,6 +194,6 @@ module _ (task : Task) (path : Path) (is_path : path ≡ task.path) (before afte
           skips (Ok prepared.Skips) may goes = refl
           skips (Ok prepared.HasNoActions) may goes = not_true (sym r ∙ may.0)
           skips (Ok prepared.HasNoSource) may goes = not_true (sym r ∙ may.0)
-          skips (Ok (prepared.Decided decisions.UpToDate seen)) may goes = not_true (sym r ∙ may.0)
-          skips (Ok (prepared.Decided (decisions.Incremental changes) seen)) may goes = not_true (sym r ∙ may.0)
-          skips (Ok (prepared.Decided decisions.Full seen)) may goes = not_true (sym r ∙ may.0)
+          skips (Ok (prepared.Decided decisions.UpToDate basis seen)) may goes = not_true (sym r ∙ may.0)
+          skips (Ok (prepared.Decided (decisions.Incremental changes) basis seen)) may goes = not_true (sym r ∙ may.0)
+          skips (Ok (prepared.Decided decisions.Full basis seen)) may goes = not_true (sym r ∙ may.0)

@@ -12,7 +12,8 @@ use Rattle.gb_history.specs.declared.decide.Decision.{Decision}
 use Rattle.gb_history.specs.declared.decide.Decision.TheVariants as decisions
 use Rattle.gb_history.specs.declared.decide.Present.{Present}
 use Rattle.gb_history.specs.declared.record.OutputRecord.{OutputRecord}
-use Rattle.gb_label.specs.Deciding.{IsDecided, IsPresentOf, by_record}
+use Rattle.gb_label.specs.Deciding.{IsBasisIn, IsPresentOf}
+use Rattle.gb_label.specs.declared.deciding.Basis.TheVariants.{Compared}
 use Rattle.gb_label.specs.Preparing.{IsPrepared}
 use Rattle.gb_label.specs.declared.prepare.Prepared.TheVariants as prepared
 use Rattle.gb_label.specs.declared.prepare.Seen.{Seen}
@@ -75,21 +76,19 @@ module _ (options : Options) (task : Task) (last : Record) (present : Present) (
   module _ (kinds : Kinds) (world : World) (folder : Contents) (some : Seen) (out : list_any (λ (o : Output). is_own o.place) task.outputs ≡ false)
       (is_enough : OutsideIsEnough) (is_case : PreparedIsCase) (at : world.folder ≡ outside folder) (goes : IsToGoOn kinds options task world last)
       (trees : inputs.trees ≡ trees_of task folder.files) (seen : outputs.seen ≡ map (seen_of folder.files) task.outputs) where
-    decided_there : IsDecided options task folder (Some last) decision
-    decided_there =
-        by_record present
-        (subst (λ (os : List OutputRecord). IsPresentOf options task (digests_in (trees_of task folder.files)) os present)
+    present_there : IsBasisIn options task folder (Compared present)
+    present_there =
+        subst (λ (os : List OutputRecord). IsPresentOf options task (digests_in (trees_of task folder.files)) os present)
         (ap (λ (s : List OutputFiles). records_with task.outputs (prints_seen s)) seen ∙ records_seen folder.files task.outputs)
         (subst (λ (ins : List Prints). IsPresentOf options task ins (records_with task.outputs (prints_seen outputs.seen)) present) (digests ∙ ap digests_in trees)
-        (subst (λ (outs : List Prints). IsPresentOf options task read (records_with task.outputs outs) present) are is)))
-        decides
+        (subst (λ (outs : List Prints). IsPresentOf options task read (records_with task.outputs outs) present) are is))
 
-    case_there : IsCaseOf kinds options task world (prepared.Decided decision some)
+    case_there : IsCaseOf kinds options task world (prepared.Decided decision (Compared present) some)
     case_there =
-        is_case kinds options task world (Some last) (prepared.Decided decision some) goes.known
-        (subst (λ (c : Contents). IsPrepared options task c (Some last) (prepared.Decided decision some)) (sym at)
-        (is_enough options task folder (Some last) (prepared.Decided decision some) out
-        (sym (early_outside task folder) ∙ ap (early_case task) (sym at) ∙ goes.case, decided_there)))
+        is_case kinds options task world (Some last) (prepared.Decided decision (Compared present) some) goes.known
+        (subst (λ (c : Contents). IsPrepared options task c (Some last) (prepared.Decided decision (Compared present) some)) (sym at)
+        (is_enough options task folder (Some last) (prepared.Decided decision (Compared present) some) out
+        (sym (early_outside task folder) ∙ ap (early_case task) (sym at) ∙ goes.case, decides, present_there)))
 
     pub as_before : IsAsBefore kinds options task folder.files world (anew_by decision inputs outputs)
     as_before = by decision case_there.1

@@ -46,7 +46,7 @@ abbrev pub IsCaseOf : Kinds → Options → Task → World → Prepared → Type
 IsCaseOf kinds options task world prepared.Skips = early_case task world.folder ≡ Some Skips
 IsCaseOf kinds options task world prepared.HasNoActions = early_case task world.folder ≡ Some HasNoActions
 IsCaseOf kinds options task world prepared.HasNoSource = early_case task world.folder ≡ Some HasNoSource
-IsCaseOf kinds options task world (prepared.Decided decision seen) =
+IsCaseOf kinds options task world (prepared.Decided decision basis seen) =
     (early_case task world.folder ≡ None) × IsCaseFor kinds options task world decision
 
 -- ---- Laws
@@ -79,6 +79,13 @@ PreparedIsCase =
     (kinds : Kinds) (options : Options) (task : Task) (world : World) (read : Option Record)
     (prepared : Prepared) → IsKnown kinds task world read
     → IsPrepared options task world.folder read prepared → IsCaseOf kinds options task world prepared
+
+-- what is decided in a whole folder is decided without the tool's own files, if no output is one of these
+abbrev pub DecidedOutside : Type 0
+DecidedOutside =
+    (options : Options) (task : Task) (folder : Contents) (read : Option Record) (decision : Decision)
+    → list_any (λ output. is_own output.place) task.outputs ≡ false
+    → IsDecided options task folder read decision → IsDecided options task (outside folder) read decision
 
 -- a turn is prepared in a whole folder as in the folder without the tool's own files, if no output is its own
 abbrev pub OutsideIsEnough : Type 0

@@ -44,9 +44,9 @@ settled_as task path (Ok prepared.Skips) need = settled.Told (silent_report task
 settled_as task path (Ok prepared.HasNoActions) need =
     settled.Told (silent_report task path (idle_outcome need))
 settled_as task path (Ok prepared.HasNoSource) need = settled.Sourceless path
-settled_as task path (Ok (prepared.Decided decisions.UpToDate seen)) need =
+settled_as task path (Ok (prepared.Decided decisions.UpToDate basis seen)) need =
     settled.Told (silent_report task path outcomes.UpToDate)
-settled_as task path (Ok (prepared.Decided decision seen)) need = settled.Due path decision seen
+settled_as task path (Ok (prepared.Decided decision basis seen)) need = settled.Due path decision seen
 
 -- What is told is of the task, without a line, tells that it was started, and blames the device only where it
 -- failed in the turn; what has no source has a property that skips it; and what is due is not up to date.

@@ -1,6 +1,6 @@
 //! Laws of what a turn comes to, each the contract of a function that does nothing.
-ghost use Rattle.gb_turn.specs.Case.{DecisionIsCase, MadeIsNotGrown, OutsideIsEnough, PreparedIsCase};
-ghost use Rattle.gb_turn.specs.Case.{PresentIsOfContents};
+ghost use Rattle.gb_turn.specs.Case.{DecidedOutside, DecisionIsCase, MadeIsNotGrown, OutsideIsEnough};
+ghost use Rattle.gb_turn.specs.Case.{PreparedIsCase, PresentIsOfContents};
 ghost use Rattle.gb_turn.specs.Known.{WhatIsReadIsKnown};
 ghost use Rattle.gb_turn.specs.Turns.{IdleTurnsAreTurns, RunsAreOfCase};
 
@@ -22,6 +22,11 @@ pub fn decision_is_case()
 /// What a turn is prepared for is its case by whole contents.
 pub fn prepared_is_case()
     ensures { PreparedIsCase }
+{}
+
+/// What is decided of a task in a whole folder is decided without the tool's own files.
+pub fn decided_outside()
+    ensures { DecidedOutside }
 {}
 
 /// A turn is prepared in a whole folder as it is without the tool's own files.

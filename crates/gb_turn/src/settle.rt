@@ -78,7 +78,7 @@ pub fn settle<F: Folder>(
     prepared_is_case();
     idle_turns_are_turns();
     runs_are_of_case();
-    let prepared = prepare(alloc, folder, task, options, last);
+    let prepared = prepare(alloc, folder, task, options, last, true);
     settled_by(alloc, task, path, prepared, has_executed_need)
 }
 
@@ -96,8 +96,8 @@ fn settled_by(
         Ok(Prepared::Skips) => told(alloc, task, path, Outcome::Skipped),
         Ok(Prepared::HasNoActions) => told(alloc, task, path, idle_outcome(has_executed_need)),
         Ok(Prepared::HasNoSource) => Settled::Sourceless(path),
-        Ok(Prepared::Decided(Decision::UpToDate, _)) => told(alloc, task, path, Outcome::UpToDate),
-        Ok(Prepared::Decided(decision, seen)) => Settled::Due(path, decision, seen),
+        Ok(Prepared::Decided(Decision::UpToDate, _, _)) => told(alloc, task, path, Outcome::UpToDate),
+        Ok(Prepared::Decided(decision, _, seen)) => Settled::Due(path, decision, seen),
         Err(fault) => told(alloc, task, path, Outcome::Failed(fault)),
     }
 }

@@ -33,9 +33,6 @@ foretell-requires-clause-ready g c = each_all _ _ (λ planned is. is.ready) c.ar
 pub foretell-requires-clause-in_order : goal.foretell-requires-clause-in_order
 foretell-requires-clause-in_order g c = each_all _ _ (λ planned is. is.in_order) c.args.plan.now c.requires
 
-pub foretell-requires-clause-not_own : goal.foretell-requires-clause-not_own
-foretell-requires-clause-not_own g c = each_all _ _ (λ planned is. is.not_own) c.args.plan.now c.requires
-
 pub foretell-requires-clause-each : goal.foretell-requires-clause-each
 foretell-requires-clause-each g c =
     let F = g.F.Folder in

@@ -27,9 +27,6 @@ foretold-requires-clause-ready g c = all_at _ c.args.plan.now c.loop-at.at c.ind
 pub foretold-requires-clause-in_order : goal.foretold-requires-clause-in_order
 foretold-requires-clause-in_order g c = all_at _ c.args.plan.now c.loop-at.at c.index-plan-at.result c.loop-at-test.true c.index-plan-at.is c.requires.in_order
 
-pub foretold-requires-clause-not_own : goal.foretold-requires-clause-not_own
-foretold-requires-clause-not_own g c = all_at _ c.args.plan.now c.loop-at.at c.index-plan-at.result c.loop-at-test.true c.index-plan-at.is c.requires.not_own
-
 pub foretold-requires-clause-each : goal.foretold-requires-clause-each
 foretold-requires-clause-each g c =
     let long = ap length c.as_slice-in-loop-at.ensures.value ∙ c.loop-at.invariant.count in

@@ -8,8 +8,8 @@ use Rattle.gb_label.specs.declared.look.Look.{Look}
 use Rattle.gb_label.proofs.Answering.{decided_longer}
 use Rattle.gb_label.proofs.prepare.prepare.Goals as goal
 
-pub returns-in_ok-decision-in-Goes-clause-answered : goal.returns-in_ok-decision-in-Goes-clause-answered
-returns-in_ok-decision-in-Goes-clause-answered g c =
+pub returns-in_ok-found-in-Goes-clause-answered : goal.returns-in_ok-found-in-Goes-clause-answered
+returns-in_ok-found-in-Goes-clause-answered g c =
     let F = g.F.Folder in
     let old = c.args.folder.now in
     let mid = c.looked_at.new.folder in
@@ -17,11 +17,11 @@ returns-in_ok-decision-in-Goes-clause-answered g c =
     let task = c.args.task.now in
     let last = option_copied c.args.old in
     let inputs = c.in-Goes.inputs.items in
-    let found = c.in_ok-decision-in-Goes in (
+    let found = c.in_ok-found-in-Goes.found in (
       (subst (MayBe task) c.in-Goes.is c.in_ok-looked_at.ensures.may_be).2,
       inputs_longer (asks_nothing old) c.decided.ensures.asks task inputs
           (subst (λ (look : Look). WasLookedAt F.failures F.may_leave F.asked old mid task look) c.in-Goes.is c.in_ok-looked_at.ensures.answered),
       decided_longer c.looked_at.ensures.asks (asks_nothing new) c.args.options task last inputs found.decision found.outputs.items
           (subst (λ (seen : List Read). WasDecided F.failures F.may_leave F.asked mid new c.args.options task last seen found.decision found.outputs.items)
-          c.as_slice-in-Goes.ensures.value found.ensures.answered),
+          c.as_slice-in-Goes.ensures.value c.in_ok-found-in-Goes.ensures.answered),
     )
