@@ -32,5 +32,4 @@ module _ {F S : Type 0} {failures : F → ℕ} {may_leave : F → Tearing} {aske
     first = asks_then before by.first;
     answered = λ wet. all_answered_longer first old by.begun by.begun before (asks_nothing by.begun) (order plan) by.records (by.answered wet);
     turns = by.turns;
-    current = by.current;
   }

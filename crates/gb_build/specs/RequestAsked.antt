@@ -2,7 +2,7 @@
 use Rattle.std.specs.Prelude.{ℕ, ◌≡◌, false, List, Option, Result, Ok, Err}
 use Rattle.std.specs.List.{AllZip}
 use Rattle.gb_action.specs.Meanings.{Meanings}
-use Rattle.gb_exec.specs.Asking.{WereCurrent, in_build}
+use Rattle.gb_exec.specs.Asking.{TurnsAsk}
 use Rattle.gb_folder.specs.Calls.{Asks, Call, no_change}
 use Rattle.gb_folder.specs.Files.{Tearing}
 use Rattle.gb_history.specs.Record.{Record}
@@ -17,8 +17,7 @@ use Rattle.gb_report.specs.declared.report.Report.{Report}
 use Rattle.gb_report.specs.declared.report.TaskReport.{TaskReport}
 
 -- First no change is asked for, and these records of the plan's tasks are answered, but in a dry run; from
--- there on it is asked what the turns of the tasks may ask for, from these records, and what is told up to
--- date is found so by them.
+-- there on the tasks take their turns, each by its record and by what is told of it.
 pub record PlanAsks {F S : Type 0} (failures : F → ℕ) (may_leave : F → Tearing)
     (asked : F → Call → F → Type 0) (meanings : Meanings S) (rows : Rows S) (options : Options)
     (plan : Plan) (reports : List TaskReport)
@@ -28,9 +27,7 @@ pub record PlanAsks {F S : Type 0} (failures : F → ℕ) (may_leave : F → Tea
   pub first : Asks failures may_leave asked no_change old begun
   pub answered : options.dry_run ≡ false
       → AllZip (WasAnswered failures may_leave asked old begun) (order plan) records
-  pub turns : Asks failures may_leave asked
-      (in_build failures may_leave asked begun meanings rows options plan records) begun new
-  pub current : WereCurrent failures may_leave asked begun options plan records reports
+  pub turns : TurnsAsk failures may_leave asked meanings rows options plan records reports begun new
 
 -- a refused build asks for no change, and another what its plan does
 abbrev pub BuildAsks : {F S : Type 0} → (F → ℕ) → (F → Tearing) → (F → Call → F → Type 0) → Meanings S

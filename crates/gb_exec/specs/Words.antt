@@ -1,5 +1,5 @@
 -- What the contract of `execute` speaks of.
-pub use Rattle.gb_exec.specs.Asking.{WereCurrent, in_build}
+pub use Rattle.gb_exec.specs.Asking.{TurnsAsk}
 pub use Rattle.gb_exec.specs.Building.{CanBuild, is_of_turns}
 pub use Rattle.gb_exec.specs.Built.{AreWorth, HasBuilt}
 pub use Rattle.gb_exec.specs.Failing.{times_blamed}

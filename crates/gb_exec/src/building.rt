@@ -1,8 +1,7 @@
 //! A build of a plan.
-ghost use Rattle.std.specs.Prelude.{◌≡◌, Bool, List, true, not, map, length, IfOk, IsTrue, OnErr};
+ghost use Rattle.std.specs.Prelude.{◌≡◌, ◌≤◌, Bool, List, true, not, map, length, IfOk, IsTrue, OnErr};
 ghost use Rattle.std.specs.List.{AllZip};
-ghost use Rattle.gb_folder.specs.Calls.{Asks};
-ghost use Rattle.gb_folder.specs.Files.{Bytes};
+ghost use Rattle.gb_folder.specs.Files.{Bytes, SameTearing};
 ghost use Rattle.gb_meaning.specs.Headline.{HasFailed, HaveHeard};
 ghost use Rattle.gb_meaning.specs.Kinds.{Kinds};
 ghost use Rattle.gb_meaning.specs.Memory.{Memory};
@@ -12,7 +11,7 @@ ghost use Rattle.gb_printer.specs.Printing.{Prints, parts_text};
 ghost use Rattle.gb_records.specs.Granted.{IsGranted};
 ghost use Rattle.gb_store.specs.Changes.{ChangesOnly};
 ghost use Rattle.gb_turn.specs.Turned.{Registering, setting_with};
-ghost use Rattle.gb_exec.specs.Asking.{WereCurrent, in_build};
+ghost use Rattle.gb_exec.specs.Asking.{TurnsAsk};
 ghost use Rattle.gb_exec.specs.Building.{CanBuild, is_of_turns};
 ghost use Rattle.gb_exec.specs.Built.{AreWorth, HasBuilt};
 ghost use Rattle.gb_exec.specs.Failing.{times_blamed};
@@ -63,12 +62,11 @@ pub fn execute<A: Actions, F: Folder, L: TaskListener, P: Printer>(
     // The parts of its tasks were printed; or a beginning of them, where they could not be.
     ensures printed { IfOk result (λ report.
         Prints P.contents P.whole (parts_text report) printer.old printer.new) }
-    ensures asks { Asks F.failures F.may_leave F.asked
-        (in_build F.failures F.may_leave F.asked folder.old A.meanings table.now options plan.now records.now)
-        folder.old folder.new }
-    // What is told up to date was found so on what was answered in this build.
-    ensures current { IfOk result (λ report. WereCurrent F.failures F.may_leave F.asked folder.old options
-        plan.now records.now report.tasks) }
+    ensures count { F.failures folder.old ≤ F.failures folder.new }
+    ensures tearing { SameTearing (F.may_leave folder.old) (F.may_leave folder.new) }
+    // Over any folder: turn by turn, each from where the one before it ended, what its outcome lets it ask for.
+    ensures asks { IfOk result (λ report. TurnsAsk F.failures F.may_leave F.asked A.meanings table.now options
+        plan.now records.now report.tasks folder.old folder.new) }
     // The device is blamed no more often than it failed.
     ensures device { IfOk result (λ report.
         HasFailed (times_blamed report.tasks) (F.failures folder.old) (F.failures folder.new)) }

@@ -1,7 +1,6 @@
 //! The turn of one task of a plan.
 ghost use Rattle.std.specs.Prelude.{◌≡◌, ◌<◌, [], ◌∷◌, ℕ, List, None, Some, false, map, length};
 ghost use Rattle.std.specs.Prelude.{slice_get, slice_index_or, IsTrue};
-ghost use Rattle.gb_folder.specs.Calls.{Asks, changes_at};
 ghost use Rattle.gb_folder.specs.Files.{HasRisen};
 ghost use Rattle.gb_meaning.specs.Kinds.{Kinds};
 ghost use Rattle.gb_meaning.specs.Label.{Moment};
@@ -14,12 +13,11 @@ ghost use Rattle.gb_records.specs.Standing.{Standing};
 ghost use Rattle.gb_report.specs.declared.report.Outcome.TheVariants.{Failed, NotRun};
 ghost use Rattle.gb_store.specs.Changes.{ChangesOnly};
 ghost use Rattle.gb_turn.specs.Case.{IsKnown};
-ghost use Rattle.gb_turn.specs.Current.{IsToldCurrent};
+ghost use Rattle.gb_turn.specs.ByOutcome.{TurnAsks};
 ghost use Rattle.gb_turn.specs.Turned.{Registering, is_of_turn, setting_with};
 ghost use Rattle.gb_exec.specs.Telling.{AllTold};
 ghost use Rattle.gb_exec.specs.Plans.{AreEndings, AreOfPlan};
-ghost use Rattle.gb_exec.specs.Asking.{in_turns};
-ghost use Rattle.gb_exec.specs.Building.{CanBuild, is_of_turns};
+ghost use Rattle.gb_exec.specs.Building.{CanBuild};
 ghost use Rattle.gb_exec.specs.Built.{IsTurnOf};
 ghost use Rattle.gb_exec.specs.Reports.{IsOf, report_with};
 
@@ -91,15 +89,11 @@ pub(crate) fn take_one<A: Actions, F: Folder, L: TaskListener>(
         → IsOf planned result.report }
     ensures heard { AllTold (heard_of false (result.report ∷ [])) result.all_heard
         (map L.ear listeners.old.items) (map L.ear listeners.new.items) }
-    // Of a build that turns of the plan led here since it began.
-    ensures asks { (begun : _)
-        → Asks F.failures F.may_leave F.asked (changes_at (is_of_turns build.now.tasks.now)) begun folder.old
-        → Asks F.failures F.may_leave F.asked (in_turns F.failures F.may_leave F.asked begun A.meanings
-        build.now.table.now build.now.options build.now.tasks.now build.now.records.now)
+    // Over any folder: it asks for what its outcome lets it ask for.
+    ensures asks { (planned : Planned) → slice_get build.now.tasks.now index ≡ Some planned
+        → TurnAsks F.failures F.may_leave F.asked A.meanings build.now.table.now build.now.options
+        planned.task (slice_index_or build.now.records.now index None) result.report.outcome
         folder.old folder.new }
-    ensures current { (planned : Planned) → slice_get build.now.tasks.now index ≡ Some planned
-        → IsToldCurrent F.failures F.may_leave F.asked build.now.options planned.task
-        (slice_index_or build.now.records.now index None) folder.old folder.new result.report.outcome }
     ensures blame { (place : List ℕ) → result.report.outcome ≡ Failed (Fault.Device place)
         → HasRisen (F.failures folder.old) (F.failures folder.new) }
     ensures changes { IsTrue F.tells → (planned : Planned)

@@ -3,7 +3,6 @@ ghost use Rattle.std.specs.Prelude.{◌≡◌, ◌≤◌, ◌<◌, ◌+◌, ◌+
 ghost use Rattle.std.specs.Prelude.{replicate, IsTrue, vec_len};
 ghost use Rattle.std.specs.List.{AllZip, flat_map};
 ghost use Rattle.std.specs.Vec.{vec_capacity};
-ghost use Rattle.gb_folder.specs.Calls.{Asks};
 ghost use Rattle.gb_folder.specs.Files.{Bytes};
 ghost use Rattle.gb_meaning.specs.Events.{State};
 ghost use Rattle.gb_meaning.specs.Headline.{HasFailed};
@@ -20,7 +19,7 @@ ghost use Rattle.gb_turn.specs.Turned.{Registering, setting_with};
 ghost use Rattle.gb_exec.specs.Telling.{AllTold};
 ghost use Rattle.gb_exec.specs.Plans.{AreOfPlan};
 ghost use Rattle.gb_exec.specs.declared.starts.Ending.TheVariants.{ToCome};
-ghost use Rattle.gb_exec.specs.Asking.{WereCurrent, in_turns};
+ghost use Rattle.gb_exec.specs.Asking.{TurnsAsk};
 ghost use Rattle.gb_exec.specs.Building.{CanBuild, is_of_turns};
 ghost use Rattle.gb_exec.specs.Built.{AreWorth, HasBuilt};
 ghost use Rattle.gb_exec.specs.Failing.{times_blamed};
@@ -79,11 +78,8 @@ pub(crate) fn take_turns<A: Actions, F: Folder, L: TaskListener, P: Printer>(
         (map L.ear listeners.old.items) (map L.ear listeners.new.items) }
     ensures printed { Prints P.contents P.whole (flat_map task_text reports.new.items)
         printer.old printer.new }
-    ensures asks { Asks F.failures F.may_leave F.asked
-        (in_turns F.failures F.may_leave F.asked folder.old A.meanings build.now.table.now build.now.options
-        build.now.tasks.now build.now.records.now) folder.old folder.new }
-    ensures current { WereCurrent F.failures F.may_leave F.asked folder.old build.now.options
-        build.now.tasks.now build.now.records.now reports.new.items }
+    ensures asks { TurnsAsk F.failures F.may_leave F.asked A.meanings build.now.table.now build.now.options
+        build.now.tasks.now build.now.records.now reports.new.items folder.old folder.new }
     ensures device { HasFailed (times_blamed reports.new.items)
         (F.failures folder.old) (F.failures folder.new) }
     ensures changes { IsTrue F.tells

@@ -33,3 +33,4 @@ pub mod Asking
 mod Made
 mod Truth
 pub mod Answered
+pub mod ByOutcome

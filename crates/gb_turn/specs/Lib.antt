@@ -11,3 +11,4 @@ pub mod Buildable
 pub mod Asking
 pub mod Truth
 pub mod Current
+pub mod ByOutcome

@@ -25,7 +25,7 @@ ghost use Rattle.gb_turn.specs.Buildable.{IsBuildable};
 ghost use Rattle.gb_turn.specs.Case.{IsCaseFor, IsKnown};
 ghost use Rattle.gb_turn.specs.Turns.{IsRunFor, goes_by_changes};
 ghost use Rattle.gb_turn.specs.Asking.{HasRead, IsTextOf, in_turn_with, once};
-ghost use Rattle.gb_turn.specs.Current.{IsToldCurrent};
+ghost use Rattle.gb_turn.specs.ByOutcome.{TurnAsks};
 ghost use Rattle.gb_turn.specs.Settled.{IsAnswer, IsAnsweredAlone};
 ghost use Rattle.gb_turn.specs.Turned.{ComesAt, HasTurned, IsToldOf, Registering, is_of_turn, outcome_of};
 ghost use Rattle.gb_turn.specs.Turned.{setting_with};
@@ -66,15 +66,11 @@ pub fn take_turn<A: Actions, F: Folder>(
     requires path { path ≡ task.now.path }
     ensures path { result.path ≡ task.now.path }
     ensures has_actions { result.has_actions ≡ not (is_empty task.now.actions) }
-    // Over any folder: what may be changed, but nothing before its inputs were answered whole in this turn,
-    // or that it has no source; and that a record is of trees that were answered so.
-    ensures asks { Asks F.failures F.may_leave F.asked
-        (once (HasRead F.failures F.may_leave F.asked folder.old task.now) (in_turn_with task.now
-        (IsTextOf F.failures F.may_leave F.asked folder.old A.meanings table.now options task.now
-        (option_copied last.entry)))) folder.old folder.new }
-    // And what is told up to date was found so on what was answered in this turn.
-    ensures current { IsToldCurrent F.failures F.may_leave F.asked options task.now (option_copied last.entry)
-        folder.old folder.new result.outcome }
+    // Over any folder: what is skipped or up to date asks for no change, and what is told up to date was found
+    // so on what was answered in this turn. Else what may be changed, but nothing before its inputs were
+    // answered whole in this turn, or that it has no source; and a record is of trees that were answered so.
+    ensures asks { TurnAsks F.failures F.may_leave F.asked A.meanings table.now options task.now
+        (option_copied last.entry) result.outcome folder.old folder.new }
     ensures blame { (place : List ℕ) → result.outcome ≡ Failed (Fault.Device place)
         → HasRisen (F.failures folder.old) (F.failures folder.new) }
     ensures blamed { (place : List ℕ) → result.outcome ≡ Failed (Fault.Device place)

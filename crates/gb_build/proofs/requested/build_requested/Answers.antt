@@ -125,7 +125,7 @@ returns-clause-leads g c = λ tells kinds registry_of granted scripts remembered
     (own_places g.A.Actions.meanings c.args.table.now plan can) old new c.in_ok-report.report c.in_ok-report.ensures.dry_run (g.met.F.Folder.sound c.execute.new.folder)
     (subst (λ (contents : Contents). ChangesOnly (is_of_turns plan) contents new.contents) (c.records_for.ensures.same tells) (c.execute.ensures.changes tells))
     (λ dry. ap F.contents (c.execute.ensures.dry dry) ∙ c.records_for.ensures.same tells)
-    (omega (arith, c.records_for.ensures.asks.count, c.execute.ensures.asks.count)) scripts
+    (omega (arith, c.records_for.ensures.asks.count, c.execute.ensures.count)) scripts
     mid (c.records_for.ensures.same tells) c.records_for.ensures.asks.count (F.may_leave c.records_for.new.folder) c.records_for.ensures.asks.tearing
     c.as_slice-2.result.now
     (λ wet. subst (λ (records : List (Option Record)). AllZip (IsReadAt old.contents.files) (order plan) records) (sym c.as_slice-2.ensures.value)
@@ -155,7 +155,7 @@ returns-in_err-report-clause-holds g c = λ tells kinds registry_of granted scri
     let F = g.F.Folder in
     let old : Shown = record { contents = F.contents c.args.folder.now; failures = F.failures c.args.folder.now } in
     let new : Shown = record { contents = F.contents c.execute.new.folder; failures = F.failures c.execute.new.folder } in
-    led_holds (setting_with kinds registry_of (F.may_leave c.args.folder.now)) old new c.args.invocation.now c.from_residual-in_err-report.result (omega (arith, c.records_for.ensures.asks.count, c.execute.ensures.asks.count))
+    led_holds (setting_with kinds registry_of (F.may_leave c.args.folder.now)) old new c.args.invocation.now c.from_residual-in_err-report.result (omega (arith, c.records_for.ensures.asks.count, c.execute.ensures.count))
     (returns-in_err-report-clause-leads g c tells kinds registry_of granted scripts)
 
 pub returns-clause-holds : goal.returns-clause-holds
@@ -163,7 +163,7 @@ returns-clause-holds g c = λ tells kinds registry_of granted scripts.
     let F = g.F.Folder in
     let old : Shown = record { contents = F.contents c.args.folder.now; failures = F.failures c.args.folder.now } in
     let new : Shown = record { contents = F.contents c.execute.new.folder; failures = F.failures c.execute.new.folder } in
-    led_holds (setting_with kinds registry_of (F.may_leave c.args.folder.now)) old new c.args.invocation.now (Ok c.in_ok-report.report) (omega (arith, c.records_for.ensures.asks.count, c.execute.ensures.asks.count))
+    led_holds (setting_with kinds registry_of (F.may_leave c.args.folder.now)) old new c.args.invocation.now (Ok c.in_ok-report.report) (omega (arith, c.records_for.ensures.asks.count, c.execute.ensures.count))
     (returns-clause-leads g c tells kinds registry_of granted scripts)
 
 -- ---- What it asks
@@ -201,7 +201,6 @@ returns-clause-asks g c =
         first = c.records_for.ensures.asks;
         answered = λ wet. subst (λ (records : List (Option Record)). AllZip (WasAnswered F.failures F.may_leave F.asked start mid) (order plan) records) (sym c.as_slice-2.ensures.value)
             (subst (λ (tasks : List Planned). AllZip (WasAnswered F.failures F.may_leave F.asked start mid) (order tasks) c.in_ok-records.records.items) c.as_slice.ensures (c.in_ok-records.ensures.answered wet));
-        turns = c.execute.ensures.asks;
-        current = c.in_ok-report.ensures.current;
+        turns = c.in_ok-report.ensures.asks;
       },
     )

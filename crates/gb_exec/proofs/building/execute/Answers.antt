@@ -18,9 +18,8 @@ use Rattle.gb_exec.specs.Failing.{times_blamed}
 use Rattle.gb_exec.specs.Reports.{IsOf}
 use Rattle.gb_exec.proofs.Skipping.{dry_blames, dry_built, dry_of}
 use Rattle.gb_exec.proofs.Hearing.{untold}
-use Rattle.gb_exec.proofs.Asking.{build_asks, dry_current}
-use Rattle.gb_exec.specs.Asking.{WereCurrent, in_turns}
-use Rattle.gb_folder.specs.Calls.{Asks}
+use Rattle.gb_exec.proofs.Asking.{dry_asks, turns_places}
+use Rattle.gb_exec.specs.Asking.{TurnsAsk}
 use Rattle.gb_exec.proofs.building.execute.Goals as goal
 
 pub returns-then-options-clause-of_tasks : goal.returns-then-options-clause-of_tasks
@@ -92,26 +91,33 @@ returns-clause-changes g c = λ tells.
     subst (λ (ps : List Planned). ChangesOnly (is_of_turns ps) (F.contents c.args.folder.now) (F.contents c.take_turns-all_heard.new.folder)) c.as_slice-tasks.ensures
     (c.take_turns-all_heard.ensures.changes tells)
 
+pub returns-then-options-clause-asks : goal.returns-then-options-clause-asks
+returns-then-options-clause-asks g c =
+    let F = g.F.Folder in
+    subst (λ (rs : List TaskReport). TurnsAsk F.failures F.may_leave F.asked g.A.Actions.meanings c.args.table.now c.args.options c.args.plan.now c.args.records.now rs c.args.folder.now c.args.folder.now)
+    (sym (c.reported.ensures.tasks ∙ c.in_ok-dry_reports.ensures ∙ ap dry_reports c.as_slice-tasks.ensures))
+    (dry_asks F.failures F.may_leave F.asked g.A.Actions.meanings c.args.table.now c.args.options c.args.plan.now c.args.records.now c.args.folder.now c.requires.each)
+
 pub returns-clause-asks : goal.returns-clause-asks
 returns-clause-asks g c =
     let F = g.F.Folder in
     let start = c.args.folder.now in
-    build_asks F.failures F.may_leave F.asked start g.A.Actions.meanings c.args.table.now c.args.options c.args.plan.now c.args.records.now c.if-options.false start c.take_turns-all_heard.new.folder
-    (subst (λ (ps : List Planned). Asks F.failures F.may_leave F.asked (in_turns F.failures F.may_leave F.asked start g.A.Actions.meanings c.args.table.now c.args.options ps c.args.records.now)
-    start c.take_turns-all_heard.new.folder)
+    subst (λ (rs : List TaskReport). TurnsAsk F.failures F.may_leave F.asked g.A.Actions.meanings c.args.table.now c.args.options c.args.plan.now c.args.records.now rs start c.take_turns-all_heard.new.folder) (sym c.reported-2.ensures.tasks)
+    (subst (λ (ps : List Planned). TurnsAsk F.failures F.may_leave F.asked g.A.Actions.meanings c.args.table.now c.args.options ps c.args.records.now c.take_turns-all_heard.new.reports.items start c.take_turns-all_heard.new.folder)
     c.as_slice-tasks.ensures c.take_turns-all_heard.ensures.asks)
 
-pub returns-then-options-clause-current : goal.returns-then-options-clause-current
-returns-then-options-clause-current g c =
-    let F = g.F.Folder in
-    subst (WereCurrent F.failures F.may_leave F.asked c.args.folder.now c.args.options c.args.plan.now c.args.records.now)
-    (sym (c.reported.ensures.tasks ∙ c.in_ok-dry_reports.ensures ∙ ap dry_reports c.as_slice-tasks.ensures))
-    (dry_current F.failures F.may_leave F.asked c.args.folder.now c.args.options c.args.plan.now c.args.records.now)
-
-pub returns-clause-current : goal.returns-clause-current
-returns-clause-current g c =
+pub returns-clause-count : goal.returns-clause-count
+returns-clause-count g c =
     let F = g.F.Folder in
     let start = c.args.folder.now in
-    subst (WereCurrent F.failures F.may_leave F.asked start c.args.options c.args.plan.now c.args.records.now) (sym c.reported-2.ensures.tasks)
-    (subst (λ (ps : List Planned). WereCurrent F.failures F.may_leave F.asked start c.args.options ps c.args.records.now c.take_turns-all_heard.new.reports.items)
-    c.as_slice-tasks.ensures c.take_turns-all_heard.ensures.current)
+    (turns_places F.failures F.may_leave F.asked g.A.Actions.meanings c.args.table.now c.args.options c.args.plan.now c.args.records.now c.take_turns-all_heard.new.reports.items start c.take_turns-all_heard.new.folder
+    (subst (λ (ps : List Planned). TurnsAsk F.failures F.may_leave F.asked g.A.Actions.meanings c.args.table.now c.args.options ps c.args.records.now c.take_turns-all_heard.new.reports.items start c.take_turns-all_heard.new.folder)
+    c.as_slice-tasks.ensures c.take_turns-all_heard.ensures.asks)).count
+
+pub returns-clause-tearing : goal.returns-clause-tearing
+returns-clause-tearing g c =
+    let F = g.F.Folder in
+    let start = c.args.folder.now in
+    (turns_places F.failures F.may_leave F.asked g.A.Actions.meanings c.args.table.now c.args.options c.args.plan.now c.args.records.now c.take_turns-all_heard.new.reports.items start c.take_turns-all_heard.new.folder
+    (subst (λ (ps : List Planned). TurnsAsk F.failures F.may_leave F.asked g.A.Actions.meanings c.args.table.now c.args.options ps c.args.records.now c.take_turns-all_heard.new.reports.items start c.take_turns-all_heard.new.folder)
+    c.as_slice-tasks.ensures c.take_turns-all_heard.ensures.asks)).tearing

@@ -20,11 +20,9 @@ use Rattle.gb_exec.specs.Reports.{IsOf, report_with}
 use Rattle.gb_exec.proofs.Hearing.{heard_passed, heard_started, untold}
 use Rattle.gb_exec.proofs.Outlining.{outline_passed, outline_started}
 use Rattle.gb_exec.proofs.Taking.{own_apart, read_so, turn_passed, turn_started}
-use Rattle.gb_exec.proofs.Asking.{turn_asks}
-use Rattle.gb_folder.specs.Calls.{Asks}
 use Rattle.gb_history.specs.Record.{Record}
-use Rattle.gb_turn.specs.Asking.{HasRead, IsTextOf, in_turn_with, once}
-use Rattle.gb_turn.specs.Current.{IsToldCurrent}
+use Rattle.gb_report.specs.declared.report.Outcome.{Outcome}
+use Rattle.gb_turn.specs.ByOutcome.{TurnAsks}
 use Rattle.std.specs.Prelude.{Option}
 use Rattle.gb_exec.proofs.one.take_one.Goals as goal
 use Rattle.gb_exec.proofs.one.take_one.Goals.{then-begun, else-begun}
@@ -157,33 +155,25 @@ returns-clause-turn g c = λ tells kinds registry_of moment planned is granted f
     not_not : (b : Bool) → b ≡ true → b ≡ true
     not_not b e = e
 
-pub returns-clause-asks : goal.returns-clause-asks
-returns-clause-asks g c = λ begun way.
+pub returns-then-not-does_start-clause-asks : goal.returns-then-not-does_start-clause-asks
+returns-then-not-does_start-clause-asks g c = λ planned is.
     let F = g.F.Folder in
     let build = c.args.build.now in
-    let tasks = build.tasks.now in
-    let index = c.args.index in
-    let task = slice_index_or tasks index c.index-build-index.result in
-    let within : index < length build.records.now = omega (arith, c.requires.each, c.requires.index) in
-    let last : option_copied c.as_ref-last.result ≡ slice_index_or build.records.now index None =
-    c.as_ref-last.ensures.value ∙ get_or_default build.records.now index c.index-build-index-2.result None within in
-    turn_asks F.failures F.may_leave F.asked begun g.A.Actions.meanings build.table.now build.options tasks build.records.now index task
-    (slice_get-get_or tasks index c.index-build-index.result c.requires.index) c.args.folder.now c.take_turn-report.new.folder way
-    (subst (λ (read : Option Record). Asks F.failures F.may_leave F.asked
-    (once (HasRead F.failures F.may_leave F.asked c.args.folder.now task.task)
-    (in_turn_with task.task (IsTextOf F.failures F.may_leave F.asked c.args.folder.now g.A.Actions.meanings build.table.now build.options task.task read)))
-    c.args.folder.now c.take_turn-report.new.folder) last c.take_turn-report.ensures.asks)
+    subst (λ (outcome : Outcome). TurnAsks F.failures F.may_leave F.asked g.A.Actions.meanings build.table.now build.options planned.task (slice_index_or build.records.now c.args.index None) outcome
+    c.args.folder.now c.args.folder.now) (sym (ap (λ (r : TaskReport). r.outcome) c.passed.ensures)) refl
 
-pub returns-clause-current : goal.returns-clause-current
-returns-clause-current g c = λ planned at.
+pub returns-clause-asks : goal.returns-clause-asks
+returns-clause-asks g c = λ planned at.
     let F = g.F.Folder in
     let build = c.args.build.now in
     let tasks = build.tasks.now in
     let index = c.args.index in
+    let outcome = c.take_turn-report.result.outcome in
     let same : slice_index_or tasks index c.index-build-index.result ≡ planned = get_or_from_slice_get tasks index planned c.index-build-index.result at in
     let within : index < length build.records.now = omega (arith, c.requires.each, c.requires.index) in
     let last : option_copied c.as_ref-last.result ≡ slice_index_or build.records.now index None =
     c.as_ref-last.ensures.value ∙ get_or_default build.records.now index c.index-build-index-2.result None within in
-    subst (λ (read : Option Record). IsToldCurrent F.failures F.may_leave F.asked build.options planned.task read c.args.folder.now c.take_turn-report.new.folder c.take_turn-report.result.outcome) last
-    (subst (λ (p : Planned). IsToldCurrent F.failures F.may_leave F.asked build.options p.task (option_copied c.as_ref-last.result) c.args.folder.now c.take_turn-report.new.folder c.take_turn-report.result.outcome) same
-    c.take_turn-report.ensures.current)
+    subst (λ (read : Option Record). TurnAsks F.failures F.may_leave F.asked g.A.Actions.meanings build.table.now build.options planned.task read outcome c.args.folder.now c.take_turn-report.new.folder) last
+    (subst (λ (p : Planned). TurnAsks F.failures F.may_leave F.asked g.A.Actions.meanings build.table.now build.options p.task (option_copied c.as_ref-last.result) outcome
+    c.args.folder.now c.take_turn-report.new.folder) same
+    c.take_turn-report.ensures.asks)

@@ -1,12 +1,11 @@
-use Rattle.std.proofs.Common.{rules, ◌≡◌, ◌<◌, ◌≤◌, ◌+◌, ◌-◌, ◌++◌, ◌∷◌, ◌&&◌, [], ℕ, Bool, true, false, List, IsTrue, drop, length, map, take, replicate, ◌⊎◌, inl, inr, not, refl, sym, ap, subst, ◌∙◌, arith, slice_set, slice_get, slice_index_or, None, Some}
+use Rattle.std.proofs.Common.{rules, ◌≡◌, ◌<◌, ◌≤◌, ◌+◌, ◌-◌, ◌++◌, ◌∷◌, ◌&&◌, [], ℕ, Bool, true, false, List, IsTrue, drop, length, map, take, replicate, ◌⊎◌, inl, inr, not, refl, sym, ap, subst, ◌∙◌, arith, slice_set, slice_index_or, None}
 use Rattle.std.specs.List.{AllByRecursion, AllZip, flat_map}
 use Rattle.std.specs.Vec.Iter.{into_iter_items}
-use Rattle.std.proofs.lemmas.List.{drop_all, get_or-replicate, length-append, length-drop, length-map, length-replicate, length-set, map-append, take_all}
+use Rattle.std.proofs.lemmas.List.{drop_all, get_or-replicate, length-append, length-drop, length-map, length-replicate, length-set, map-append, take_all, take_more}
 use Rattle.std.proofs.Math.ListN.{get_or-eq_default}
 use Rattle.std.proofs.lemmas.Bool.{cases_order}
 use Rattle.gb_core.specs.Path.{is_task_path}
 use Rattle.gb_folder.specs.Files.{Contents, IsFolder, are_placed, is_own}
-use Rattle.gb_folder.proofs.Asked.{asks_nothing, asks_then}
 use Rattle.gb_exec.specs.Telling.{AllTold}
 use Rattle.gb_meaning.specs.Events.{State}
 use Rattle.gb_meaning.specs.Outline.{AreOutlines, moment_by}
@@ -31,11 +30,10 @@ use Rattle.gb_store.specs.Changes.{ChangesOnly}
 use Rattle.gb_store.proofs.Machine.{changes_none}
 use Rattle.gb_turn.proofs.Parts.{differs_outside}
 use Rattle.gb_turn.proofs.Recorded.{granted_later}
-use Rattle.gb_turn.specs.Current.{IsToldCurrent}
-use Rattle.gb_exec.specs.Asking.{WereCurrent}
+use Rattle.gb_exec.specs.Asking.{TurnsAsk}
 use Rattle.gb_exec.specs.Building.{is_of_turns}
 use Rattle.gb_turn.specs.Buildable.{IsBuildable}
-use Rattle.gb_exec.proofs.Asking.{current_more, none_current, turn_current, turns_places}
+use Rattle.gb_exec.proofs.Asking.{turn_places, turns_more, turns_places}
 use Rattle.gb_meaning.specs.Headline.{HasFailed}
 use Rattle.gb_exec.specs.Failing.{times_blamed}
 use Rattle.gb_exec.specs.Reports.{IsOf}
@@ -51,6 +49,8 @@ use Rattle.gb_exec.proofs.Walking.{at_index, changes_more, drop_at, each_at, lef
 use Rattle.gb_exec.proofs.turns.take_turns.Goals as goal
 use Rattle.gb_exec.proofs.turns.take_turns.Goals.{then-all_heard, else-all_heard}
 use Rattle.gb_history.proofs.Lists.{AllByRecursion-push}
+use Rattle.gb_history.specs.Record.{Record}
+use Rattle.std.specs.Prelude.{Option}
 
 all_come : (endings : List Ending) (n : ℕ) → endings ≡ replicate n ToCome → (number : ℕ) → ending_in endings number ≡ ToCome
 all_come endings n is number = ap (λ (es : List Ending). ending_in es number) is ∙ come (cases_order number n)
@@ -86,8 +86,7 @@ loop-path-init g c =
       heard = subst (λ (rs : List TaskReport). AllTold (heard_of false rs) true ears ears) (sym none) (untold ears);
       printed = subst (λ (rs : List TaskReport). Prints P.contents P.whole (flat_map task_text rs) c.args.printer.now c.args.printer.now) (sym none)
           (prints_nothing P.contents P.whole c.args.printer.now);
-      asks = asks_nothing start;
-      current = none_current F.failures F.may_leave F.asked start c.args.build.now.options tasks c.args.build.now.records.now c.args.reports.now.items none;
+      asks = subst (λ (rs : List TaskReport). TurnsAsk F.failures F.may_leave F.asked g.A.Actions.meanings c.args.build.now.table.now c.args.build.now.options [] [] rs start start) (sym none) refl;
       device = subst (λ (rs : List TaskReport). HasFailed (times_blamed rs) (F.failures start) (F.failures start)) (sym none) (inl (omega arith));
       changes = λ tells. changes_none (is_of_turns []) (F.contents start) (F.contents start) refl;
       build = λ tells kinds registry_of remembered clear seen granted worth.
@@ -124,8 +123,10 @@ loop-path-preserved g c =
     let is = (at_index tasks i less).1 in
     let along = next_path tasks i planned c.in-Some.path rest is left in
     let of_task = c.take_one-taken.ensures.of_task planned is in
-    let way = turns_places F.failures F.may_leave F.asked start g.A.Actions.meanings build.table.now build.options tasks build.records.now start now inv.asks in
-    let taken = c.take_one-taken.ensures.asks start way in
+    let way = turns_places F.failures F.may_leave F.asked g.A.Actions.meanings build.table.now build.options (take i tasks) (take i build.records.now) reports start now inv.asks in
+    let taken = c.take_one-taken.ensures.asks planned is in
+    let count = (turn_places F.failures F.may_leave F.asked g.A.Actions.meanings build.table.now build.options planned.task (slice_index_or build.records.now i None) report.outcome now next taken).count in
+    let read = take_more build.records.now i None (omega (arith, c.requires.each, less)) in
     let can = each_at (λ (p : Planned). IsBuildable g.A.Actions.meanings build.table.now p.task) tasks i planned is c.requires.can.tasks in
     let is_path : IsTrue (is_task_path planned.task.path) = subst (λ (p : Path). IsTrue (is_task_path p)) along.0 c.as_str-path.ensures.path in
     let places : HasOwnPlaces planned = record { is_path = is_path; not_own = can.not_own } in
@@ -169,14 +170,12 @@ loop-path-preserved g c =
       printed = subst (λ (rs : List TaskReport). Prints P.contents P.whole (flat_map task_text rs) c.args.printer.now c.print_task.new.self) (sym items)
           (subst (λ (text : List ℕ). Prints P.contents P.whole text c.args.printer.now c.print_task.new.self) (sym (parts_more reports report))
           (prints_more P.contents P.whole (flat_map task_text reports) (task_text report) c.args.printer.now c.loop-path.printer c.print_task.new.self inv.printed c.print_task.ensures));
-      asks = asks_then inv.asks taken;
-      current = subst (λ (rs : List TaskReport). WereCurrent F.failures F.may_leave F.asked start build.options tasks build.records.now rs) (sym items)
-          (current_more F.failures F.may_leave F.asked start build.options tasks build.records.now reports report inv.current
-          (λ other at. turn_current F.failures F.may_leave F.asked start build.options tasks build.records.now other _ report now next way
-          (subst (λ (n : ℕ). IsToldCurrent F.failures F.may_leave F.asked build.options other.task (slice_index_or build.records.now n None) now next report.outcome) (sym inv.long)
-          (c.take_one-taken.ensures.current other (subst (λ (n : ℕ). slice_get tasks n ≡ Some other) inv.long at)))));
+      asks = subst (λ (ps : List Planned). TurnsAsk F.failures F.may_leave F.asked g.A.Actions.meanings build.table.now build.options ps (take (i + 1) build.records.now) c.push_reserved.new.reports.items start next) (sym take_is)
+          (subst (λ (last : List (Option Record)). TurnsAsk F.failures F.may_leave F.asked g.A.Actions.meanings build.table.now build.options (take i tasks ++ planned ∷ []) last c.push_reserved.new.reports.items start next) (sym read)
+          (subst (λ (rs : List TaskReport). TurnsAsk F.failures F.may_leave F.asked g.A.Actions.meanings build.table.now build.options (take i tasks ++ planned ∷ []) (take i build.records.now ++ slice_index_or build.records.now i None ∷ []) rs start next) (sym items)
+          (turns_more F.failures F.may_leave F.asked g.A.Actions.meanings build.table.now build.options (take i tasks) (take i build.records.now) reports planned (slice_index_or build.records.now i None) report start now next inv.asks taken)));
       device = subst (λ (rs : List TaskReport). HasFailed (times_blamed rs) (F.failures start) (F.failures next)) (sym items)
-          (failed_more reports report (F.failures start) (F.failures now) (F.failures next) inv.device taken.count c.take_one-taken.ensures.blame);
+          (failed_more reports report (F.failures start) (F.failures now) (F.failures next) inv.device count c.take_one-taken.ensures.blame);
       changes = λ tells.
           subst (λ (ps : List Planned). ChangesOnly (is_of_turns ps) (F.contents start) (F.contents next)) (sym take_is)
           (changes_more (take i tasks) planned (F.contents start) (F.contents now) (F.contents next) (inv.changes tells) (c.take_one-taken.ensures.changes tells planned is));
@@ -190,11 +189,11 @@ loop-path-preserved g c =
           (subst (λ (rs : List TaskReport). IsUnderway kinds registry_of (F.may_leave start) clear seen build.options tasks old (take i tasks ++ planned ∷ []) (drop (i + 1) tasks) rs
           (record { contents = F.contents next; failures = F.failures next })) (sym items)
           (goes_on kinds registry_of (F.may_leave start) clear seen build.options tasks old (take i tasks) (drop (i + 1) tasks) planned (whole_at tasks i planned is) reports
-          (record { contents = F.contents now; failures = F.failures now }) u report (record { contents = F.contents next; failures = F.failures next }) taken.count
+          (record { contents = F.contents now; failures = F.failures now }) u report (record { contents = F.contents next; failures = F.failures next }) count
           (g.met.F.Folder.sound next) (differs_outside planned.task (F.contents now).files (F.contents next).files changes.elsewhere) changes.odd c.requires.can.sound.outputs_apart
-          (F.may_leave now) inv.asks.tearing (once_behind (take i tasks) (drop (i + 1) tasks) planned (subst (λ (ps : List Planned). no_repeats (order ps) ≡ true) (whole_at tasks i planned is) c.requires.can.once))
+          (F.may_leave now) way.tearing (once_behind (take i tasks) (drop (i + 1) tasks) planned (subst (λ (ps : List Planned). no_repeats (order ps) ≡ true) (whole_at tasks i planned is) c.requires.can.once))
           (λ given still.
-          c.take_one-taken.ensures.turn tells kinds registry_of u.moment planned is (granted_later (F.may_leave start) (F.may_leave now) inv.asks.tearing granted) u.folder u.failures still.standing
+          c.take_one-taken.ensures.turn tells kinds registry_of u.moment planned is (granted_later (F.may_leave start) (F.may_leave now) way.tearing granted) u.folder u.failures still.standing
           (subst (λ (os : List (Path × Outcome)). AreEndings tasks os c.loop-path.starts.endings) (sym u.outcomes) inv.endings)
           (knows c.what_is_read_is_known.ensures kinds tasks build.records.now seen u.seen_now (F.contents start) remembered u.moment.world i planned is (worth given.0) is_path still.same.0
           (subst (λ (folder : Contents). IsFolder folder.files) (sym u.folder) (folder_where (λ place. not (is_own place)) (F.contents now).files (g.met.F.Folder.sound now)))
@@ -241,3 +240,18 @@ returns-clause-build g c = λ tells kinds registry_of remembered clear seen gran
     (subst (λ (ps : List Planned). IsUnderway kinds registry_of (F.may_leave start) clear seen c.args.build.now.options tasks old (take i tasks) ps c.loop-path.reports.items
     (record { contents = F.contents c.loop-path.folder; failures = F.failures c.loop-path.folder })) (drop_all i tasks all)
     (inv.build tells kinds registry_of remembered clear seen granted worth)))
+
+pub returns-clause-asks : goal.returns-clause-asks
+returns-clause-asks g c =
+    let F = g.F.Folder in
+    let build = c.args.build.now in
+    let tasks = build.tasks.now in
+    let i = c.loop-path.index in
+    let inv = c.loop-path.invariant in
+    let empty : length (into_iter_items c.loop-path.path-iterator) ≡ 0 = omega (arith, c.loop-path.path-iterator.rest.ok.0, c.in-None.ensures.steps.0) in
+    let mapped : length (order (drop i tasks)) ≡ length (drop i tasks) = length-map _ _ in
+    let dropped : length (drop i tasks) ≡ length tasks - i = length-drop i tasks in
+    let all : length tasks ≤ i = omega (arith, empty, ap length inv.left, mapped, dropped) in
+    subst (λ (ps : List Planned). TurnsAsk F.failures F.may_leave F.asked g.A.Actions.meanings build.table.now build.options ps build.records.now c.loop-path.reports.items c.args.folder.now c.loop-path.folder) (take_all i tasks all)
+    (subst (λ (read : List (Option Record)). TurnsAsk F.failures F.may_leave F.asked g.A.Actions.meanings build.table.now build.options (take i tasks) read c.loop-path.reports.items c.args.folder.now c.loop-path.folder)
+    (take_all i build.records.now (omega (arith, all, c.requires.each))) inv.asks)

@@ -2,7 +2,6 @@ use Rattle.std.proofs.Common.{◌≡◌, ◌≤◌, Bool, false, List, [], IsTru
 use Rattle.std.specs.List.{AllByRecursion, AllZip, flat_map}
 use Rattle.std.specs.Vec.{vec_capacity}
 use Rattle.std.specs.Vec.Iter.{into_iter_items}
-use Rattle.gb_folder.specs.Calls.{Asks}
 use Rattle.gb_folder.specs.Files.{Bytes}
 use Rattle.gb_exec.specs.Telling.{AllTold}
 use Rattle.gb_meaning.specs.Headline.{HasFailed}
@@ -17,7 +16,7 @@ use Rattle.gb_exec.specs.Plans.{AreEndings, AreOfPlan}
 use Rattle.gb_store.specs.Changes.{ChangesOnly}
 use Rattle.gb_records.specs.Granted.{IsGranted}
 use Rattle.gb_turn.specs.Turned.{Registering}
-use Rattle.gb_exec.specs.Asking.{WereCurrent, in_turns}
+use Rattle.gb_exec.specs.Asking.{TurnsAsk}
 use Rattle.gb_exec.specs.Building.{is_of_turns}
 use Rattle.gb_exec.specs.Built.{AreWorth}
 use Rattle.gb_exec.specs.Failing.{times_blamed}
@@ -47,8 +46,7 @@ invariant-loop-path g l =
       places : AllByRecursion HasOwnPlaces done;
       heard : AllTold (heard_of false l.reports.items) l.all_heard (map ear l.fn.listeners.items) (map ear l.listeners.items);
       printed : Prints P.contents P.whole (flat_map task_text l.reports.items) l.fn.printer l.printer;
-      asks : Asks F.failures F.may_leave F.asked (in_turns F.failures F.may_leave F.asked start g.A.Actions.meanings l.build.table.now l.build.options tasks l.build.records.now) start l.folder;
-      current : WereCurrent F.failures F.may_leave F.asked start l.build.options tasks l.build.records.now l.reports.items;
+      asks : TurnsAsk F.failures F.may_leave F.asked g.A.Actions.meanings l.build.table.now l.build.options done (take l.index l.build.records.now) l.reports.items start l.folder;
       device : HasFailed (times_blamed l.reports.items) (F.failures start) (F.failures l.folder);
       changes : IsTrue F.tells → ChangesOnly (is_of_turns done) (F.contents start) (F.contents l.folder);
       build : IsTrue F.tells → (kinds : Kinds) (registry_of : Registering) (remembered : Memory) (clear : Bool) (seen : List Bytes) → IsGranted g.A.Actions.meanings l.build.table.now kinds (F.may_leave start)

@@ -1,9 +1,10 @@
+use Rattle.std.specs.Prelude.{option_copied}
 use Rattle.std.proofs.Common.{◌≡◌, ◌≤◌, ℕ, Bool, sym, subst, ◌∙◌}
 use Rattle.gb_folder.specs.Files.{Contents}
 use Rattle.gb_label.specs.Preparing.{IsSeenFor}
 use Rattle.gb_meaning.specs.Label.{Moment}
 use Rattle.gb_turn.specs.Turned.{ComesAt, HasTurned, setting_with}
-use Rattle.gb_turn.proofs.Answered.{cleared_not_current, run_not_current}
+use Rattle.gb_turn.proofs.ByOutcome.{cleared_asks, ran_asks, told_asks}
 use Rattle.gb_turn.proofs.Answering.{cleared_answers, run_answers, told_answers}
 use Rattle.gb_turn.proofs.Later.{cleared_started, comes_later, copied_some, run_started, told_turned, turned_before}
 use Rattle.gb_turn.proofs.Recorded.{granted_later, seen_later}
@@ -84,25 +85,24 @@ pub returns-in-Due-clause-started : goal.returns-in-Due-clause-started
 returns-in-Due-clause-started g c = run_started c.run.result.outcome c.run.ensures.outcome
 
 pub returns-in-Told-clause-asks : goal.returns-in-Told-clause-asks
-returns-in-Told-clause-asks g c = asks_reading c.settle.ensures.asks
+returns-in-Told-clause-asks g c =
+    let F = g.F.Folder in
+    told_asks F.failures F.may_leave F.asked g.A.Actions.meanings c.args.table.now c.args.options c.args.task.now (option_copied c.args.last) c.args.folder.now c.settle.new.folder c.in-Told.report.outcome
+    c.in-Told.ensures.of_task.4 c.settle.ensures.asks c.in-Told.ensures.answered
 
 pub returns-in-Sourceless-clause-asks : goal.returns-in-Sourceless-clause-asks
 returns-in-Sourceless-clause-asks g c =
     let F = g.F.Folder in
     let task = c.args.task.now in
-    asks_then (asks_reading c.settle.ensures.asks)
+    cleared_asks F.failures F.may_leave F.asked g.A.Actions.meanings c.args.table.now c.args.options task (option_copied c.args.last) c.args.folder.now c.take_turn_without_source.new.folder c.take_turn_without_source.result.outcome
+    c.take_turn_without_source.ensures.outcome
+    (asks_then (asks_reading c.settle.ensures.asks)
     (asks_once (HasRead F.failures F.may_leave F.asked c.args.folder.now task) _
     (source_read F.failures F.may_leave F.asked c.args.folder.now task c.settle.new.folder c.in-Sourceless.ensures.answered)
-    (taken_in_turn task _ c.take_turn_without_source.ensures.asks))
+    (taken_in_turn task _ c.take_turn_without_source.ensures.asks)))
 
 pub returns-in-Due-clause-asks : goal.returns-in-Due-clause-asks
 returns-in-Due-clause-asks g c =
-    asks_then (asks_reading c.settle.ensures.asks) (c.run.ensures.asks c.args.folder.now c.settle.ensures.asks c.in-Due.ensures.answered.0 c.in-Due.ensures.answered.1)
-
-pub returns-in-Sourceless-clause-current : goal.returns-in-Sourceless-clause-current
-returns-in-Sourceless-clause-current g c = λ told acts.
-    let was = c.take_turn_without_source.ensures.outcome in absurd (cleared_not_current was.0 (sym was.1 ∙ told))
-
-pub returns-in-Due-clause-current : goal.returns-in-Due-clause-current
-returns-in-Due-clause-current g c = λ told acts.
-    let was = c.run.ensures.outcome in absurd (run_not_current was.0 (sym was.1 ∙ told))
+    let F = g.F.Folder in
+    ran_asks F.failures F.may_leave F.asked g.A.Actions.meanings c.args.table.now c.args.options c.args.task.now (option_copied c.args.last) c.args.folder.now c.run.new.folder c.run.result.outcome c.run.ensures.outcome
+    (asks_then (asks_reading c.settle.ensures.asks) (c.run.ensures.asks c.args.folder.now c.settle.ensures.asks c.in-Due.ensures.answered.0 c.in-Due.ensures.answered.1))
