@@ -8,6 +8,7 @@ use Rattle.gb_folder.proofs.Asked.{asks_more, asks_nothing, asks_reading, asks_t
 use Rattle.gb_history.specs.Record.{Record}
 use Rattle.gb_meaning.specs.Turn.{dry_reports}
 use Rattle.gb_plan.specs.Ready.{Rows}
+use Rattle.gb_plan.specs.Task.{Text}
 use Rattle.gb_plan.specs.declared.plan.Planned.{Planned}
 use Rattle.gb_plan.specs.declared.task.TaskDeclaration.{TaskDeclaration as Task}
 use Rattle.gb_report.specs.declared.report.Options.{Options}
@@ -28,9 +29,9 @@ module _ {F S : Type 0} (failures : F → ℕ) (may_leave : F → Tearing) (aske
   -- ---- One turn more
 
   pub turns_more : (plan : List Planned) (records : List (Option Record)) (reports : List TaskReport) (planned : Planned) (last : Option Record) (report : TaskReport) (old mid new : F)
-      → TurnsAsk failures may_leave asked meanings rows options plan records reports old mid → TurnAsks failures may_leave asked meanings rows options planned.task last report.outcome mid new
+      → TurnsAsk failures may_leave asked meanings rows options plan records reports old mid → TurnAsks failures may_leave asked meanings rows options planned.task last report.outcome report.lines mid new
       → TurnsAsk failures may_leave asked meanings rows options (plan ++ planned ∷ []) (records ++ last ∷ []) (reports ++ report ∷ []) old new
-  turns_more [] [] [] planned last report old mid new turns turn = (new, subst (λ (f : F). TurnAsks failures may_leave asked meanings rows options planned.task last report.outcome f new) turns turn, refl)
+  turns_more [] [] [] planned last report old mid new turns turn = (new, subst (λ (f : F). TurnAsks failures may_leave asked meanings rows options planned.task last report.outcome report.lines f new) turns turn, refl)
   turns_more (p ∷ plan) (l ∷ records) (r ∷ reports) planned last report old mid new turns turn =
       (turns.0, turns.1, turns_more plan records reports planned last report turns.0 mid new turns.2 turn)
   turns_more [] [] (r ∷ reports) planned last report old mid new turns turn = absurd turns
@@ -45,14 +46,14 @@ module _ {F S : Type 0} (failures : F → ℕ) (may_leave : F → Tearing) (aske
   changed_places task last old new asks =
       asks_more (λ place next may. change_at (is_of_turn task) place next (of_turn task _ place next (permitted_of_once _ _ place next may))) asks
 
-  pub turn_places : (task : Task) (last : Option Record) (outcome : Outcome) (old new : F) → TurnAsks failures may_leave asked meanings rows options task last outcome old new
+  pub turn_places : (task : Task) (last : Option Record) (outcome : Outcome) (lines : List Text) (old new : F) → TurnAsks failures may_leave asked meanings rows options task last outcome lines old new
       → Asks failures may_leave asked (changes_at (is_of_turn task)) old new
-  turn_places task last outcomes.NotRun old new turn = subst (λ (f : F). Asks failures may_leave asked (changes_at (is_of_turn task)) old f) (sym turn) (asks_nothing old)
-  turn_places task last outcomes.Skipped old new turn = asks_reading turn
-  turn_places task last outcomes.UpToDate old new turn = asks_reading turn.0
-  turn_places task last outcomes.NoSource old new turn = changed_places task last old new turn
-  turn_places task last outcomes.Executed old new turn = changed_places task last old new turn
-  turn_places task last (outcomes.Failed fault) old new turn = changed_places task last old new turn
+  turn_places task last outcomes.NotRun lines old new turn = subst (λ (f : F). Asks failures may_leave asked (changes_at (is_of_turn task)) old f) (sym turn) (asks_nothing old)
+  turn_places task last outcomes.Skipped lines old new turn = asks_reading turn
+  turn_places task last outcomes.UpToDate lines old new turn = asks_reading turn.0
+  turn_places task last outcomes.NoSource lines old new turn = changed_places task last old new turn
+  turn_places task last outcomes.Executed lines old new turn = changed_places task last old new turn.0
+  turn_places task last (outcomes.Failed fault) lines old new turn = changed_places task last old new turn
 
   wider : (test wide : Place → Bool) → ((place : Place) → test place ≡ true → wide place ≡ true) → (old new : F) → Asks failures may_leave asked (changes_at test) old new
       → Asks failures may_leave asked (changes_at wide) old new
@@ -66,7 +67,7 @@ module _ {F S : Type 0} (failures : F → ℕ) (may_leave : F → Tearing) (aske
   turns_places (planned ∷ plan) (last ∷ records) (report ∷ reports) old new turns =
       asks_then
       (wider (is_of_turn planned.task) (is_of_turns (planned ∷ plan)) (λ place e. ap (λ b. b || is_of_turns plan place) e) old turns.0
-      (turn_places planned.task last report.outcome old turns.0 turns.1))
+      (turn_places planned.task last report.outcome report.lines old turns.0 turns.1))
       (wider (is_of_turns plan) (is_of_turns (planned ∷ plan)) (λ place e. right (is_of_turn planned.task place) (is_of_turns plan place) e) turns.0 new
       (turns_places plan records reports turns.0 new turns.2))
   turns_places [] [] (r ∷ reports) old new turns = absurd turns

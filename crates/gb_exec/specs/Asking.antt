@@ -18,6 +18,7 @@ module _ {F S : Type 0} (failures : F → ℕ) (may_leave : F → Tearing) (aske
   TurnsAsk [] [] [] old new = new ≡ old
   TurnsAsk (planned ∷ plan) (last ∷ records) (report ∷ reports) old new =
       (mid : F)
-      × TurnAsks failures may_leave asked meanings rows options planned.task last report.outcome old mid
+      × TurnAsks failures may_leave asked meanings rows options planned.task last report.outcome report.lines
+      old mid
       × TurnsAsk plan records reports mid new
   TurnsAsk plan records reports old new = ⊥

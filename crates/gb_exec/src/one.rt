@@ -93,7 +93,7 @@ pub(crate) fn take_one<A: Actions, F: Folder, L: TaskListener>(
     ensures asks { (planned : Planned) → slice_get build.now.tasks.now index ≡ Some planned
         → TurnAsks F.failures F.may_leave F.asked A.meanings build.now.table.now build.now.options
         planned.task (slice_index_or build.now.records.now index None) result.report.outcome
-        folder.old folder.new }
+        result.report.lines folder.old folder.new }
     ensures blame { (place : List ℕ) → result.report.outcome ≡ Failed (Fault.Device place)
         → HasRisen (F.failures folder.old) (F.failures folder.new) }
     ensures changes { IsTrue F.tells → (planned : Planned)

@@ -1,9 +1,10 @@
 //! Records taken out and put in.
-ghost use Rattle.std.specs.Prelude.{◌≡◌, ℕ, List, Some, None, false, length, IsTrue, IfOk};
+ghost use Rattle.std.specs.Prelude.{◌≡◌, ◌∷◌, [], ℕ, List, Some, None, Ok, false, length, IsTrue, IfOk};
 ghost use Rattle.std.specs.Prelude.{IfErr, IsErrOf, OnOk};
 ghost use Rattle.gb_core.specs.Path.{is_task_path};
 ghost use Rattle.gb_core.specs.Place.{is_place};
-ghost use Rattle.gb_folder.specs.Calls.{Asks, put_at, taken_at};
+ghost use Rattle.gb_folder.specs.Calls.{Asks, Writes, put_at, taken_at};
+ghost use Rattle.gb_folder.specs.Device.{Leads};
 ghost use Rattle.gb_history.specs.Places.{record_place};
 ghost use Rattle.gb_history.specs.Text.{record_text};
 ghost use Rattle.gb_meaning.specs.Headline.{TearsAreSeen};
@@ -75,6 +76,9 @@ pub fn put_in<F: Folder>(
 ) -> Result<(), Unwritten>
     ensures asks { Asks F.failures F.may_leave F.asked (put_at (record_place path.now) (record_text
         path.now run.now)) folder.old folder.new }
+    // Over any folder: it was stored by one call, which was answered as done.
+    ensures stored { OnOk result ((limit : ℕ) × Leads F.device folder.old
+        (Writes (record_place path.now) (record_text path.now run.now) limit (Ok tt) ∷ []) folder.new) }
     ensures written { IsTrue F.tells → OnOk result
         (F.contents folder.new ≡ written_in path.now run.now (F.contents folder.old)) }
     ensures said { OnOk result (IsText path.now run.now (record_text path.now run.now)) }

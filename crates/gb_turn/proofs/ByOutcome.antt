@@ -1,12 +1,13 @@
--- A turn asks for what its outcome lets it ask for.
-use Rattle.std.specs.Prelude.{ℕ, Err, IsTrue, Ok, Option, Result}
-use Rattle.std.proofs.Common.{subst, sym}
+-- The execution of a task asks for what its outcome lets it ask for.
+use Rattle.std.specs.Prelude.{ℕ, ◌≡◌, true, false, Err, IsTrue, List, Ok, Option, Result}
+use Rattle.std.proofs.Common.{refl, subst, sym, ◌∙◌, true≢false}
 use Rattle.gb_action.specs.Meanings.{Meanings}
 use Rattle.gb_folder.specs.Calls.{Asks, Call, no_change}
-use Rattle.gb_folder.specs.Files.{Tearing}
+use Rattle.gb_folder.specs.Files.{Tearing, is_empty}
 use Rattle.gb_folder.proofs.Asked.{asks_reading}
 use Rattle.gb_history.specs.Record.{Record}
 use Rattle.gb_plan.specs.Ready.{Rows}
+use Rattle.gb_plan.specs.Task.{Text}
 use Rattle.gb_plan.specs.declared.task.TaskDeclaration.{TaskDeclaration as Task}
 use Rattle.gb_report.specs.Outcome.{is_started}
 use Rattle.gb_report.specs.declared.fault.Fault.{Fault}
@@ -15,30 +16,32 @@ use Rattle.gb_report.specs.declared.report.Outcome.{Outcome}
 use Rattle.gb_report.specs.declared.report.Outcome.TheVariants as outcomes
 use Rattle.gb_turn.specs.ByOutcome.{ChangesOnceRead, TurnAsks}
 use Rattle.gb_turn.specs.Current.{IsToldCurrent}
+use Rattle.gb_turn.specs.Ran.{WasExecuted}
 use Rattle.gb_turn.specs.Turned.{IsToldOf, cleared_outcome, outcome_of}
 
 module _ {F S : Type 0} (failures : F → ℕ) (may_leave : F → Tearing) (asked : F → Call → F → Type 0) (meanings : Meanings S) (rows : Rows S) (options : Options) (task : Task) (last : Option Record)
-    (old new : F) where
+    (lines : List Text) (old new : F) where
   abbrev asks_by : Outcome → Type 0
-  asks_by outcome = TurnAsks failures may_leave asked meanings rows options task last outcome old new
+  asks_by outcome = TurnAsks failures may_leave asked meanings rows options task last outcome lines old new
 
   -- what is told before anything is changed
-  pub told_asks : (outcome : Outcome) → IsTrue (is_started outcome) → Asks failures may_leave asked no_change old new
-      → IsToldCurrent failures may_leave asked options task last old new outcome → asks_by outcome
-  told_asks outcomes.NotRun started asks current = absurd (let e = started in cc)
-  told_asks outcomes.Skipped started asks current = asks
-  told_asks outcomes.UpToDate started asks current = (asks, current)
-  told_asks outcomes.NoSource started asks current = asks_reading asks
-  told_asks outcomes.Executed started asks current = asks_reading asks
-  told_asks (outcomes.Failed fault) started asks current = asks_reading asks
+  pub told_asks : (outcome : Outcome) → IsTrue (is_started outcome) → (outcome ≡ outcomes.Executed → is_empty task.actions ≡ true)
+      → Asks failures may_leave asked no_change old new → IsToldCurrent failures may_leave asked options task last old new outcome → asks_by outcome
+  told_asks outcomes.NotRun started idle asks current = absurd (let e = started in cc)
+  told_asks outcomes.Skipped started idle asks current = asks
+  told_asks outcomes.UpToDate started idle asks current = (asks, current)
+  told_asks outcomes.NoSource started idle asks current = asks_reading asks
+  told_asks outcomes.Executed started idle asks current = (asks_reading asks, λ acts. absurd (true≢false (sym (idle refl) ∙ acts)))
+  told_asks (outcomes.Failed fault) started idle asks current = asks_reading asks
 
-  -- a run
-  pub ran_asks : (outcome : Outcome) → IsToldOf outcome_of outcome → ChangesOnceRead failures may_leave asked meanings rows options task last old new → asks_by outcome
-  ran_asks outcome told asks = subst asks_by (sym told.1) (by told.0)
+  -- what runs
+  pub ran_asks : (outcome : Outcome) → IsToldOf outcome_of outcome → ChangesOnceRead failures may_leave asked meanings rows options task last old new
+      → (outcome ≡ outcomes.Executed → WasExecuted failures may_leave asked meanings rows options task last lines old new) → asks_by outcome
+  ran_asks outcome told asks ran = subst asks_by (sym told.1) (by told.0 told.1)
     where
-      by : (ended : Result (Unit {0}) Fault) → asks_by (outcome_of ended)
-      by (Ok done) = asks
-      by (Err fault) = asks
+      by : (ended : Result (Unit {0}) Fault) → outcome ≡ outcome_of ended → asks_by (outcome_of ended)
+      by (Ok done) is = (asks, λ acts. ran is)
+      by (Err fault) is = asks
 
   -- a task without source that is cleared
   pub cleared_asks : (outcome : Outcome) → IsToldOf cleared_outcome outcome → ChangesOnceRead failures may_leave asked meanings rows options task last old new → asks_by outcome

@@ -161,11 +161,11 @@ module _ (task : Task) (path : Path) (is_path : path ≡ task.path) (before afte
       → ((place : Place) → result ≡ Err (faults.Device place) → (is_input_of task place || is_output_of task place) ≡ true)
       → IsOfTask task before after (settled_as task path result need)
   of_task (Err fault) may read_so rises blamed =
-      (is_path, refl, refl, λ place is. (rises place (ap Err (same_fault fault (faults.Device place) is)), blamed place (ap Err (same_fault fault (faults.Device place) is))), refl)
-  of_task (Ok prepared.Skips) may read_so rises blamed = (is_path, refl, refl, silent outcomes.Skipped refl, refl)
-  of_task (Ok prepared.HasNoActions) may read_so rises blamed = (is_path, refl, refl, silent (idle_outcome need) (failed_idly need), started_idly need)
+      (is_path, refl, refl, λ place is. (rises place (ap Err (same_fault fault (faults.Device place) is)), blamed place (ap Err (same_fault fault (faults.Device place) is))), refl, λ e. absurd (let d = e in (cc)))
+  of_task (Ok prepared.Skips) may read_so rises blamed = (is_path, refl, refl, silent outcomes.Skipped refl, refl, λ e. absurd (let d = e in (cc)))
+  of_task (Ok prepared.HasNoActions) may read_so rises blamed = (is_path, refl, refl, silent (idle_outcome need) (failed_idly need), started_idly need, λ e. may.1)
   of_task (Ok prepared.HasNoSource) may read_so rises blamed = (is_path, may.2)
-  of_task (Ok (prepared.Decided decisions.UpToDate basis seen)) may read_so rises blamed = (is_path, refl, refl, silent outcomes.UpToDate refl, refl)
+  of_task (Ok (prepared.Decided decisions.UpToDate basis seen)) may read_so rises blamed = (is_path, refl, refl, silent outcomes.UpToDate refl, refl, λ e. absurd (let d = e in (cc)))
   of_task (Ok (prepared.Decided (decisions.Incremental changes) basis seen)) may read_so rises blamed = (is_path, (λ e. absurd (let d = e in (cc))), read_so)
   of_task (Ok (prepared.Decided decisions.Full basis seen)) may read_so rises blamed = (is_path, (λ e. absurd (let d = e in (cc))), read_so)
 

@@ -33,4 +33,5 @@ pub mod Asking
 mod Made
 mod Truth
 pub mod Answered
+mod Ran
 pub mod ByOutcome

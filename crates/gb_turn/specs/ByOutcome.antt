@@ -1,16 +1,18 @@
--- What a turn asks of a folder, whichever it is, by what is told of it.
-use Rattle.std.specs.Prelude.{ℕ, ◌≡◌, Option}
+-- What the execution of a task asks of a folder, whichever it is, by its outcome.
+use Rattle.std.specs.Prelude.{ℕ, ◌≡◌, false, List, Option}
 use Rattle.gb_action.specs.Meanings.{Meanings}
 use Rattle.gb_folder.specs.Calls.{Asks, Call, no_change}
-use Rattle.gb_folder.specs.Files.{Tearing}
+use Rattle.gb_folder.specs.Files.{Tearing, is_empty}
 use Rattle.gb_history.specs.Record.{Record}
 use Rattle.gb_plan.specs.Ready.{Rows}
+use Rattle.gb_plan.specs.Task.{Text}
 use Rattle.gb_plan.specs.declared.task.TaskDeclaration.{TaskDeclaration as Task}
 use Rattle.gb_report.specs.declared.report.Options.{Options}
 use Rattle.gb_report.specs.declared.report.Outcome.{Outcome}
 use Rattle.gb_report.specs.declared.report.Outcome.TheVariants as outcomes
 use Rattle.gb_turn.specs.Asking.{HasRead, IsTextOf, in_turn_with, once}
 use Rattle.gb_turn.specs.Current.{IsToldCurrent}
+use Rattle.gb_turn.specs.Ran.{WasExecuted}
 
 module _ {F S : Type 0} (failures : F → ℕ) (may_leave : F → Tearing) (asked : F → Call → F → Type 0)
     (meanings : Meanings S) (rows : Rows S) (options : Options) where
@@ -22,16 +24,20 @@ module _ {F S : Type 0} (failures : F → ℕ) (may_leave : F → Tearing) (aske
       (once (HasRead failures may_leave asked old task)
       (in_turn_with task (IsTextOf failures may_leave asked old meanings rows options task last))) old new
 
-  -- What a task's turn asks for, from the state of the folder in which it begins to the one in which it ends,
-  -- by the outcome that is told of it and the record that was read of it: nothing where it was not run; no
+  -- What the execution of a task asks for, from the state of the folder in which it begins to the one in which
+  -- it ends, by its outcome, its lines and the record that was read of it: nothing where it was not run; no
   -- change where it was skipped or is up to date, and then it was found so on what was answered since it
-  -- began.
-  abbrev pub TurnAsks : Task → Option Record → Outcome → F → F → Type 0
-  TurnAsks task last outcomes.NotRun old new = new ≡ old
-  TurnAsks task last outcomes.Skipped old new = Asks failures may_leave asked no_change old new
-  TurnAsks task last outcomes.UpToDate old new =
+  -- began. Where it was executed, and has actions, just what these make of its inputs was written, and the
+  -- record of just this was stored.
+  abbrev pub TurnAsks : Task → Option Record → Outcome → List Text → F → F → Type 0
+  TurnAsks task last outcomes.NotRun lines old new = new ≡ old
+  TurnAsks task last outcomes.Skipped lines old new = Asks failures may_leave asked no_change old new
+  TurnAsks task last outcomes.UpToDate lines old new =
       Asks failures may_leave asked no_change old new
       × IsToldCurrent failures may_leave asked options task last old new outcomes.UpToDate
-  TurnAsks task last outcomes.NoSource old new = ChangesOnceRead task last old new
-  TurnAsks task last outcomes.Executed old new = ChangesOnceRead task last old new
-  TurnAsks task last (outcomes.Failed fault) old new = ChangesOnceRead task last old new
+  TurnAsks task last outcomes.NoSource lines old new = ChangesOnceRead task last old new
+  TurnAsks task last outcomes.Executed lines old new =
+      ChangesOnceRead task last old new
+      × (is_empty task.actions ≡ false
+      → WasExecuted failures may_leave asked meanings rows options task last lines old new)
+  TurnAsks task last (outcomes.Failed fault) lines old new = ChangesOnceRead task last old new

@@ -11,4 +11,5 @@ pub mod Buildable
 pub mod Asking
 pub mod Truth
 pub mod Current
+pub mod Ran
 pub mod ByOutcome

@@ -49,13 +49,15 @@ settled_as task path (Ok (prepared.Decided decisions.UpToDate basis seen)) need 
 settled_as task path (Ok (prepared.Decided decision basis seen)) need = settled.Due path decision seen
 
 -- What is told is of the task, without a line, tells that it was started, and blames the device only where it
--- failed in the turn; what has no source has a property that skips it; and what is due is not up to date.
+-- failed in the turn; a task that is told as executed has no actions. What has no source has a property that
+-- skips it; and what is due is not up to date.
 abbrev pub IsOfTask : Task → ℕ → ℕ → Settled → Type 0
 IsOfTask task before after (settled.Told report) =
     (report.path ≡ task.path) × (report.has_actions ≡ not (is_empty task.actions)) × (report.lines ≡ [])
     × ((place : Place) → report.outcome ≡ outcomes.Failed (faults.Device place)
     → HasRisen before after × IsTrue (is_input_of task place || is_output_of task place))
     × IsTrue (is_started report.outcome)
+    × (report.outcome ≡ outcomes.Executed → is_empty task.actions ≡ true)
 IsOfTask task before after (settled.Sourceless path) =
     (path ≡ task.path) × (list_any (λ property. property.skip_when_empty) task.files ≡ true)
 IsOfTask task before after (settled.Due path decision seen) =

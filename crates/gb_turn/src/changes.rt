@@ -1,5 +1,5 @@
 //! The turn of a task that may go on from what its last run left.
-ghost use Rattle.std.specs.Prelude.{◌≡◌, ◌||◌, [], ℕ, List, false, true, not, IsTrue};
+ghost use Rattle.std.specs.Prelude.{◌≡◌, ◌||◌, [], ℕ, List, Some, false, true, not, IsTrue, OnOk};
 ghost use Rattle.std.specs.List.{AllByRecursion};
 ghost use Rattle.gb_folder.specs.Calls.{Asks, no_change};
 ghost use Rattle.gb_folder.specs.Files.{HasRisen, is_empty};
@@ -10,12 +10,13 @@ ghost use Rattle.gb_meaning.specs.Label.{Moment};
 ghost use Rattle.gb_plan.specs.Graph.{Plan, reads_output_of, some_overlap};
 ghost use Rattle.gb_plan.specs.Task.{is_output_of, output_places};
 ghost use Rattle.gb_records.specs.Granted.{IsGranted};
-ghost use Rattle.gb_report.specs.declared.report.Outcome.TheVariants.{Failed};
+ghost use Rattle.gb_report.specs.declared.report.Outcome.TheVariants.{Executed, Failed};
 ghost use Rattle.gb_run.specs.AskingChanges.{CanGoOn};
 ghost use Rattle.gb_store.specs.Changes.{ChangesOnly};
 ghost use Rattle.gb_store.specs.Faults.{Blames, BlamesOnly};
 ghost use Rattle.gb_turn.specs.Asking.{HasRead, IsTextAnew, in_turn_with, once};
 ghost use Rattle.gb_turn.specs.Buildable.{IsBuildable};
+ghost use Rattle.gb_turn.specs.Ran.{WasExecuted};
 ghost use Rattle.gb_turn.specs.Turned.{ComesAt, HasTurned, IsToGoOn, IsToldOf, Registering, is_of_turn};
 ghost use Rattle.gb_turn.specs.Turned.{outcome_of, report_of, setting_with};
 
@@ -65,6 +66,12 @@ pub fn take_turn_by_changes<A: Actions, F: Folder>(
         (in_turn_with task.now
         (IsTextAnew F.failures F.may_leave F.asked first A.meanings table.now options task.now last.now)))
         folder.old folder.new }
+    // It is executed only where each write was answered as done, with just the bytes that its actions make.
+    ensures ran { (first : _) → Asks F.failures F.may_leave F.asked no_change first folder.old
+        → AreInputsAnswered F.failures F.may_leave F.asked first folder.old task.now seen.inputs.items
+        → AreOutputsAnswered F.failures F.may_leave F.asked first folder.old task.now seen.outputs.items
+        → result.outcome ≡ Executed → WasExecuted F.failures F.may_leave F.asked A.meanings table.now
+        options task.now (Some last.now) result.lines first folder.new }
     ensures blame { (place : List ℕ) → result.outcome ≡ Failed (Fault.Device place)
         → HasRisen (F.failures folder.old) (F.failures folder.new) }
     ensures blamed { (place : List ℕ) → result.outcome ≡ Failed (Fault.Device place)
@@ -119,6 +126,11 @@ fn go_on<A: Actions, F: Folder>(
         (in_turn_with task.now
         (IsTextAnew F.failures F.may_leave F.asked first A.meanings table.now options task.now last.now)))
         folder.old folder.new }
+    ensures ran { (first : _) → Asks F.failures F.may_leave F.asked no_change first folder.old
+        → AreInputsAnswered F.failures F.may_leave F.asked first folder.old task.now seen.inputs.items
+        → AreOutputsAnswered F.failures F.may_leave F.asked first folder.old task.now seen.outputs.items
+        → OnOk result (WasExecuted F.failures F.may_leave F.asked A.meanings table.now options task.now
+        (Some last.now) lines.new first folder.new) }
     ensures blame { Blames result (F.failures folder.old) (F.failures folder.new) }
     ensures blamed { BlamesOnly (λ place. is_input_of task.now place || is_output_of task.now place) result }
     ensures changes { IsTrue F.tells

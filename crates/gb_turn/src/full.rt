@@ -1,6 +1,7 @@
 //! A full run of a task.
-ghost use Rattle.std.specs.Prelude.{◌≡◌, ◌||◌, [], ℕ, List, false, not, map, IsTrue, IfOk, IfErr, OnOk};
-ghost use Rattle.gb_folder.specs.Calls.{Asks, changes_at, no_change};
+ghost use Rattle.std.specs.Prelude.{◌≡◌, ◌||◌, [], ℕ, List, Ok, false, not, map, IsTrue, IfOk, IfErr, OnOk};
+ghost use Rattle.gb_folder.specs.Calls.{Asks, Call, changes_at, no_change};
+ghost use Rattle.gb_folder.specs.Device.{Leads};
 ghost use Rattle.gb_folder.specs.Files.{HasRisen, is_empty};
 ghost use Rattle.gb_label.specs.Deciding.{HasNamesInOrder};
 ghost use Rattle.gb_label.specs.ReadingAnswered.{AreInputsAnswered};
@@ -14,14 +15,16 @@ ghost use Rattle.gb_plan.specs.Ready.{IsReady};
 ghost use Rattle.gb_plan.specs.Task.{is_output_of, seen_files};
 ghost use Rattle.gb_records.specs.Granted.{IsGranted};
 ghost use Rattle.gb_report.specs.declared.report.Options.{Options};
-ghost use Rattle.gb_report.specs.declared.report.Outcome.TheVariants.{Failed};
+ghost use Rattle.gb_report.specs.declared.report.Outcome.TheVariants.{Executed, Failed};
 ghost use Rattle.gb_run.specs.Course.{EndsWell, course_of};
 ghost use Rattle.gb_run.specs.Failing.{Fails, InFull};
+ghost use Rattle.gb_run.specs.Work.{RunsInFull};
 ghost use Rattle.gb_store.specs.Changes.{ChangesOnly};
 ghost use Rattle.gb_store.specs.Faults.{Blames, BlamesOnly};
 ghost use Rattle.gb_turn.specs.Asking.{HasRead, IsInFull, IsTextIn, in_turn_with, once};
 ghost use Rattle.gb_turn.specs.Buildable.{IsBuildable};
 ghost use Rattle.gb_turn.specs.Keeping.{IsRecordOf};
+ghost use Rattle.gb_turn.specs.Ran.{ExecutedInFull, RanInFull};
 ghost use Rattle.gb_turn.specs.Turned.{ComesAt, HasTurned, IsDue, IsToldOf, Registering, is_of_turn};
 ghost use Rattle.gb_turn.specs.Turned.{outcome_of, report_of, setting_with};
 
@@ -73,6 +76,11 @@ pub fn take_full_turn<A: Actions, F: Folder>(
         (in_turn_with task.now
         (IsInFull F.failures F.may_leave F.asked first A.meanings table.now task.now)))
         folder.old folder.new }
+    // It is executed only where each write was answered as done, with just the bytes that its actions make.
+    ensures ran { (first : _) → Asks F.failures F.may_leave F.asked no_change first folder.old
+        → AreInputsAnswered F.failures F.may_leave F.asked first folder.old task.now inputs.items
+        → result.outcome ≡ Executed → ExecutedInFull F.failures F.may_leave F.asked A.meanings table.now
+        task.now result.lines first folder.new }
     ensures blame { (place : List ℕ) → result.outcome ≡ Failed (Fault.Device place)
         → HasRisen (F.failures folder.old) (F.failures folder.new) }
     ensures blamed { (place : List ℕ) → result.outcome ≡ Failed (Fault.Device place)
@@ -131,6 +139,10 @@ fn run_with_record<A: Actions, F: Folder>(
         (in_turn_with task.now
         (IsInFull F.failures F.may_leave F.asked first A.meanings table.now task.now)))
         folder.old folder.new }
+    ensures ran { (first : _) → Asks F.failures F.may_leave F.asked no_change first folder.old
+        → AreInputsAnswered F.failures F.may_leave F.asked first folder.old task.now inputs.items
+        → OnOk result (ExecutedInFull F.failures F.may_leave F.asked A.meanings table.now task.now
+        lines.new first folder.new) }
     ensures blame { Blames result (F.failures folder.old) (F.failures folder.new) }
     ensures blamed { BlamesOnly (λ place. is_input_of task.now place || is_output_of task.now place) result }
     ensures changes { IsTrue F.tells
@@ -166,6 +178,9 @@ pub(crate) fn run_on<A: Actions, F: Folder>(
     ensures asks { Asks F.failures F.may_leave F.asked
         (in_turn_with task.now (IsTextIn A.meanings table.now task.now inputs.trees))
         folder.old folder.new }
+    // Over any folder: it ends well only once all of this was answered as done.
+    ensures ran { OnOk result (RanInFull F.failures F.may_leave F.asked A.meanings table.now task.now
+        inputs.trees lines.new folder.old folder.new) }
     ensures blame { Blames result (F.failures folder.old) (F.failures folder.new) }
     ensures blamed { BlamesOnly (is_output_of task.now) result }
     ensures changes { IsTrue F.tells
@@ -206,6 +221,10 @@ fn make_anew<A: Actions, F: Folder>(
         folder.new }
     ensures blame { Blames result (F.failures folder.old) (F.failures folder.new) }
     ensures blamed { BlamesOnly (is_output_of task.now) result }
+    // Over any folder: which calls were made, with which bytes, and which lines are printed.
+    ensures calls { OnOk result ((calls : List Call) × Leads F.device folder.old calls folder.new
+        × ((kinds : Kinds) → Agrees A.meanings table.now kinds
+        → RunsInFull (course_of kinds task.now trees changes []) calls lines.new (Ok tt))) }
     // Over any folder, whoever else writes in it: the record is true.
     ensures made { IfOk result (λ run. (kinds : Kinds) → Agrees A.meanings table.now kinds
         → IsRecordOf kinds task.now trees run) }

@@ -1,8 +1,9 @@
 //! A run of a task by changes that were decided on what it works on.
-ghost use Rattle.std.specs.Prelude.{◌≡◌, [], ℕ, List, false, true, map, IsTrue, IfOk, IfErr, OnOk};
+ghost use Rattle.std.specs.Prelude.{◌≡◌, [], ℕ, List, Ok, false, true, map, IsTrue, IfOk, IfErr, OnOk};
 ghost use Rattle.std.specs.List.{AllByRecursion};
 ghost use Rattle.gb_action.specs.Files.{Trees};
-ghost use Rattle.gb_folder.specs.Calls.{Asks, changes_at};
+ghost use Rattle.gb_folder.specs.Calls.{Asks, Call, changes_at};
+ghost use Rattle.gb_folder.specs.Device.{Leads};
 ghost use Rattle.gb_folder.specs.Files.{Files, IsFolder, are_placed};
 ghost use Rattle.gb_label.specs.Deciding.{HasNamesInOrder};
 ghost use Rattle.gb_label.specs.Reading.{digests_in, prints_seen, seen_of};
@@ -19,11 +20,13 @@ ghost use Rattle.gb_report.specs.declared.report.Options.{Options};
 ghost use Rattle.gb_run.specs.AskingChanges.{CanGoOn, GoesOn};
 ghost use Rattle.gb_run.specs.Course.{EndsWell, course_of};
 ghost use Rattle.gb_run.specs.Failing.{ByChanges, Fails};
+ghost use Rattle.gb_run.specs.WorkByChanges.{RunsByChanges, increment_of};
 ghost use Rattle.gb_store.specs.Changes.{ChangesOnly};
 ghost use Rattle.gb_store.specs.Faults.{Blames, BlamesOnly};
 ghost use Rattle.gb_turn.specs.Asking.{IsTextBy, in_turn_with};
 ghost use Rattle.gb_turn.specs.Buildable.{IsBuildable};
 ghost use Rattle.gb_turn.specs.Keeping.{IsRecordOf};
+ghost use Rattle.gb_turn.specs.Ran.{RanByChanges};
 ghost use Rattle.gb_turn.specs.Turned.{ComesAt, HasTurned, IsDueByChanges, Registering, is_of_turn};
 ghost use Rattle.gb_turn.specs.Turned.{report_of, setting_with};
 
@@ -67,6 +70,9 @@ pub(crate) fn go_by<A: Actions, F: Folder>(
     ensures asks { Asks F.failures F.may_leave F.asked
         (in_turn_with task.now (IsTextBy A.meanings table.now task.now inputs.trees changes outputs.seen))
         folder.old folder.new }
+    // Over any folder: it ends well only once all of this was answered as done.
+    ensures ran { OnOk result (RanByChanges F.failures F.may_leave F.asked A.meanings table.now task.now
+        inputs.trees changes outputs.seen lines.new folder.old folder.new) }
     ensures blame { Blames result (F.failures folder.old) (F.failures folder.new) }
     ensures blamed { BlamesOnly (is_output_of task.now) result }
     ensures changes { IsTrue F.tells
@@ -113,6 +119,11 @@ fn make_by_changes<A: Actions, F: Folder>(
         folder.new }
     ensures blame { Blames result (F.failures folder.old) (F.failures folder.new) }
     ensures blamed { BlamesOnly (is_output_of task.now) result }
+    // Over any folder: which calls were made, with which bytes, and which lines are printed.
+    ensures calls { OnOk result ((calls : List Call) × Leads F.device folder.old calls folder.new
+        × ((kinds : Kinds) → Agrees A.meanings table.now kinds
+        → RunsByChanges (increment_of kinds task.now inputs.trees changes outputs.seen) calls lines.new
+        (Ok tt))) }
     // Over any folder, whoever else writes in it: the record is true, where what was read at the outputs was
     // made of old trees from which the changes lead to these.
     ensures made { IfOk result (λ run. (kinds : Kinds) → Agrees A.meanings table.now kinds

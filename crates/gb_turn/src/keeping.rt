@@ -1,5 +1,6 @@
 //! The record of a task, taken out as its run begins and put in as it ends.
 ghost use Rattle.std.specs.Prelude.{◌≡◌, ◌≢◌, ℕ, List, None, Some, Err, false, true, IsTrue, IfErr, OnErr};
+ghost use Rattle.std.specs.Prelude.{OnOk};
 ghost use Rattle.gb_folder.specs.Calls.{Asks, put_at, taken_at};
 ghost use Rattle.gb_folder.specs.Files.{is_empty};
 ghost use Rattle.gb_history.specs.Places.{record_place};
@@ -10,6 +11,7 @@ ghost use Rattle.gb_records.specs.Said.{IsSaidOf, IsText};
 ghost use Rattle.gb_records.specs.Standing.{Standing};
 ghost use Rattle.gb_store.specs.Changes.{ChangesOnly, is_at};
 ghost use Rattle.gb_turn.specs.Keeping.{IsForgotten, IsRemembered, IsUnwritten};
+ghost use Rattle.gb_turn.specs.Ran.{AreAnswered, stores};
 
 use gb_core::path::TaskPath;
 use gb_folder::folder::Folder;
@@ -60,6 +62,9 @@ pub fn remember<F: Folder>(
 ) -> Result<(), Fault>
     ensures asks { Asks F.failures F.may_leave F.asked (put_at (record_place task.now.path)
         (record_text task.now.path run.now)) folder.old folder.new }
+    // Over any folder: by one call, which was answered as done; by none where the task has no outputs.
+    ensures stored { OnOk result ((limit : ℕ) × AreAnswered F.failures F.may_leave F.asked folder.old
+        (stores task.now run.now limit) folder.new) }
     ensures blame { (place : List ℕ) → result ≢ Err (Fault.Device place) }
     ensures changes { IsTrue F.tells
         → ChangesOnly (is_at (record_place task.now.path)) (F.contents folder.old) (F.contents folder.new) }

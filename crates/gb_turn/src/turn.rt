@@ -18,7 +18,7 @@ ghost use Rattle.gb_plan.specs.Task.{is_output_of, output_places};
 ghost use Rattle.gb_records.specs.Granted.{IsGranted};
 ghost use Rattle.gb_report.specs.Outcome.{is_executed, is_started};
 ghost use Rattle.gb_report.specs.declared.report.Options.{Options};
-ghost use Rattle.gb_report.specs.declared.report.Outcome.TheVariants.{Failed};
+ghost use Rattle.gb_report.specs.declared.report.Outcome.TheVariants.{Executed, Failed};
 ghost use Rattle.gb_run.specs.AskingChanges.{CanGoOn};
 ghost use Rattle.gb_store.specs.Changes.{ChangesOnly};
 ghost use Rattle.gb_turn.specs.Buildable.{IsBuildable};
@@ -26,6 +26,7 @@ ghost use Rattle.gb_turn.specs.Case.{IsCaseFor, IsKnown};
 ghost use Rattle.gb_turn.specs.Turns.{IsRunFor, goes_by_changes};
 ghost use Rattle.gb_turn.specs.Asking.{HasRead, IsTextOf, in_turn_with, once};
 ghost use Rattle.gb_turn.specs.ByOutcome.{TurnAsks};
+ghost use Rattle.gb_turn.specs.Ran.{WasExecuted};
 ghost use Rattle.gb_turn.specs.Settled.{IsAnswer, IsAnsweredAlone};
 ghost use Rattle.gb_turn.specs.Turned.{ComesAt, HasTurned, IsToldOf, Registering, is_of_turn, outcome_of};
 ghost use Rattle.gb_turn.specs.Turned.{setting_with};
@@ -69,8 +70,9 @@ pub fn take_turn<A: Actions, F: Folder>(
     // Over any folder: what is skipped or up to date asks for no change, and what is told up to date was found
     // so on what was answered in this turn. Else what may be changed, but nothing before its inputs were
     // answered whole in this turn, or that it has no source; and a record is of trees that were answered so.
+    // It is executed only where each write was answered as done, with just the bytes that its actions make.
     ensures asks { TurnAsks F.failures F.may_leave F.asked A.meanings table.now options task.now
-        (option_copied last.entry) result.outcome folder.old folder.new }
+        (option_copied last.entry) result.outcome result.lines folder.old folder.new }
     ensures blame { (place : List ℕ) → result.outcome ≡ Failed (Fault.Device place)
         → HasRisen (F.failures folder.old) (F.failures folder.new) }
     ensures blamed { (place : List ℕ) → result.outcome ≡ Failed (Fault.Device place)
@@ -133,6 +135,12 @@ fn run<A: Actions, F: Folder>(
         (in_turn_with task.now
         (IsTextOf F.failures F.may_leave F.asked first A.meanings table.now options task.now
         (option_copied last.entry)))) folder.old folder.new }
+    ensures ran { (first : _) → Asks F.failures F.may_leave F.asked no_change first folder.old
+        → AreInputsAnswered F.failures F.may_leave F.asked first folder.old task.now seen.inputs.items
+        → WasDecided F.failures F.may_leave F.asked first folder.old options task.now
+        (option_copied last.entry) seen.inputs.items decision seen.outputs.items
+        → result.outcome ≡ Executed → WasExecuted F.failures F.may_leave F.asked A.meanings table.now
+        options task.now (option_copied last.entry) result.lines first folder.new }
     ensures blame { (place : List ℕ) → result.outcome ≡ Failed (Fault.Device place)
         → HasRisen (F.failures folder.old) (F.failures folder.new) }
     ensures blamed { (place : List ℕ) → result.outcome ≡ Failed (Fault.Device place)

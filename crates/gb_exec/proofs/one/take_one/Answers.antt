@@ -159,8 +159,8 @@ pub returns-then-not-does_start-clause-asks : goal.returns-then-not-does_start-c
 returns-then-not-does_start-clause-asks g c = λ planned is.
     let F = g.F.Folder in
     let build = c.args.build.now in
-    subst (λ (outcome : Outcome). TurnAsks F.failures F.may_leave F.asked g.A.Actions.meanings build.table.now build.options planned.task (slice_index_or build.records.now c.args.index None) outcome
-    c.args.folder.now c.args.folder.now) (sym (ap (λ (r : TaskReport). r.outcome) c.passed.ensures)) refl
+    subst (λ (r : TaskReport). TurnAsks F.failures F.may_leave F.asked g.A.Actions.meanings build.table.now build.options planned.task (slice_index_or build.records.now c.args.index None) r.outcome r.lines
+    c.args.folder.now c.args.folder.now) (sym c.passed.ensures) refl
 
 pub returns-clause-asks : goal.returns-clause-asks
 returns-clause-asks g c = λ planned at.
@@ -169,11 +169,12 @@ returns-clause-asks g c = λ planned at.
     let tasks = build.tasks.now in
     let index = c.args.index in
     let outcome = c.take_turn-report.result.outcome in
+    let lines = c.take_turn-report.result.lines in
     let same : slice_index_or tasks index c.index-build-index.result ≡ planned = get_or_from_slice_get tasks index planned c.index-build-index.result at in
     let within : index < length build.records.now = omega (arith, c.requires.each, c.requires.index) in
     let last : option_copied c.as_ref-last.result ≡ slice_index_or build.records.now index None =
     c.as_ref-last.ensures.value ∙ get_or_default build.records.now index c.index-build-index-2.result None within in
-    subst (λ (read : Option Record). TurnAsks F.failures F.may_leave F.asked g.A.Actions.meanings build.table.now build.options planned.task read outcome c.args.folder.now c.take_turn-report.new.folder) last
-    (subst (λ (p : Planned). TurnAsks F.failures F.may_leave F.asked g.A.Actions.meanings build.table.now build.options p.task (option_copied c.as_ref-last.result) outcome
+    subst (λ (read : Option Record). TurnAsks F.failures F.may_leave F.asked g.A.Actions.meanings build.table.now build.options planned.task read outcome lines c.args.folder.now c.take_turn-report.new.folder) last
+    (subst (λ (p : Planned). TurnAsks F.failures F.may_leave F.asked g.A.Actions.meanings build.table.now build.options p.task (option_copied c.as_ref-last.result) outcome lines
     c.args.folder.now c.take_turn-report.new.folder) same
     c.take_turn-report.ensures.asks)

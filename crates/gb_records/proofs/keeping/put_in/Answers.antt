@@ -1,5 +1,9 @@
-use Rattle.std.proofs.Common.{◌≡◌, ◌≤◌, length, Err, Some, ap, subst, sym, ◌∙◌, arith}
-use Rattle.gb_folder.specs.Files.{with_file}
+use Rattle.std.proofs.Common.{◌≡◌, ◌≤◌, length, Err, Ok, Some, refl, ap, subst, sym, ◌∙◌, arith}
+use Rattle.gb_folder.specs.Calls.{Writes}
+use Rattle.gb_folder.specs.Device.{IsCalled}
+use Rattle.gb_folder.specs.Files.{Bytes, Place, with_file}
+use Rattle.gb_folder.specs.Semantics.{Answer}
+use Rattle.gb_folder.proofs.Exact.{change_failed, writes_well, wrote}
 use Rattle.gb_folder.specs.declared.folder.FolderFault.TheVariants as folders
 use Rattle.gb_meaning.specs.Events.{max_record}
 use Rattle.gb_history.specs.Places.{record_place}
@@ -48,3 +52,32 @@ pub returns-clause-asks : goal.returns-clause-asks
 returns-clause-asks g c =
     put_as c.in_ok-place.place (record_place c.args.path.now) c.as_slice.result.now (record_text c.args.path.now c.args.run.now)
     c.in_ok-place.ensures.place (c.as_slice.ensures.value ∙ c.in_ok-text.ensures.text) c.write.ensures.asks
+
+pub returns-in-Ok-clause-stored : goal.returns-in-Ok-clause-stored
+returns-in-Ok-clause-stored g c =
+    let F = g.F.Folder in
+    let old = c.args.folder.now in
+    let new = c.write.new.self in
+    let place = c.in_ok-place.place in
+    let bytes = c.as_slice.result.now in
+    let said = c.write.ensures in
+    let limit = max_record in
+    let called : IsCalled F.device old (Writes place bytes limit c.write.result) new =
+    g.met.F.Folder.called old (Writes place bytes limit c.write.result) new (record {
+      asked = said.call;
+      well = writes_well bytes limit c.write.result said.within said.large said.not_missing said.not_named;
+      count = said.asks.count;
+      tearing = said.asks.tearing;
+      risen = λ is. said.device (change_failed c.write.result is);
+      exact = λ tells. wrote (F.may_leave old) (F.contents old) place bytes limit c.write.result (F.contents new) said.within
+          said.large said.not_missing said.not_named (said.written tells) (said.free tells) (said.blocked tells) (said.same tells) (said.torn tells);
+    }) in (
+      limit,
+      (
+        new,
+        subst (λ (p : Place). IsCalled F.device old (Writes p (record_text c.args.path.now c.args.run.now) limit (Ok tt)) new) c.in_ok-place.ensures.place
+            (subst (λ (b : Bytes). IsCalled F.device old (Writes place b limit (Ok tt)) new) (c.as_slice.ensures.value ∙ c.in_ok-text.ensures.text)
+            (subst (λ (answer : Answer). IsCalled F.device old (Writes place bytes limit answer) new) c.in-Ok.is called)),
+        refl,
+      ),
+    )

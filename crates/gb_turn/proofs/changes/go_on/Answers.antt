@@ -1,4 +1,4 @@
-use Rattle.std.proofs.Common.{◌≡◌, ◌≤◌, ℕ, true, Result, Err, map, sym, ap, subst, ◌∙◌}
+use Rattle.std.proofs.Common.{◌≡◌, ◌≤◌, ℕ, true, Result, Err, map, refl, sym, ap, subst, ◌∙◌, inl, inr}
 use Rattle.std.proofs.lemmas.Result.{err_from_is_err_and}
 use Rattle.gb_folder.specs.Files.{Contents}
 use Rattle.gb_meaning.specs.Label.{Moment}
@@ -16,6 +16,7 @@ use Rattle.gb_turn.proofs.Recorded.{granted_later}
 use Rattle.gb_folder.proofs.Asked.{asks_reading, asks_then}
 use Rattle.gb_turn.specs.Asking.{HasRead}
 use Rattle.gb_turn.proofs.Asking.{anew_read, asks_once, full_anew, going_anew, text_in_turn}
+use Rattle.gb_turn.proofs.Ran.{on_ok}
 use Rattle.gb_turn.proofs.changes.go_on.Goals as goal
 
 pub returns-in_err-inputs-clause-turn : goal.returns-in_err-inputs-clause-turn
@@ -87,3 +88,36 @@ returns-in-InFull-clause-asks g c = λ first before inputs outputs.
     (text_in_turn task _ _
     (full_anew F.failures F.may_leave F.asked first g.A.Actions.meanings c.args.table.now c.args.options task c.args.last.now c.in-InFull.inputs then was is_anew)
     c.run_on.ensures.asks))
+
+pub returns-in-ByChanges-clause-ran : goal.returns-in-ByChanges-clause-ran
+returns-in-ByChanges-clause-ran g c = λ first before inputs outputs.
+    let F = g.F.Folder in
+    let task = c.args.task.now in
+    let then = c.settle_anew.new.folder in
+    let is_anew = subst (IsAnew c.args.options task c.args.last.now) c.in-ByChanges.is c.in_ok-inputs.ensures.anew in
+    let was = subst (WasReadAnew F.failures F.may_leave F.asked first then task) c.in-ByChanges.is (c.in_ok-inputs.ensures.answered first before inputs outputs) in
+    on_ok c.go_by.result c.go_by.ensures.ran (λ ran. inr (
+      c.args.last.now,
+      refl,
+      c.in-ByChanges.inputs.trees,
+      c.in-ByChanges.changes,
+      c.in-ByChanges.outputs.seen,
+      then,
+      record { asks = asks_then before c.settle_anew.ensures.asks; inputs = was.0; named = is_anew.0.named },
+      record { outputs = was.1; formed = is_anew.1.formed; decided = is_anew.2 },
+      ran,
+    ))
+
+pub returns-in-InFull-clause-ran : goal.returns-in-InFull-clause-ran
+returns-in-InFull-clause-ran g c = λ first before inputs outputs.
+    let F = g.F.Folder in
+    let task = c.args.task.now in
+    let then = c.settle_anew.new.folder in
+    let was = subst (WasReadAnew F.failures F.may_leave F.asked first then task) c.in-InFull.is (c.in_ok-inputs.ensures.answered first before inputs outputs) in
+    let is_anew = subst (IsAnew c.args.options task c.args.last.now) c.in-InFull.is c.in_ok-inputs.ensures.anew in
+    on_ok c.run_on.result c.run_on.ensures.ran (λ ran. inl (
+      c.in-InFull.inputs.trees,
+      then,
+      record { asks = asks_then before c.settle_anew.ensures.asks; inputs = was; named = is_anew.named },
+      ran,
+    ))

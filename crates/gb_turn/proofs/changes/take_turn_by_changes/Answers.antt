@@ -1,8 +1,9 @@
-use Rattle.std.proofs.Common.{◌≡◌, not, refl, rules, sym, subst}
+use Rattle.std.proofs.Common.{◌≡◌, not, refl, rules, sym, subst, ◌∙◌}
 use Rattle.gb_folder.specs.Files.{is_empty}
 use Rattle.gb_report.specs.declared.report.TaskReport.{TaskReport}
 use Rattle.gb_turn.specs.Turned.{HasTurned, setting_with}
 use Rattle.gb_turn.proofs.Told.{same_report}
+use Rattle.gb_turn.proofs.Ran.{executed_ok}
 use Rattle.gb_turn.proofs.changes.take_turn_by_changes.Goals as goal
 
 pub returns-clause-outcome : goal.returns-clause-outcome
@@ -18,3 +19,7 @@ returns-clause-turn g c = λ tells kinds registry_of plan moment given at read s
     subst (λ (report : TaskReport). HasTurned (setting_with kinds registry_of (F.may_leave start)) c.args.options plan task moment report (F.contents start) (F.failures now) (F.contents now))
     (sym (same_report _ _ _ _ _ _ _ _ c.requires.path c.outcome_of.ensures acts refl))
     (c.go_on-ended.ensures.turn tells kinds registry_of plan moment given at read stood due)
+
+pub returns-clause-ran : goal.returns-clause-ran
+returns-clause-ran g c = λ first before inputs outputs is.
+    executed_ok c.go_on-ended.result (sym c.outcome_of.ensures ∙ is) (c.go_on-ended.ensures.ran first before inputs outputs)

@@ -62,3 +62,6 @@ returns-in_err-made-clause-err g c = λ tells.
     let IsFault : Fault → Type 0 = λ fault. (kinds : Kinds) → Agrees g.A.Actions.meanings c.args.table.now kinds
     → Fails (course_of kinds c.args.task.now c.args.trees c.args.changes (F.contents start).files) InFull (F.may_leave start) (F.failures start) fault c.run_in_full.new.lines (F.failures now) (F.contents now).files in
     at_err (λ r. IfErr r IsFault) c.from_residual.result p.0 c.in_err-made.field-0.0 p.1 p.2 (c.in_err-made.ensures.err tells)
+
+pub returns-clause-calls : goal.returns-clause-calls
+returns-clause-calls g c = c.in_ok-made.ensures.calls

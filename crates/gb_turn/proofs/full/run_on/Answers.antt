@@ -24,6 +24,7 @@ use Rattle.gb_turn.proofs.Whole.{clearing_failed, reading_failed, remembering, r
 use Rattle.gb_folder.proofs.Asked.{asks_then}
 use Rattle.gb_turn.specs.Asking.{IsTextIn}
 use Rattle.gb_turn.proofs.Asking.{full_text, made_in_turn, put_in_turn, taken_in_turn}
+use Rattle.gb_turn.proofs.Ran.{all_answered, on_ok}
 use Rattle.gb_turn.proofs.full.run_on.Goals as goal
 
 pub all_added-requires : goal.all_added-requires
@@ -148,3 +149,21 @@ returns-clause-asks g c =
     asks_then (asks_then (taken_in_turn task _ c.clear.ensures.asks) (made_in_turn task _ c.make_anew.ensures.asks))
     (put_in_turn task (IsTextIn g.A.Actions.meanings c.args.table.now task c.args.inputs.trees) c.in_ok-run.run'
     (full_text g.A.Actions.meanings c.args.table.now task c.args.inputs.trees c.in_ok-run.run' c.in_ok-run.ensures.made) c.remember.ensures.asks)
+
+pub returns-clause-ran : goal.returns-clause-ran
+returns-clause-ran g c =
+    let F = g.F.Folder in
+    let made = c.in_ok-run.ensures.calls in
+    on_ok c.remember.result c.remember.ensures.stored (λ stored. record {
+      emptied = c.clear.new.folder;
+      empties = c.clear.ensures.asks;
+      changes = c.in_ok-changes.changes;
+      added = λ files are. c.in_ok-changes.ensures files (c.as_slice.ensures.value ∙ c.requires.digests ∙ are);
+      calls = made.0;
+      done = c.make_anew.new.folder;
+      answered = all_answered F.failures F.may_leave F.asked F.tells F.contents F.device g.met.F.Folder.said made.0 c.clear.new.folder c.make_anew.new.folder made.1;
+      run = c.in_ok-run.run';
+      ran = λ kinds agrees. (made.2 kinds agrees, c.in_ok-run.ensures.made kinds agrees);
+      limit = stored.0;
+      stored = stored.1;
+    })

@@ -13,6 +13,7 @@ use Rattle.gb_turn.proofs.Whole.{reading_failed}
 use Rattle.gb_folder.proofs.Asked.{asks_reading, asks_then}
 use Rattle.gb_turn.specs.Asking.{HasRead}
 use Rattle.gb_turn.proofs.Asking.{asks_once, full_is_one, run_read, text_in_turn}
+use Rattle.gb_turn.proofs.Ran.{on_ok}
 use Rattle.gb_turn.proofs.full.run_with_record.Goals as goal
 
 pub returns-in_err-inputs-clause-turn : goal.returns-in_err-inputs-clause-turn
@@ -58,3 +59,16 @@ returns-clause-asks g c = λ first before inputs.
     (asks_once (HasRead F.failures F.may_leave F.asked first task) _ (run_read F.failures F.may_leave F.asked first task trees read were c.in_ok-inputs.ensures.named)
     (text_in_turn task _ _
     (full_is_one F.failures F.may_leave F.asked first g.A.Actions.meanings c.args.table.now task trees read were c.in_ok-inputs.ensures.named) c.run_on.ensures.asks))
+
+pub returns-clause-ran : goal.returns-clause-ran
+returns-clause-ran g c = λ first before inputs.
+    on_ok c.run_on.result c.run_on.ensures.ran (λ ran. (
+      c.in_ok-inputs.inputs.trees,
+      c.complete_inputs.new.folder,
+      record {
+        asks = asks_then before c.complete_inputs.ensures.asks;
+        inputs = c.in_ok-inputs.ensures.answered first before inputs;
+        named = c.in_ok-inputs.ensures.named;
+      },
+      ran,
+    ))

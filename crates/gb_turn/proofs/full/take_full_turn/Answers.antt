@@ -1,8 +1,9 @@
-use Rattle.std.proofs.Common.{◌≡◌, not, refl, rules, sym, subst}
+use Rattle.std.proofs.Common.{◌≡◌, not, refl, rules, sym, subst, ◌∙◌}
 use Rattle.gb_folder.specs.Files.{is_empty}
 use Rattle.gb_report.specs.declared.report.TaskReport.{TaskReport}
 use Rattle.gb_turn.specs.Turned.{HasTurned, setting_with}
 use Rattle.gb_turn.proofs.Told.{same_report}
+use Rattle.gb_turn.proofs.Ran.{executed_ok}
 use Rattle.gb_turn.proofs.full.take_full_turn.Goals as goal
 
 pub returns-clause-outcome : goal.returns-clause-outcome
@@ -18,3 +19,7 @@ returns-clause-turn g c = λ tells kinds registry_of options plan moment given a
     subst (λ (report : TaskReport). HasTurned (setting_with kinds registry_of (F.may_leave start)) options plan task moment report (F.contents start) (F.failures now) (F.contents now))
     (sym (same_report _ _ _ _ _ _ _ _ c.requires.path c.outcome_of.ensures acts refl))
     (c.run_with_record-ended.ensures.turn tells kinds registry_of options plan moment given at read due)
+
+pub returns-clause-ran : goal.returns-clause-ran
+returns-clause-ran g c = λ first before inputs is.
+    executed_ok c.run_with_record-ended.result (sym c.outcome_of.ensures ∙ is) (c.run_with_record-ended.ensures.ran first before inputs)

@@ -24,6 +24,7 @@ use Rattle.gb_turn.proofs.Recorded.{record_stands, seen_later}
 use Rattle.gb_folder.proofs.Asked.{asks_then}
 use Rattle.gb_turn.specs.Asking.{IsTextBy}
 use Rattle.gb_turn.proofs.Asking.{going_text, made_in_turn, put_in_turn, record_taken, taken_in_turn}
+use Rattle.gb_turn.proofs.Ran.{all_answered, on_ok}
 use Rattle.gb_turn.proofs.going.go_by.Goals as goal
 
 pub returns-in_err-forget-clause-changes : goal.returns-in_err-forget-clause-changes
@@ -144,3 +145,19 @@ returns-clause-asks g c =
     asks_then (asks_then (taken_in_turn task _ (record_taken task c.forget.ensures.asks)) (made_in_turn task _ c.make_by_changes.ensures.asks))
     (put_in_turn task (IsTextBy g.A.Actions.meanings c.args.table.now task c.args.inputs.trees c.args.changes c.args.outputs.seen) c.in_ok-run.run'
     (going_text g.A.Actions.meanings c.args.table.now task c.args.inputs.trees c.args.changes c.args.outputs.seen c.in_ok-run.run' c.in_ok-run.ensures.made) c.remember.ensures.asks)
+
+pub returns-clause-ran : goal.returns-clause-ran
+returns-clause-ran g c =
+    let F = g.F.Folder in
+    let made = c.in_ok-run.ensures.calls in
+    on_ok c.remember.result c.remember.ensures.stored (λ stored. record {
+      forgot = c.forget.new.folder;
+      forgets = c.forget.ensures.asks;
+      calls = made.0;
+      done = c.make_by_changes.new.folder;
+      answered = all_answered F.failures F.may_leave F.asked F.tells F.contents F.device g.met.F.Folder.said made.0 c.forget.new.folder c.make_by_changes.new.folder made.1;
+      run = c.in_ok-run.run';
+      ran = λ kinds agrees. (made.2 kinds agrees, c.in_ok-run.ensures.made kinds agrees);
+      limit = stored.0;
+      stored = stored.1;
+    })

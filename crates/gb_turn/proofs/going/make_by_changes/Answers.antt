@@ -74,3 +74,6 @@ returns-in_err-made-clause-err g c = λ tells.
     → GoesOn kinds task old c.args.inputs.trees c.args.changes c.args.outputs.seen (F.contents start).files
     → Fails (course_of kinds task c.args.inputs.trees c.args.changes (rest_of task (F.contents start).files)) (ByChanges (F.contents start).files) (F.may_leave start) (F.failures start) fault c.run_by_changes.new.lines (F.failures now) (F.contents now).files in
     at_err (λ r. IfErr r IsFault) c.from_residual.result p.0 c.in_err-made.field-0.0 p.1 p.2 (c.in_err-made.ensures.err tells)
+
+pub returns-clause-calls : goal.returns-clause-calls
+returns-clause-calls g c = c.in_ok-made.ensures.calls

@@ -1,4 +1,4 @@
-use Rattle.std.proofs.Common.{◌≡◌, false, Some, Err, rules, sym, subst}
+use Rattle.std.proofs.Common.{◌≡◌, false, true, Some, Err, rules, sym, subst}
 use Rattle.gb_folder.specs.Files.{is_empty}
 use Rattle.gb_history.specs.Places.{record_place}
 use Rattle.gb_history.specs.Text.{record_text}
@@ -8,6 +8,7 @@ use Rattle.gb_store.proofs.Machine.{changes_with}
 use Rattle.gb_turn.specs.Keeping.{IsRemembered, IsUnwritten}
 use Rattle.gb_turn.proofs.Recorded.{with_outputs_stands}
 use Rattle.gb_turn.proofs.Unwritten.{at_itself, changes_unwritten, remembered_told, why_unwritten}
+use Rattle.gb_turn.proofs.Ran.{all_answered, stored_none, stored_one}
 use Rattle.gb_turn.proofs.keeping.remember.Goals as goal
 
 pub returns-in-Ok-clause-changes : goal.returns-in-Ok-clause-changes
@@ -44,3 +45,21 @@ returns-in-Err-clause-stands g c = λ tells seen memory entry stood of.
     let task = c.args.task.now in
     subst (λ (fault : Fault). IsRemembered task entry memory (Err fault) (F.contents c.put_in.new.folder).files) (sym c.fault.ensures)
     (remembered_told task entry memory c.in-Err.unwritten (F.contents c.put_in.new.folder).files (c.in-Err.ensures.stands tells seen memory entry stood of))
+
+pub returns-then-is_empty-clause-stored : goal.returns-then-is_empty-clause-stored
+returns-then-is_empty-clause-stored g c =
+    let F = g.F.Folder in
+    let task = c.args.task.now in
+    let none : is_empty task.outputs ≡ true = search rules in
+    (0, stored_none F.failures F.may_leave F.asked task c.args.run.now 0 c.args.folder.now none)
+
+pub returns-in-Ok-clause-stored : goal.returns-in-Ok-clause-stored
+returns-in-Ok-clause-stored g c =
+    let F = g.F.Folder in
+    let task = c.args.task.now in
+    let some : is_empty task.outputs ≡ false = search rules in
+    let stored = c.in-Ok.ensures.stored in (
+      stored.0,
+      stored_one F.failures F.may_leave F.asked task c.args.run.now stored.0 c.args.folder.now c.put_in.new.folder some
+          (all_answered F.failures F.may_leave F.asked F.tells F.contents F.device g.met.F.Folder.said _ c.args.folder.now c.put_in.new.folder stored.1),
+    )

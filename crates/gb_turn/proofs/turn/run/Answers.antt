@@ -1,4 +1,4 @@
-use Rattle.std.proofs.Common.{Bool, Option, option_copied, Bor, is_some, sym, subst, ◌∙◌}
+use Rattle.std.proofs.Common.{Bool, Option, option_copied, Bor, is_some, sym, subst, ◌∙◌, inl}
 use Rattle.gb_turn.specs.Case.{IsKnown}
 use Rattle.gb_history.specs.declared.record.Record.{Record}
 use Rattle.gb_turn.specs.Turned.{ComesAt}
@@ -8,6 +8,7 @@ use Rattle.gb_folder.specs.Calls.{Asks}
 use Rattle.gb_turn.specs.Asking.{HasRead, IsTextOf, in_turn_with, once}
 use Rattle.gb_turn.proofs.Answered.{outputs_answered}
 use Rattle.gb_turn.proofs.Asking.{anew_of_task, full_of_task, one_writer, text_once}
+use Rattle.gb_turn.specs.Ran.{WasExecuted}
 use Rattle.gb_turn.proofs.turn.run.Goals as goal
 
 pub take_turn_by_changes-requires-clause-inputs : goal.take_turn_by_changes-requires-clause-inputs
@@ -67,3 +68,15 @@ returns-clause-asks g c = λ first before inputs was.
     text_once (HasRead F.failures F.may_leave F.asked first c.args.task.now) c.args.task.now _ _
     (full_of_task F.failures F.may_leave F.asked first g.A.Actions.meanings c.args.table.now c.args.options c.args.task.now (option_copied c.args.last))
     (c.take_full_turn.ensures.asks first before inputs)
+
+pub returns-then-goes_by_changes-clause-ran : goal.returns-then-goes_by_changes-clause-ran
+returns-then-goes_by_changes-clause-ran g c = λ first before inputs was is.
+    let F = g.F.Folder in
+    let task = c.args.task.now in
+    let changes = c.goes_by_changes.ensures.decided c.if-goes_by_changes.true in
+    let outputs = outputs_answered F.failures F.may_leave F.asked first c.args.folder.now c.args.options task (option_copied c.args.last) c.args.seen.inputs.items c.args.decision changes.0 c.args.seen.outputs.items changes.1 was in
+    subst (λ (o : Option (Bor Record)). WasExecuted F.failures F.may_leave F.asked g.A.Actions.meanings c.args.table.now c.args.options task (option_copied o) c.take_turn_by_changes.result.lines
+    first c.take_turn_by_changes.new.folder) (sym c.in-Some.is) (c.take_turn_by_changes.ensures.ran first before inputs outputs is)
+
+pub returns-clause-ran : goal.returns-clause-ran
+returns-clause-ran g c = λ first before inputs was is. inl (c.take_full_turn.ensures.ran first before inputs is)

@@ -87,14 +87,15 @@ returns-in-Due-clause-started g c = run_started c.run.result.outcome c.run.ensur
 pub returns-in-Told-clause-asks : goal.returns-in-Told-clause-asks
 returns-in-Told-clause-asks g c =
     let F = g.F.Folder in
-    told_asks F.failures F.may_leave F.asked g.A.Actions.meanings c.args.table.now c.args.options c.args.task.now (option_copied c.args.last) c.args.folder.now c.settle.new.folder c.in-Told.report.outcome
-    c.in-Told.ensures.of_task.4 c.settle.ensures.asks c.in-Told.ensures.answered
+    told_asks F.failures F.may_leave F.asked g.A.Actions.meanings c.args.table.now c.args.options c.args.task.now (option_copied c.args.last) c.in-Told.report.lines c.args.folder.now c.settle.new.folder
+    c.in-Told.report.outcome c.in-Told.ensures.of_task.4 c.in-Told.ensures.of_task.5 c.settle.ensures.asks c.in-Told.ensures.answered
 
 pub returns-in-Sourceless-clause-asks : goal.returns-in-Sourceless-clause-asks
 returns-in-Sourceless-clause-asks g c =
     let F = g.F.Folder in
     let task = c.args.task.now in
-    cleared_asks F.failures F.may_leave F.asked g.A.Actions.meanings c.args.table.now c.args.options task (option_copied c.args.last) c.args.folder.now c.take_turn_without_source.new.folder c.take_turn_without_source.result.outcome
+    cleared_asks F.failures F.may_leave F.asked g.A.Actions.meanings c.args.table.now c.args.options task (option_copied c.args.last) c.take_turn_without_source.result.lines c.args.folder.now
+    c.take_turn_without_source.new.folder c.take_turn_without_source.result.outcome
     c.take_turn_without_source.ensures.outcome
     (asks_then (asks_reading c.settle.ensures.asks)
     (asks_once (HasRead F.failures F.may_leave F.asked c.args.folder.now task) _
@@ -104,5 +105,7 @@ returns-in-Sourceless-clause-asks g c =
 pub returns-in-Due-clause-asks : goal.returns-in-Due-clause-asks
 returns-in-Due-clause-asks g c =
     let F = g.F.Folder in
-    ran_asks F.failures F.may_leave F.asked g.A.Actions.meanings c.args.table.now c.args.options c.args.task.now (option_copied c.args.last) c.args.folder.now c.run.new.folder c.run.result.outcome c.run.ensures.outcome
+    ran_asks F.failures F.may_leave F.asked g.A.Actions.meanings c.args.table.now c.args.options c.args.task.now (option_copied c.args.last) c.run.result.lines c.args.folder.now c.run.new.folder c.run.result.outcome
+    c.run.ensures.outcome
     (asks_then (asks_reading c.settle.ensures.asks) (c.run.ensures.asks c.args.folder.now c.settle.ensures.asks c.in-Due.ensures.answered.0 c.in-Due.ensures.answered.1))
+    (c.run.ensures.ran c.args.folder.now c.settle.ensures.asks c.in-Due.ensures.answered.0 c.in-Due.ensures.answered.1)
