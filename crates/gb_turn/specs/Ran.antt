@@ -10,12 +10,9 @@ use Rattle.gb_folder.specs.Files.{Files, IsFolder, Tearing, are_placed, is_empty
 use Rattle.gb_history.specs.Places.{record_place}
 use Rattle.gb_history.specs.Record.{Record}
 use Rattle.gb_history.specs.Text.{record_text}
-use Rattle.gb_label.specs.Reading.{digests_in}
 use Rattle.gb_label.specs.ReadingAnswered.{AreInputsRead, AreOutputsRead}
 use Rattle.gb_meaning.specs.Headline.{Agrees}
 use Rattle.gb_meaning.specs.Kinds.{Kinds}
-use Rattle.gb_meaning.specs.Label.{changes_from}
-use Rattle.gb_meaning.specs.Tree.{trees_of}
 use Rattle.gb_plan.specs.Ready.{Rows}
 use Rattle.gb_plan.specs.Task.{Text, seen_files, seen_outputs}
 use Rattle.gb_plan.specs.declared.task.TaskDeclaration.{TaskDeclaration as Task}
@@ -26,6 +23,7 @@ use Rattle.gb_run.specs.Work.{RunsInFull}
 use Rattle.gb_run.specs.WorkByChanges.{RunsByChanges, increment_of}
 use Rattle.gb_turn.specs.Anew.{AreDecided}
 use Rattle.gb_turn.specs.Keeping.{IsRecordOf}
+use Rattle.gb_turn.specs.Reading.{added_of}
 use Rattle.gb_turn.specs.Turned.{is_of_turn}
 
 -- These calls, one after another, were answered so, and led from the one state of the folder to the other.
@@ -40,12 +38,6 @@ stores task run limit =
     if is_empty task.outputs then []
     else Writes (record_place task.path) (record_text task.path run) limit (Ok tt) ∷ []
 
--- the changes that the actions of a full execution get: each path of an incremental property as added
-abbrev pub AreAdded : Task → Trees → List Changes → Type 0
-AreAdded task trees changes =
-    (files : Files) → digests_in trees ≡ digests_in (trees_of task files)
-    → changes ≡ changes_from task [] files
-
 -- In full on these trees: the record was deleted and the outputs were emptied; the files that the actions make
 -- of these trees were written, and each write and removal was answered as done; these are the lines of the
 -- actions; and the record of just this was stored.
@@ -54,14 +46,12 @@ pub record RanInFull {F S : Type 0} (failures : F → ℕ) (may_leave : F → Te
     (lines : List Text) (old new : F) : Type 0 where
   pub emptied : F
   pub empties : Asks failures may_leave asked (takes_at (is_of_turn task)) old emptied
-  pub changes : List Changes
-  pub added : AreAdded task trees changes
   pub calls : List Call
   pub done : F
   pub answered : AreAnswered failures may_leave asked emptied calls done
   pub run : Record
   pub ran : (kinds : Kinds) → Agrees meanings rows kinds
-      → RunsInFull (course_of kinds task trees changes []) calls lines (Ok tt)
+      → RunsInFull (course_of kinds task trees (added_of task.files trees) []) calls lines (Ok tt)
       × IsRecordOf kinds task trees run
   pub limit : ℕ
   pub stored : AreAnswered failures may_leave asked done (stores task run limit) new

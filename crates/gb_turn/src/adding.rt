@@ -1,13 +1,10 @@
-//! The changes that a full run is told: each path of an incremental property as added.
+//! The changes that a full execution gets: each path of an incremental property as added.
 ghost use Rattle.std.specs.Prelude.{◌≡◌, ◌++◌, [], length, IfOk, OnOk};
 ghost use Rattle.gb_action.specs.Changes.{changes_between};
-ghost use Rattle.gb_action.specs.Files.{Tree};
-ghost use Rattle.gb_folder.specs.Files.{Files};
+ghost use Rattle.gb_action.specs.Files.{Tree, Trees};
 ghost use Rattle.gb_label.specs.Reading.{digests_in};
-ghost use Rattle.gb_meaning.specs.Label.{changes_from};
-ghost use Rattle.gb_meaning.specs.Tree.{trees_of};
 ghost use Rattle.gb_tree.specs.Prints.{digests_of};
-ghost use Rattle.gb_turn.specs.Reading.{added_in};
+ghost use Rattle.gb_turn.specs.Reading.{added_in, added_of};
 
 use gb_action::change::{ChangeList, ChangeLists};
 use gb_plan::task::{FileProperty, TaskDeclaration};
@@ -23,8 +20,8 @@ pub(crate) fn all_added(
     prints: &[Prints],
 ) -> Result<ChangeLists, AllocError>
     requires { length task.now.files ≡ length prints.now }
-    ensures { IfOk result (λ changes. (files : Files) → prints.now ≡ digests_in (trees_of task.now files)
-        → changes ≡ changes_from task.now [] files) }
+    ensures { IfOk result (λ changes. (trees : Trees) → prints.now ≡ digests_in trees
+        → changes ≡ added_of task.now.files trees) }
 {
     let properties = task.files.as_slice();
     let mut changes = ChangeLists::new(alloc);

@@ -1,5 +1,6 @@
-use Rattle.std.proofs.Common.{◌≡◌, Some, Result, Err, IfErr, length, refl, rules, arith, sym, ap, subst, ◌∙◌, inl}
+use Rattle.std.proofs.Common.{◌≡◌, [], List, Some, Result, Ok, Err, IfErr, length, refl, rules, arith, sym, ap, subst, ◌∙◌, inl}
 use Rattle.std.proofs.lemmas.Result.{err_from_is_err_and}
+use Rattle.gb_action.specs.Changes.{Changes}
 use Rattle.gb_folder.specs.Files.{Contents, Files}
 use Rattle.gb_folder.proofs.Changes.{SameTearing-chain}
 use Rattle.gb_history.specs.Record.{Record}
@@ -9,6 +10,7 @@ use Rattle.gb_records.specs.Said.{IsSaidOf}
 use Rattle.gb_report.specs.declared.fault.Fault.{Fault}
 use Rattle.gb_report.specs.declared.fault.Fault.TheVariants as faults
 use Rattle.gb_run.specs.Course.{EndsWell, course_of}
+use Rattle.gb_run.specs.Work.{RunsInFull}
 use Rattle.gb_run.proofs.Stood.{made_stands}
 use Rattle.gb_store.specs.Changes.{ChangesOnly}
 use Rattle.gb_store.proofs.Machine.{at_err, changes_chain}
@@ -16,6 +18,8 @@ use Rattle.gb_label.specs.Reading.{digests_in}
 use Rattle.gb_turn.specs.Clearing.{HasCleared, IsCleared}
 use Rattle.gb_turn.specs.Keeping.{IsUnwritten, run_now}
 use Rattle.gb_turn.specs.Turned.{HasTurned, is_of_turn, report_of, setting_with}
+use Rattle.gb_turn.specs.Reading.{added_of}
+use Rattle.gb_turn.proofs.Added.{all_of}
 use Rattle.gb_turn.proofs.Cleared.{outputs_in_turn, record_in_turn}
 use Rattle.gb_turn.proofs.Given.{as_many, none_read}
 use Rattle.gb_turn.proofs.Parts.{outside_same}
@@ -85,7 +89,7 @@ returns-in_err-run-clause-turn g c = λ tells kinds registry_of options plan mom
     (running_failed kinds registry_of (F.may_leave start) options plan task c.args.was_read moment (F.contents start) (F.failures start) c.requires.buildable.not_own c.requires.apart at due
     (F.may_leave then) c.make_anew.new.lines (F.failures then) (F.contents then) (F.contents now) c.args.inputs.trees c.in_ok-changes.changes
     c.clear.ensures.asks.tearing c.clear.ensures.asks.count is_cleared
-    are_trees (c.in_ok-changes.ensures (F.contents start).files (c.as_slice.ensures.value ∙ c.requires.digests ∙ ap digests_in are_trees)) (c.make_anew.ensures.changes tells)
+    are_trees (c.in_ok-changes.ensures c.args.inputs.trees (c.as_slice.ensures.value ∙ c.requires.digests) ∙ ap (added_of task.files) are_trees ∙ all_of (F.contents start).files task.files) (c.make_anew.ensures.changes tells)
     (returns-in_err-run-clause-changes g c tells) c.in_err-run.field-0.0 (F.failures now) c.make_anew.ensures.asks.count
     (λ place e. c.make_anew.ensures.blamed place (c.in_err-run.was ∙ ap Err e)) (c.in_err-run.ensures.err tells kinds given.agrees))
 
@@ -115,7 +119,7 @@ returns-clause-turn g c = λ tells kinds registry_of options plan moment given a
     changes_chain (is_of_turn task) (F.contents start) (F.contents then) (F.contents ran)
     (c.clear.ensures.changes tells)
     (outputs_in_turn task (F.contents then) (F.contents ran) (c.make_anew.ensures.changes tells)) in
-    let told = c.in_ok-changes.ensures (F.contents start).files (c.as_slice.ensures.value ∙ c.requires.digests ∙ ap digests_in are_trees) in
+    let told = c.in_ok-changes.ensures c.args.inputs.trees (c.as_slice.ensures.value ∙ c.requires.digests) ∙ ap (added_of task.files) are_trees ∙ all_of (F.contents start).files task.files in
     let ended = c.in_ok-run.ensures.ok tells kinds given.agrees in
     let stands : c.in_ok-run.run' ≡ run_now task c.args.inputs.prints.items (F.contents ran).files =
     record_stands kinds task c.args.inputs.trees c.args.inputs.prints.items (F.contents ran).files c.in_ok-run.run' (c.in_ok-run.ensures.made kinds given.agrees) c.requires.digests
@@ -157,13 +161,15 @@ returns-clause-ran g c =
     on_ok c.remember.result c.remember.ensures.stored (λ stored. record {
       emptied = c.clear.new.folder;
       empties = c.clear.ensures.asks;
-      changes = c.in_ok-changes.changes;
-      added = λ files are. c.in_ok-changes.ensures files (c.as_slice.ensures.value ∙ c.requires.digests ∙ are);
       calls = made.0;
       done = c.make_anew.new.folder;
       answered = all_answered F.failures F.may_leave F.asked F.tells F.contents F.device g.met.F.Folder.said made.0 c.clear.new.folder c.make_anew.new.folder made.1;
       run = c.in_ok-run.run';
-      ran = λ kinds agrees. (made.2 kinds agrees, c.in_ok-run.ensures.made kinds agrees);
+      ran = λ kinds agrees. (
+        subst (λ (changes : List Changes). RunsInFull (course_of kinds c.args.task.now c.args.inputs.trees changes []) made.0 c.make_anew.new.lines (Ok tt))
+            (c.in_ok-changes.ensures c.args.inputs.trees (c.as_slice.ensures.value ∙ c.requires.digests)) (made.2 kinds agrees),
+        c.in_ok-run.ensures.made kinds agrees,
+      );
       limit = stored.0;
       stored = stored.1;
     })
