@@ -54,7 +54,7 @@ pub enum Basis {
 
 /// What is decided of a task that has a source.
 #[derive(Drop)]
-pub struct Decided {
+pub struct Verdict {
     /// What is to be done with the task.
     pub decision: Decision,
     /// What that goes by.
@@ -74,7 +74,7 @@ pub fn decided<F: Folder>(
     old: Option<&Record>,
     inputs: &[Reading],
     room: u64,
-) -> Result<Decided, Fault>
+) -> Result<Verdict, Fault>
     requires in_order { HasNamesInOrder task.now }
     requires named { map (λ found. found.0) inputs.now ≡ map (λ property. property.name) task.now.files }
     ensures asks { Asks F.failures F.may_leave F.asked no_change folder.old folder.new }
@@ -118,7 +118,7 @@ fn in_full<F: Folder>(
     folder: &mut F,
     task: &TaskDeclaration,
     cause: Cause,
-) -> Result<Decided, Fault>
+) -> Result<Verdict, Fault>
     ensures asks { Asks F.failures F.may_leave F.asked no_change folder.old folder.new }
     ensures blame { Blames result (F.failures folder.old) (F.failures folder.new) }
     ensures blamed { BlamesOnly (is_output_of task.now) result }
@@ -130,7 +130,7 @@ fn in_full<F: Folder>(
         (listing_faults task.now (F.contents folder.old))) }
 {
     check_outputs(alloc, folder, task)?;
-    Ok(Decided {
+    Ok(Verdict {
         decision: Decision::Full,
         basis: Basis::Anew(cause),
         outputs: Vec::new(alloc),
@@ -146,7 +146,7 @@ fn by_record<F: Folder>(
     run: &Record,
     inputs: &[Reading],
     room: u64,
-) -> Result<Decided, Fault>
+) -> Result<Verdict, Fault>
     requires in_order { HasNamesInOrder task.now }
     requires named { map (λ found. found.0) inputs.now ≡ map (λ property. property.name) task.now.files }
     requires counts { (options.rerun ≡ false) × (task.now.is_stale ≡ false) }
@@ -173,7 +173,7 @@ fn by_record<F: Folder>(
     match read_listed(alloc, folder, task, room) {
         Ok(outputs) => {
             let on = decide_by(alloc, task, options, run, inputs, outputs.as_slice())?;
-            Ok(Decided {
+            Ok(Verdict {
                 decision: on.decision,
                 basis: Basis::Compared(on.present),
                 outputs,
