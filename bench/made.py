@@ -91,7 +91,7 @@ def paragraph(lines):
 
 def first_sentence(text):
     """The text up to its first full stop: a stop before a space, that is no part of `..`."""
-    stop = re.search(r"(?<!\.)[.:](?=\s)|(?<!\.)\.$", text)
+    stop = re.search(r"(?<!\.)\.(?=\s|$)", text)
     return text[: stop.start()] if stop else text
 
 
