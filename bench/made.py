@@ -7,8 +7,8 @@
 - docs/CRATES.md, in the section of each crate: a table of the files of its src/, with the first sentence of
   each file's head, and a table of the files of its specs/, with the first sentence of each file's first
   comment. lib.rt and Lib.antt are left out.
-- docs/CALLS.md: the public calls of the crates in PUBLIC, each with its signature, its comment and its
-  clauses.
+- docs/CALLS.md: the public types and calls of the crates in PUBLIC, each call with its signature, its comment
+  and its clauses.
 """
 import os
 import re
@@ -21,13 +21,17 @@ COLUMNS = 110
 # The crates whose calls are listed, and the modules of them that are, if not all public ones.
 PUBLIC = {
     "gb_build": None,
+    "gb_meaning": ["events"],
+    "gb_report": ["fault", "render", "report"],
     "gb_exec": ["building", "listener"],
+    "gb_printer": ["page", "printer"],
     "gb_command": None,
     "gb_here": None,
     "gb_answer": None,
     "gb_kinds": None,
     "gb_with": None,
     "gb_registry": None,
+    "gb_plan": ["plan", "task"],
     "gb_provider": None,
     "gb_action": None,
     "gb_folder": None,
@@ -38,9 +42,9 @@ DEFINITIONS = "| Definitions | What they say |"
 INTRODUCTION = """\
 # The calls, by crate
 
-A reference for whoever embeds builds, writes kinds of actions or writes a program of that sort. It has each
-public call of the crates that such a program names: its signature, its comment, and the clauses of its
-contract. `bench/made.py --write` makes this page from the code.
+A reference for programs that embed builds or have kinds of actions of their own. It has the public types and
+calls of the crates that such programs name: each with its comment, and each call with its signature and the
+clauses of its contract. `bench/made.py --write` makes this page from the code.
 
 [From the task at hand to the call](CRATES.md#from-the-task-at-hand-to-the-call) says which call does what.
 [A tool of your own](EMBEDDING.md) goes through a whole program.
@@ -189,6 +193,7 @@ class Owner:
     title: str
     comment: str
     calls: list = field(default_factory=list)
+    definition: list = field(default_factory=list)
 
 
 def public_modules(crate):
@@ -247,6 +252,7 @@ class Reader:
         macro = re.match(r"macro_rules! (\w+)", line)
         if named:
             owner = self.owner(f"{named[1]} {named[2]}", self.taken())
+            owner.definition = self.definition(named[1])
             self.inside = owner if named[1] == "trait" else None
         elif macro and self.exported:
             self.owner(f"macro {macro[1]}!", self.taken())
@@ -258,6 +264,18 @@ class Reader:
             return False
         self.at += 1
         return True
+
+    def definition(self, kind):
+        """What users see of a type: the variants of an enum, the public fields of a struct, with comments."""
+        line = self.lines[self.at]
+        if kind in ("type", "const"):
+            return [line] if line.endswith(";") else []
+        if kind == "trait" or not line.endswith("{"):
+            return []
+        end = self.lines.index("}", self.at)
+        inner = [row for row in self.lines[self.at + 1 : end] if not row.strip().startswith("#[")]
+        kept = inner if kind == "enum" else public_fields(inner)
+        return [line, *kept, "}"] if kept else []
 
     def of_type(self, name):
         for owner in self.owners:
@@ -335,6 +353,18 @@ class Reader:
         formula = text[begun.end() :].rstrip(";").rstrip()
         formula = formula[:-1].strip() if formula.endswith("}") else formula
         return Clause(begun[1] == "requires", begun[2] or "", formula), ended
+
+
+def public_fields(lines):
+    """The public fields, each with its comment."""
+    kept, comment = [], []
+    for line in lines:
+        if line.strip().startswith("///"):
+            comment.append(line)
+            continue
+        kept += comment + [line] if line.startswith("    pub ") else []
+        comment = []
+    return kept
 
 
 def filled(text, first="", rest=""):
@@ -421,6 +451,7 @@ def module_lines(crate, module):
             kind, name = owner.title.split(" ", 1)
             text = f"**{kind} `{name}`**" + (f": {owner.comment}" if owner.comment else "")
             body += [""] + comment_lines(text)
+            body += [""] * bool(owner.definition) + ["    " + line for line in owner.definition]
             for call in owner.calls:
                 body += call_lines(call)
     if not body:
@@ -430,10 +461,12 @@ def module_lines(crate, module):
 
 
 def calls_page():
-    lines = INTRODUCTION.rstrip("\n").split("\n")
-    for crate in PUBLIC:
-        lines += ["", f"## {crate}", ""]
-        lines += filled(plain(paragraph(head_of(f"crates/{crate}/src/lib.rt", "//!"))))
+    lines = INTRODUCTION.rstrip("\n").split("\n") + [""]
+    heads = {crate: plain(paragraph(head_of(f"crates/{crate}/src/lib.rt", "//!"))) for crate in PUBLIC}
+    for crate, head in heads.items():
+        lines += filled(f"[{crate}](#{crate}): {head}", "- ", "  ")
+    for crate, head in heads.items():
+        lines += ["", f"## {crate}", ""] + filled(head)
         for module in public_modules(crate):
             lines += module_lines(crate, module)
     return "\n".join(lines) + "\n"
