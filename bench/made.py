@@ -439,10 +439,23 @@ def call_lines(call):
     return lines
 
 
+def handed_on(text):
+    """The names of other crates that a file hands on, a line for each crate."""
+    names = {}
+    for path, group, other in re.findall(r"(?ms)^pub use ([\w:]+?)(?:::\{(.*?)\})?(?: as (\w+))?;", text):
+        parts = [part.strip() for part in group.split(",") if part.strip()] or [other or path.split("::")[-1]]
+        names.setdefault(path.split("::")[0], []).extend(parts)
+    names.pop("crate", None)
+    lines = ["", "It re-exports:", ""] if names else []
+    for crate, parts in names.items():
+        lines += filled(f"of `{crate}`: " + ", ".join(f"`{part}`" for part in parts), "- ", "  ")
+    return lines
+
+
 def module_lines(crate, module):
     path = f"crates/{crate}/src/{module}.rt"
     owners = Reader(read(path)).items()
-    body = []
+    body = handed_on(read(path))
     for owner in owners:
         if not owner.title:
             for call in owner.calls:
@@ -466,7 +479,7 @@ def calls_page():
     for crate, head in heads.items():
         lines += filled(f"[{crate}](#{crate}): {head}", "- ", "  ")
     for crate, head in heads.items():
-        lines += ["", f"## {crate}", ""] + filled(head)
+        lines += ["", f"## {crate}", ""] + filled(head) + handed_on(read(f"crates/{crate}/src/lib.rt"))
         for module in public_modules(crate):
             lines += module_lines(crate, module)
     return "\n".join(lines) + "\n"
