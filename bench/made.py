@@ -52,8 +52,9 @@ INTRODUCTION = """\
 # The calls, by crate
 
 A reference for programs that embed builds or have kinds of actions of their own. It has the public types and
-calls of the crates that such programs name: each with its comment, and each call with its signature and the
-clauses of its contract. `bench/made.py --write` makes this page from the code.
+calls of the crates that such programs name, of some crates only those of the modules that they need. Each
+has its comment, and each call its signature and the clauses of its contract. `bench/made.py --write` makes
+this page from the code.
 
 [From the task at hand to the call](CRATES.md#from-the-task-at-hand-to-the-call) says which call does what.
 [A tool of your own](EMBEDDING.md) goes through a whole program.
