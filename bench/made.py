@@ -70,6 +70,7 @@ How to read an entry:
   `OnOk result ..` and `OnErr result ..` are about the same two cases, without a name for the value.
 - A clause *where contents are known* holds of a folder type that has `tells`, such as a folder in memory.
 - A law is a call that does nothing at run time. Its clause is a fact for proofs.
+- Lines that begin with `impl` say which traits a type has, and what its parameters have to be.
 
 [Names in proofs](DEFINITIONS.md#names-in-proofs) says what the words of formulas mean.
 """
@@ -227,6 +228,7 @@ class Reader:
         self.comment = []
         self.owners = []
         self.inside = None
+        self.header = []
         self.exported = False
 
     def owner(self, title, comment=""):
@@ -269,6 +271,7 @@ class Reader:
         elif line.startswith("impl"):
             kind = re.match(r"impl(?:<.*?>)? (\w+)(?:<.*>)? \{", line)
             self.inside = self.of_type(kind[1]) if kind and " for " not in line else None
+            self.header = [line[: -len(" {")]] if line.startswith("impl<") else []
             self.taken()
         else:
             return False
@@ -300,7 +303,9 @@ class Reader:
             return False
         nested = line.startswith("    ")
         comment = self.taken()
-        call = Call(self.signature(), comment)
+        # The first call of an implementation shows what its types have to be.
+        header, self.header = (self.header if nested and not in_trait else []), []
+        call = Call(header + self.signature(), comment)
         call.clauses = self.clauses()
         if not nested:
             self.owner("").calls.append(call)
@@ -449,6 +454,26 @@ def call_lines(call):
     return lines
 
 
+def traits():
+    """The public traits of all listed crates."""
+    names = set()
+    for crate in PUBLIC:
+        for module in files_in(f"crates/{crate}/src", ".rt"):
+            names.update(re.findall(r"(?m)^pub trait (\w+)", read(f"crates/{crate}/src/{module}")))
+    return names
+
+
+def implemented(crate, known):
+    """The heads of the crate's implementations of these traits, by the name of the type."""
+    heads = {}
+    for module in files_in(f"crates/{crate}/src", ".rt"):
+        for head in re.findall(r"(?m)^(impl\b.* for .*) \{$", read(f"crates/{crate}/src/{module}")):
+            trait = re.match(r"impl(?:<.*>)? ([\w:]+?)(?:<.*>)? for (\w+)", head)
+            if trait and trait[1] in known:
+                heads.setdefault(trait[2], []).append("    " + head)
+    return heads
+
+
 def handed_on(text):
     """The names of other crates that a file hands on, a line for each crate."""
     names = {}
@@ -462,7 +487,7 @@ def handed_on(text):
     return lines
 
 
-def module_lines(crate, module):
+def module_lines(crate, module, heads):
     path = f"crates/{crate}/src/{module}.rt"
     owners = Reader(read(path)).items()
     body = handed_on(read(path))
@@ -474,7 +499,8 @@ def module_lines(crate, module):
             kind, name = owner.title.split(" ", 1)
             text = f"**{kind} `{name}`**" + (f": {owner.comment}" if owner.comment else "")
             body += [""] + comment_lines(text)
-            body += [""] * bool(owner.definition) + ["    " + line for line in owner.definition]
+            definition = ["    " + line for line in owner.definition] + heads.get(name, [])
+            body += [""] * bool(definition) + definition
             for call in owner.calls:
                 body += call_lines(call)
     if not body:
@@ -486,12 +512,13 @@ def module_lines(crate, module):
 def calls_page():
     lines = INTRODUCTION.rstrip("\n").split("\n") + [""]
     heads = {crate: plain(paragraph(head_of(f"crates/{crate}/src/lib.rt", "//!"))) for crate in PUBLIC}
+    known = traits()
     for crate, head in heads.items():
         lines += filled(f"[{crate}](#{crate}): {head}", "- ", "  ")
     for crate, head in heads.items():
         lines += ["", f"## {crate}", ""] + filled(head) + handed_on(read(f"crates/{crate}/src/lib.rt"))
         for module in public_modules(crate):
-            lines += module_lines(crate, module)
+            lines += module_lines(crate, module, implemented(crate, known))
     return "\n".join(lines) + "\n"
 
 
