@@ -493,6 +493,7 @@ def module_lines(crate, module, heads):
     body = handed_on(read(path))
     for owner in owners:
         if not owner.title:
+            body += ["", "**functions**"] if len(owners) > 1 and owner.calls else []
             for call in owner.calls:
                 body += call_lines(call)
         elif owner.comment or owner.calls:
