@@ -109,9 +109,9 @@ def layers():
 
 TURN = [
     ("`enabled` or a test of `onlyIf` is false?", "SKIPPED", "outputs and record stay"),
-    ("no actions?", "UP-TO-DATE", "or executed, where a task that it needs was"),
+    ("no actions?", "UP-TO-DATE", "or executed, if a task that it needs was"),
     ("inputs or outputs cannot be read?", "FAILED", "outputs and record stay"),
-    ("all `skipWhenEmpty` files are none?", "NO-SOURCE", "outputs and record go"),
+    ("all `skipWhenEmpty` files are none?", "NO-SOURCE", "outputs and record are removed"),
     ("the record is what it has now?", "UP-TO-DATE", "an output, no --rerun-tasks, no false upToDateWhen"),
 ]
 
@@ -120,9 +120,9 @@ RUNS = [
     (
         12,
         "only incremental files differ, one action writes",
-        ["the record is taken out", "the actions are told the changes", "what differs is made or removed"],
+        ["the record is deleted", "the actions get the changes", "what differs is made or removed"],
     ),
-    (424, "else: a run in full", ["the record is taken out", "the outputs are emptied", "all actions run"]),
+    (424, "else: a full run", ["the record is deleted", "the outputs are emptied", "all actions run"]),
 ]
 
 
@@ -156,17 +156,17 @@ def turn():
             picture.arrow(start, y, end + (start - 418) // 12, y + 42)
     y += 20
     picture.box(124, y + 26, 280, 34, GREEN)
-    picture.text(264, y + 47, "ends well: executed, a new record is put in", 12, "middle")
+    picture.text(264, y + 47, "ends well: executed, a new record is stored", 12, "middle")
     picture.box(436, y + 26, 280, 34, RED)
     picture.text(576, y + 47, "fails: FAILED, no record", 12, "middle")
     return picture
 
 
 RECORD = [
-    ("before the run", "record of the last run", "it is compared, as ever", GREEN),
-    ("taken out", "none", "the task runs in full", RED),
+    ("before the run", "record of the last run", "it is compared, as usual", GREEN),
+    ("deleted", "none", "the task runs in full", RED),
     ("outputs are written", "none; the old, new or torn file at one place", "the task runs in full", RED),
-    ("as it is put in", "none, torn, or the new one", "none, torn: it runs in full; else as below", RED),
+    ("while it is stored", "none, torn, or the new one", "none, torn: it runs in full; else as below", RED),
     ("after the run", "record of this run", "it is compared: up to date", GREEN),
 ]
 
@@ -174,7 +174,7 @@ RECORD = [
 def record():
     """Where a build is stopped, what stands at the record's place, and what the next build does."""
     picture = Picture(840)
-    for x, head in ((12, "the build is stopped"), (240, "then there stands"), (548, "and the next build")):
+    for x, head in ((12, "the build is stopped"), (240, "then there is"), (548, "and the next build")):
         picture.text(x + 8, 26, head, 13, weight="bold")
     y = 36
     for number, (point, stands, then, fill) in enumerate(RECORD):

@@ -10,11 +10,10 @@
 - docs/CRATES.md has a section for each crate, in the order of crates.txt.
 - That page has a table for each group of crates.txt with its crates, and the table of README.md a row for
   each group, in the order of crates.txt.
-- A file of a crate's src/ that is named in the tables of docs/CRATES.md is there, and each one is named.
 - Files and definitions in that page's table of rules are there.
 - The words of the notation in docs/REFERENCE.md are in the files of tools/ for editors, and the options of
   the command line in those for shells.
-- No line of a document is longer than 110 columns.
+- No line of a document is longer than 110 columns, but for the rows of tables.
 """
 import os
 import re
@@ -147,8 +146,6 @@ def check_crates():
         faults.append(f"docs/CRATES.md: its sections are not those of crates.txt in their order: {first}")
         return
     check_groups(page)
-    for name, text in zip(sections, re.split(r"(?m)^## .*$", page[page.find(f"\n## {sections[0]}\n") :])[1:]):
-        check_files(name, text)
 
 
 def check_groups(page):
@@ -161,15 +158,6 @@ def check_groups(page):
     wanted = [(title[0].upper() + title.partition(":")[0][1:], names) for title, names in groups()]
     if tables != wanted:
         faults.append("docs/CRATES.md: the tables at a glance are not the groups of crates.txt")
-
-
-def check_files(name, text):
-    """The rows of a section's table name the files of src/, each once."""
-    rows = [row.split("|")[1] for row in re.findall(r"(?m)^\|.*\|$", text)]
-    named = re.findall(r"`(\w+\.rt)`", " ".join(rows))
-    there = [file for file in sorted(os.listdir(f"{ROOT}/crates/{name}/src")) if file != "lib.rt"]
-    for file in sorted(set(named) ^ set(there)):
-        faults.append(f"docs/CRATES.md: {name}: {file} is {'not there' if file in named else 'not named'}")
 
 
 def check_rules():
@@ -217,7 +205,7 @@ def words_of(cell):
 
 def check_columns(path):
     for number, line in enumerate(lines_of(path), 1):
-        if len(line) > MOST_COLUMNS:
+        if len(line) > MOST_COLUMNS and not line.startswith("|"):
             faults.append(f"{path}:{number}: more than {MOST_COLUMNS} columns")
 
 

@@ -33,7 +33,7 @@ pub(crate) fn explained<A: Actions>(
 ) -> Coming
     requires ready { IsReady A.meanings table.now task.now }
     requires goes_by { (options : Options)
-        × GoesBy options task.now (option_copied old.entry) decision.now basis.now }
+        × GoesBy options task.now (option_copied old) decision.now basis.now }
     ensures reasoned { IsReasoned result }
     ensures explained { (kinds : Kinds) → Agrees A.meanings table.now kinds
         → (result ≡ Coming.CannotRead Fault.OutOfMemory)
@@ -56,7 +56,7 @@ fn by_basis<A: Actions>(
 ) -> Result<Coming, AllocError>
     requires ready { IsReady A.meanings table.now task.now }
     requires goes_by { (options : Options)
-        × GoesBy options task.now (option_copied old.entry) decision.now basis.now }
+        × GoesBy options task.now (option_copied old) decision.now basis.now }
     ensures reasoned { IfOk result IsReasoned }
     ensures explained { (kinds : Kinds) → Agrees A.meanings table.now kinds
         → IfOk result (IsExplained kinds task.now (option_copied old.entry) decision.now basis.now) }
@@ -98,7 +98,7 @@ fn compared<A: Actions>(
     present: &Present,
 ) -> Result<Coming, AllocError>
     requires ready { IsReady A.meanings table.now task.now }
-    requires decides { Decides (option_copied old.entry) present.now decision.now }
+    requires decides { Decides (option_copied old) present.now decision.now }
     ensures reasoned { IfOk result IsReasoned }
     ensures explained { (kinds : Kinds) → Agrees A.meanings table.now kinds
         → IfOk result (IsCompared kinds task.now (option_copied old.entry) decision.now present.entry.now) }
@@ -120,7 +120,7 @@ fn due<A: Actions>(
 ) -> Result<Coming, AllocError>
     requires ready { IsReady A.meanings table.now task.now }
     requires due { decision.now ≢ Decision.UpToDate }
-    requires decides { Decides (option_copied old.entry) present.now decision.now }
+    requires decides { Decides (option_copied old) present.now decision.now }
     ensures reasoned { IfOk result IsReasoned }
     ensures explained { (kinds : Kinds) → Agrees A.meanings table.now kinds
         → IfOk result (IsCompared kinds task.now (option_copied old.entry) decision.now present.entry.now) }

@@ -87,15 +87,7 @@ pub fn prepare<F: Folder>(
         Look::HasNoSource => Ok(Prepared::HasNoSource),
         Look::Goes(inputs) => {
             let room = output_room(task.files.as_slice(), follows);
-            let found = decided(
-                alloc,
-                folder,
-                task,
-                options,
-                old,
-                inputs.as_slice(),
-                room,
-            )?;
+            let found = decided(alloc, folder, task, options, old, inputs.as_slice(), room)?;
             let outputs = found.outputs;
             Ok(Prepared::Decided(found.decision, found.basis, Seen { inputs, outputs }))
         }

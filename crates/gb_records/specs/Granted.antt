@@ -1,5 +1,4 @@
 -- What a build is promised under: beside a folder that tells what it holds.
-use Rattle.std.specs.Prelude.{List}
 use Rattle.gb_action.specs.Meanings.{Meanings}
 use Rattle.gb_folder.specs.Files.{Tearing}
 use Rattle.gb_history.specs.Places.{record_place}

@@ -1,43 +1,39 @@
 -- What was settled and read of a turn, as calls answered it.
-use Rattle.std.specs.Prelude.{ℕ, ◌≡◌, Bool, false, true, List, [], ◌∷◌, map, Option, Some, Result, Ok, Err, IfOk}
-use Rattle.std.specs.List.{AllByRecursion, AllZip}
+use Rattle.std.specs.Prelude.{ℕ, ◌≡◌, Bool, List, [], ◌∷◌, map, Option, Result, Ok, Err, IfOk}
+use Rattle.std.specs.List.{AllZip}
 use Rattle.std.proofs.Common.{refl, sym, ap, ap₂, subst, ◌∙◌}
 use mathlib.Core.Bool.{true≢false}
-use Rattle.sha2.specs.Sha256.{sha256}
 use Rattle.gb_action.specs.Changes.{Changes}
 use Rattle.gb_action.specs.Files.{Tree, Trees}
 use Rattle.gb_action.specs.declared.output.Form.{Form}
 use Rattle.gb_action.specs.declared.output.OutputFiles.{OutputFiles}
-use Rattle.gb_folder.specs.Calls.{Asks, Call, no_change}
-use Rattle.gb_folder.specs.Files.{Files, Tearing, is_empty}
+use Rattle.gb_folder.specs.Calls.{Call}
+use Rattle.gb_folder.specs.Files.{Tearing}
 use Rattle.gb_history.specs.Record.{Prints, Record}
 use Rattle.gb_history.specs.declared.decide.Decision.{Decision}
 use Rattle.gb_history.specs.declared.decide.Decision.TheVariants as decisions
-use Rattle.gb_history.specs.declared.decide.Present.{Present}
 use Rattle.gb_label.specs.Answered.{IsFoundCurrent, WasDecided, WasPrepared}
 use Rattle.gb_label.specs.Deciding.{IsPresentOf}
 use Rattle.gb_label.specs.Preparing.{MayPrepare}
 use Rattle.gb_label.specs.declared.prepare.Prepared.{Prepared}
 use Rattle.gb_label.specs.declared.prepare.Prepared.TheVariants as prepared
-use Rattle.gb_label.specs.declared.prepare.Seen.{Seen}
 use Rattle.gb_plan.specs.Task.{Path, seen_outputs}
 use Rattle.gb_plan.specs.declared.task.FileProperty.{FileProperty}
 use Rattle.gb_plan.specs.declared.task.Output.{Output}
 use Rattle.gb_plan.specs.declared.task.TaskDeclaration.{TaskDeclaration as Task}
 use Rattle.gb_report.specs.declared.fault.Fault.{Fault}
 use Rattle.gb_report.specs.declared.report.Options.{Options}
-use Rattle.gb_report.specs.declared.report.Outcome.{Outcome}
 use Rattle.gb_report.specs.declared.report.Outcome.TheVariants as outcomes
-use Rattle.gb_tree.specs.Answered.{AreOutputEntriesListed, IsTreeRead, WereSeen}
+use Rattle.gb_tree.specs.Answered.{IsTreeRead, WereSeen}
 use Rattle.gb_tree.specs.Prints.{digests_of}
 use Rattle.gb_tree.specs.Reading.{digests_seen, entries_seen}
 use Rattle.gb_tree.specs.declared.kept.SeenFile.{SeenFile}
 use Rattle.gb_label.specs.ReadingAnswered.{AreInputsAnswered, AreInputsRead, AreOutputsAnswered, AreOutputsRead, IsInputAnswered, IsInputRead, IsOutputAnswered, IsOutputRead}
 use Rattle.gb_label.specs.Reading.{AreInputs, AreOutputs, Read, digests_in, prints_read, prints_seen, records_with}
 use Rattle.gb_turn.specs.Anew.{anew_by}
-use Rattle.gb_turn.specs.Current.{IsCurrentOn, IsToldCurrent, WasReadAnew, WasSettled}
-use Rattle.gb_turn.specs.Settled.{idle_outcome, settled_as}
-use Rattle.gb_turn.specs.Turned.{IsToldOf, cleared_outcome, outcome_of}
+use Rattle.gb_turn.specs.Current.{IsCurrentOn, WasReadAnew, WasSettled}
+use Rattle.gb_turn.specs.Settled.{settled_as}
+use Rattle.gb_turn.specs.Turned.{cleared_outcome, outcome_of}
 use Rattle.gb_label.specs.declared.inputs.Inputs.{Inputs}
 use Rattle.gb_label.specs.declared.outputs.Outputs.{Outputs}
 

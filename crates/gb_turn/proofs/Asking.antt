@@ -1,5 +1,5 @@
 -- What the calls of a turn ask for together.
-use Rattle.std.specs.Prelude.{◌≡◌, ◌||◌, Bool, true, List, map, Option, None, Some, IsTrue}
+use Rattle.std.specs.Prelude.{◌≡◌, ◌||◌, true, List, map, Option, None, Some, IsTrue}
 use Rattle.std.specs.Cmp.Lexicographic.{bytes_decides}
 use Rattle.std.proofs.Common.{ℕ, refl, sym, ap, subst, inl, inr, ◌∙◌}
 use Rattle.gb_action.specs.Changes.{Changes}

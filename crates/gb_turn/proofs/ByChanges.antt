@@ -1,15 +1,15 @@
 -- A run by changes, from what its calls answer to the task's turn.
 use Rattle.gb_history.specs.Text.{record_text}
-use Rattle.std.specs.Prelude.{ℕ, ◌≡◌, ◌≤◌, ◌⊎◌, Bool, false, true, List, [], None, Result, Ok, Err, OnErr, IfErr, map, Some, ◌||◌}
+use Rattle.std.specs.Prelude.{ℕ, ◌≡◌, ◌≤◌, Bool, false, true, List, [], None, Result, Ok, Err, OnErr, IfErr, map, Some, ◌||◌}
 use Rattle.std.specs.FinMap.Entries.{is_sorted}
 use Rattle.std.specs.List.{AllByRecursion, list_any}
-use Rattle.std.proofs.Common.{refl, sym, subst, ◌∙◌, inl, inr}
+use Rattle.std.proofs.Common.{refl, sym, subst, ◌∙◌, inl}
 use Rattle.gb_action.specs.Changes.{Changes}
 use Rattle.gb_action.specs.Files.{Trees}
 use Rattle.gb_action.specs.declared.output.OutputFiles.{OutputFiles}
 use Rattle.gb_core.specs.Lists.{byte_order}
 use Rattle.gb_core.specs.Path.{is_task_path}
-use Rattle.gb_folder.specs.Files.{Contents, Files, Place, SameTearing, Tearing, is_empty, is_own}
+use Rattle.gb_folder.specs.Files.{Contents, Place, SameTearing, Tearing, is_empty, is_own}
 use Rattle.gb_history.specs.Places.{record_place}
 use Rattle.gb_history.specs.Record.{Prints}
 use Rattle.gb_label.specs.Deciding.{HasNamesInOrder}

@@ -1,5 +1,5 @@
 -- The execution of a task asks for what its outcome lets it ask for.
-use Rattle.std.specs.Prelude.{ℕ, ◌≡◌, true, false, Err, IsTrue, List, Ok, Option, Result}
+use Rattle.std.specs.Prelude.{ℕ, ◌≡◌, true, Err, IsTrue, List, Ok, Option, Result}
 use Rattle.std.proofs.Common.{refl, subst, sym, ◌∙◌, true≢false}
 use Rattle.gb_action.specs.Meanings.{Meanings}
 use Rattle.gb_folder.specs.Calls.{Asks, Call, no_change}

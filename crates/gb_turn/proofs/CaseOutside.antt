@@ -1,5 +1,5 @@
 -- What a turn is prepared for in a whole folder it is in the folder without the tool's own files.
-use Rattle.std.specs.Prelude.{◌≡◌, ◌++◌, Bool, true, false, List, [], ◌∷◌, map, if◌then◌else◌, Option, Some, None}
+use Rattle.std.specs.Prelude.{◌≡◌, ◌++◌, Bool, true, false, List, [], ◌∷◌, map, if◌then◌else◌}
 use Rattle.std.specs.List.{flat_map, list_any}
 use Rattle.std.proofs.Common.{refl, sym, ap, ap₂, subst, ◌∙◌}
 use Rattle.gb_action.specs.Files.{Trees}
@@ -10,7 +10,6 @@ use Rattle.gb_label.specs.declared.deciding.Basis.{Basis}
 use Rattle.gb_label.specs.declared.deciding.Basis.TheVariants as bases
 use Rattle.gb_label.specs.declared.deciding.Cause.TheVariants as causes
 use Rattle.gb_label.specs.declared.prepare.Prepared.TheVariants as prepared
-use Rattle.gb_meaning.specs.Label.{HasNoActions, HasNoSource, Skips}
 use Rattle.gb_meaning.specs.Tree.{told_of_tree, trees_of}
 use Rattle.gb_meaning.specs.TrueRecord.{outside}
 use Rattle.gb_plan.proofs.Tests.{none_left, none_right}

@@ -7,7 +7,7 @@ use Rattle.gb_history.specs.declared.decide.Decision.TheVariants as decisions
 use Rattle.gb_label.specs.declared.prepare.Prepared.TheVariants as prepared
 use Rattle.gb_label.proofs.Cases.{cased}
 use Rattle.gb_meaning.specs.Kinds.{Kinds}
-use Rattle.gb_meaning.specs.Label.{AreChanges, Early, HasNoActions, HasNoSource, IsCurrent, IsIncremental, IsLabelAt, Moment, Skips, changes_from, early_case, has_one_writer, some_outcome}
+use Rattle.gb_meaning.specs.Label.{AreChanges, Early, HasNoActions, IsCurrent, IsIncremental, IsLabelAt, Moment, Skips, changes_from, early_case, has_one_writer, some_outcome}
 use Rattle.gb_meaning.specs.Memory.{World}
 use Rattle.gb_meaning.specs.Tree.{has_no_source, input_faults, listing_faults, trees_of}
 use Rattle.gb_meaning.specs.Turn.{Leaves, Prints, lines_of}

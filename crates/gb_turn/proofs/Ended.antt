@@ -1,5 +1,5 @@
 -- What a full run leaves that ended well, and what is recorded of it.
-use Rattle.std.specs.Prelude.{◌≡◌, Bool, true, false, not, cond, List, [], map, Option, None, Ok}
+use Rattle.std.specs.Prelude.{◌≡◌, Bool, true, false, not, cond, List, map, Option, None, Ok}
 use Rattle.std.specs.FinMap.Entries.{is_sorted}
 use Rattle.std.specs.List.{list_any}
 use Rattle.std.proofs.Common.{refl, sym, ap, ◌∙◌}

@@ -42,7 +42,7 @@ use Rattle.gb_tree.specs.Prints.{digests_of}
 use Rattle.gb_tree.proofs.Digests.{same_changes}
 use Rattle.gb_label.specs.ReadingAnswered.{AreInputsRead}
 use Rattle.gb_label.specs.Reading.{digests_in, prints_seen, records_with, seen_of}
-use Rattle.gb_turn.specs.Keeping.{IsRecordOf, run_now}
+use Rattle.gb_turn.specs.Keeping.{IsRecordOf}
 use Rattle.gb_turn.specs.Truth.{AreMadeOf, FullRunsAreTrue, IsTextOfTrue, IsTrueBeside, LieApart, RunsByChangesStayTrue, UpToDateIsMade, contents_read}
 use Rattle.gb_turn.proofs.Made.{made_folder}
 use Rattle.gb_turn.proofs.Since.{all_sorted}

@@ -1,5 +1,5 @@
 -- What a turn goes by, as calls answered it, over any folder.
-use Rattle.std.specs.Prelude.{ℕ, ◌≡◌, true, false, List, map, Option, Some, ⊤}
+use Rattle.std.specs.Prelude.{ℕ, ◌≡◌, false, List, map, Option, Some}
 use Rattle.gb_action.specs.Files.{Trees}
 use Rattle.gb_action.specs.declared.output.OutputFiles.{OutputFiles}
 use Rattle.gb_folder.specs.Calls.{Call}

@@ -1,5 +1,5 @@
 -- What an execution did that ended well, over any folder: by which calls, and with which bytes.
-use Rattle.std.specs.Prelude.{ℕ, ◌≡◌, ◌⊎◌, false, true, if◌then◌else◌, List, [], ◌∷◌, map, Option, Some, Ok, IsTrue}
+use Rattle.std.specs.Prelude.{ℕ, ◌≡◌, ◌⊎◌, false, if◌then◌else◌, List, [], ◌∷◌, map, Option, Some, Ok, IsTrue}
 use Rattle.gb_action.specs.Changes.{Changes}
 use Rattle.gb_action.specs.Files.{Trees}
 use Rattle.gb_action.specs.Meanings.{Meanings}

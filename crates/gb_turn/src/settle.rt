@@ -96,7 +96,12 @@ fn settled_by(
         Ok(Prepared::Skips) => told(alloc, task, path, Outcome::Skipped),
         Ok(Prepared::HasNoActions) => told(alloc, task, path, idle_outcome(has_executed_need)),
         Ok(Prepared::HasNoSource) => Settled::Sourceless(path),
-        Ok(Prepared::Decided(Decision::UpToDate, _, _)) => told(alloc, task, path, Outcome::UpToDate),
+        Ok(Prepared::Decided(Decision::UpToDate, _, _)) => told(
+            alloc,
+            task,
+            path,
+            Outcome::UpToDate,
+        ),
         Ok(Prepared::Decided(decision, _, seen)) => Settled::Due(path, decision, seen),
         Err(fault) => told(alloc, task, path, Outcome::Failed(fault)),
     }

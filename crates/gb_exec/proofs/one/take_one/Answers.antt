@@ -21,7 +21,6 @@ use Rattle.gb_exec.proofs.Hearing.{heard_passed, heard_started, untold}
 use Rattle.gb_exec.proofs.Outlining.{outline_passed, outline_started}
 use Rattle.gb_exec.proofs.Taking.{own_apart, read_so, turn_passed, turn_started}
 use Rattle.gb_history.specs.Record.{Record}
-use Rattle.gb_report.specs.declared.report.Outcome.{Outcome}
 use Rattle.gb_turn.specs.ByOutcome.{TurnAsks}
 use Rattle.std.specs.Prelude.{Option}
 use Rattle.gb_exec.proofs.one.take_one.Goals as goal

@@ -1,4 +1,4 @@
-use Rattle.std.proofs.Common.{◌≡◌, Bool, not, IfErr, IfOk, option_copied, sym, subst, ◌∙◌}
+use Rattle.std.proofs.Common.{◌≡◌, Bool, not, IfErr, IfOk, option_copied, sym, subst}
 use Rattle.gb_folder.specs.Files.{Contents, is_empty}
 use Rattle.gb_label.specs.Preparing.{GoesByAs, IsPrepared}
 use Rattle.gb_label.specs.Reading.{CannotRead}

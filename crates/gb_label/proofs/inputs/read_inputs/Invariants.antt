@@ -1,4 +1,4 @@
-use Rattle.std.proofs.Common.{◌≡◌, ◌≤◌, [], take, map, IsTrue}
+use Rattle.std.proofs.Common.{◌≡◌, [], take, map, IsTrue}
 use Rattle.std.specs.List.{AllZip, flat_map}
 use Rattle.gb_folder.specs.Calls.{Asks, no_change}
 use Rattle.gb_tree.specs.Prints.{digests_of}

@@ -1,4 +1,4 @@
-use Rattle.std.proofs.Common.{◌≡◌, ◌≤◌, IsTrue, length, map, take}
+use Rattle.std.proofs.Common.{◌≡◌, IsTrue, length, map, take}
 use Rattle.std.specs.List.{AllByRecursion, AllZip, zip}
 use Rattle.gb_folder.specs.Calls.{Asks, no_change}
 use Rattle.gb_label.specs.ReadingAnswered.{IsOutputAnswered, IsOutputRead}

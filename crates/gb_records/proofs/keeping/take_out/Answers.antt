@@ -6,7 +6,6 @@ use Rattle.gb_records.specs.Standing.{ComesToNothing, StandsWithout, taken_out}
 use Rattle.gb_records.proofs.Standing.{not_there}
 use Rattle.gb_records.proofs.Calls.{LeftAt, out_of, nothing_of, gone, stands_out}
 use Rattle.gb_records.proofs.Asked.{taken_as}
-use Rattle.gb_folder.proofs.Asked.{asks_nothing}
 use Rattle.gb_records.proofs.keeping.take_out.Goals as goal
 
 pub returns-then-not-was_read-clause-stands : goal.returns-then-not-was_read-clause-stands

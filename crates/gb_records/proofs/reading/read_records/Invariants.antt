@@ -1,4 +1,4 @@
-use Rattle.std.proofs.Common.{◌≡◌, ◌≤◌, IsTrue, take}
+use Rattle.std.proofs.Common.{◌≡◌, IsTrue, take}
 use Rattle.std.specs.List.{AllZip}
 use Rattle.gb_folder.specs.Calls.{Asks, no_change}
 use Rattle.gb_records.specs.Answered.{WasAnswered}

@@ -1,4 +1,4 @@
-use Rattle.std.proofs.Common.{◌≡◌, take}
+use Rattle.std.proofs.Common.{◌≡◌, ℕ, List, take}
 use Rattle.std.specs.List.{flat_map, zip}
 use Rattle.gb_action.specs.Files.{Tree, Trees}
 use Rattle.gb_plan.specs.declared.task.FileProperty.{FileProperty}

@@ -1,4 +1,5 @@
-use Rattle.std.proofs.Common.{◌≡◌, false, true, Some, Err, rules, sym, subst}
+use Rattle.std.proofs.Common.{◌≡◌, ◌∷◌, [], false, true, Ok, Some, Err, rules, sym, subst}
+use Rattle.gb_folder.specs.Calls.{Writes}
 use Rattle.gb_folder.specs.Files.{is_empty}
 use Rattle.gb_history.specs.Places.{record_place}
 use Rattle.gb_history.specs.Text.{record_text}
@@ -61,5 +62,6 @@ returns-in-Ok-clause-stored g c =
     let stored = c.in-Ok.ensures.stored in (
       stored.0,
       stored_one F.failures F.may_leave F.asked task c.args.run.now stored.0 c.args.folder.now c.put_in.new.folder some
-          (all_answered F.failures F.may_leave F.asked F.tells F.contents F.device g.met.F.Folder.said _ c.args.folder.now c.put_in.new.folder stored.1),
+          (all_answered F.failures F.may_leave F.asked F.tells F.contents F.device g.met.F.Folder.said
+          (Writes (record_place task.path) (record_text task.path c.args.run.now) stored.0 (Ok tt) ∷ []) c.args.folder.now c.put_in.new.folder stored.1),
     )

@@ -1,0 +1,544 @@
+#!/usr/bin/env python3
+"""Makes the parts of the documents that the code says.
+
+    bench/made.py          fails where a made part is not what would be written
+    bench/made.py --write  writes them
+
+- docs/CRATES.md, in the section of each crate: a table of the files of its src/, with the first sentence of
+  each file's head, and a table of the files of its specs/, with the first sentence of each file's first
+  comment. lib.rt and Lib.antt are left out.
+- docs/CALLS.md: the public types and calls of the crates in PUBLIC, each call with its signature, its comment
+  and its clauses.
+"""
+import os
+import re
+import sys
+import textwrap
+from dataclasses import dataclass, field
+
+ROOT = os.path.dirname(os.path.dirname(os.path.abspath(__file__)))
+COLUMNS = 110
+# The crates whose calls are listed, and the modules of them that are, if not all public ones.
+PUBLIC = {
+    "gb_build": None,
+    "gb_meaning": ["events"],
+    "gb_report": ["fault", "render", "report"],
+    "gb_exec": ["building", "listener"],
+    "gb_printer": ["page", "printer"],
+    "gb_words": ["words"],
+    "gb_command": None,
+    "gb_here": None,
+    "gb_answer": None,
+    "gb_kinds": None,
+    "gb_with": None,
+    "gb_script": ["lines", "script", "source"],
+    "gb_format": ["formatting"],
+    "gb_registry": None,
+    "gb_project": ["script_tasks", "workspaces"],
+    "gb_graph": ["plan", "tasks"],
+    "gb_plan": ["plan", "task"],
+    "gb_records": ["reading"],
+    "gb_history": ["decide", "history", "place", "record", "text"],
+    "gb_tree": ["changes", "digest", "output", "pattern", "prints", "property"],
+    "gb_provider": None,
+    "gb_action": None,
+    "gb_disk": ["disk"],
+    "gb_folder": None,
+    "gb_core": None,
+}
+FILES = "| File | What it has |"
+DEFINITIONS = "| Definitions | What they say |"
+INTRODUCTION = """\
+# The calls, by crate
+
+A reference for programs that embed builds or have kinds of actions of their own. It has the public types and
+calls of the crates that such programs name, of some crates only those of the modules that they need. Each
+has its comment, and each call its signature and the clauses of its contract. `bench/made.py --write` makes
+this page from the code.
+
+[From the task at hand to the call](CRATES.md#from-the-task-at-hand-to-the-call) says which call does what.
+[A tool of your own](EMBEDDING.md) goes through a whole program.
+
+How to read an entry:
+
+- A clause has a name. After the name comes the sentence that is in front of the clause in the code. A clause
+  without a sentence has its formula here if the formula is short, else its name alone.
+- *Asks* marks a premise: the caller has to prove it. A call without one may be called with any arguments.
+- `x.old` and `x.new` are a borrowed value before and after the call, and `x.now` is one that the call does
+  not change. `result` is what the call returns.
+- `IfOk result (λ x. ..)` is about a result without an error, `IfErr result (λ fault. ..)` about the error.
+  `OnOk result ..` and `OnErr result ..` are about the same two cases, without a name for the value.
+- A clause *where contents are known* holds of a folder type that has `tells`, such as a folder in memory.
+- A law is a call that does nothing at run time. Its clause is a fact for proofs.
+- Lines that begin with `impl` say which traits a type has, and what its parameters have to be.
+
+[Names in proofs](DEFINITIONS.md#names-in-proofs) says what the words of formulas mean.
+"""
+
+
+def read(path):
+    with open(os.path.join(ROOT, path), encoding="utf-8") as file:
+        return file.read()
+
+
+def files_in(folder, ending):
+    path = os.path.join(ROOT, folder)
+    return sorted(name for name in os.listdir(path) if name.endswith(ending))
+
+
+# Heads
+
+
+def head_of(path, mark):
+    """The first comment of a file: its lines from the first one on that begin with the mark."""
+    lines = []
+    for line in read(path).split("\n"):
+        if not line.startswith(mark):
+            break
+        lines.append(line[len(mark) :].strip())
+    return lines
+
+
+def paragraph(lines):
+    """The lines up to the first empty one, as one text."""
+    return " ".join(lines[: lines.index("")] if "" in lines else lines)
+
+
+def first_sentence(text):
+    """The text up to its first full stop: a stop before a space, that is no part of `..`."""
+    stop = re.search(r"(?<!\.)\.(?=\s|$)", text)
+    return text[: stop.start()] if stop else text
+
+
+def plain(text):
+    """A comment of the code as it stands in a document: links to items are names."""
+    return re.sub(r"\[(`[^`]*`)\](?:\([^)]*\))?", r"\1", text)
+
+
+def cell(text):
+    return plain(text).replace("|", "\\|")
+
+
+# The tables of files
+
+
+def row(name, path, mark):
+    return f"| `{name}` | {cell(first_sentence(paragraph(head_of(path, mark))))} |"
+
+
+def specs_of(crate):
+    """The files of definitions, in the order in which Lib.antt names them."""
+    if not os.path.isdir(os.path.join(ROOT, f"crates/{crate}/specs")):
+        return []
+    names = re.findall(r"(?m)^(?:pub )?mod (\w+)$", read(f"crates/{crate}/specs/Lib.antt"))
+    there = [name[: -len(".antt")] for name in files_in(f"crates/{crate}/specs", ".antt")]
+    return [name for name in names if name in there] + [
+        name for name in there if name not in names and name != "Lib"
+    ]
+
+
+def tables(crate):
+    """The tables of a crate's files, as lines."""
+    lines = [FILES, "|---|---|"]
+    sources = [name for name in files_in(f"crates/{crate}/src", ".rt") if name != "lib.rt"]
+    lines += [row(name, f"crates/{crate}/src/{name}", "//!") for name in sources]
+    specs = specs_of(crate)
+    if specs:
+        lines += ["", DEFINITIONS, "|---|---|"]
+        lines += [row(name, f"crates/{crate}/specs/{name}.antt", "--") for name in specs]
+    return lines
+
+
+def without_tables(lines):
+    """The lines of a section without its tables of files, and where the first of them was."""
+    kept, at, inside = [], None, False
+    for line in lines:
+        if line in (FILES, DEFINITIONS):
+            at, inside = len(kept) if at is None else at, True
+        if inside and not line.startswith("|"):
+            inside = False
+            if line == "" and kept and kept[-1] == "":
+                continue
+        if not inside:
+            kept.append(line)
+    return kept, len(kept) if at is None else at
+
+
+def crates_page():
+    """docs/CRATES.md with the tables that the files say."""
+    parts = re.split(r"(?m)^(?=## )", read("docs/CRATES.md"))
+    return "".join(section(part) for part in parts)
+
+
+def section(part):
+    name = re.match(r"## (gb\w*)\n", part)
+    if not name:
+        return part
+    lines, at = without_tables(part.rstrip("\n").split("\n"))
+    before, after = "\n".join(lines[:at]).rstrip("\n"), "\n".join(lines[at:]).strip("\n")
+    return "\n\n".join(text for text in (before, "\n".join(tables(name[1])), after) if text) + "\n\n"
+
+
+# The calls
+
+
+@dataclass
+class Clause:
+    asks: bool
+    name: str
+    formula: str
+    sentence: str = ""
+
+
+@dataclass
+class Call:
+    signature: list
+    comment: str
+    clauses: list = field(default_factory=list)
+
+
+@dataclass
+class Owner:
+    """A type, a trait, or a module, with its calls."""
+
+    title: str
+    comment: str
+    calls: list = field(default_factory=list)
+    definition: list = field(default_factory=list)
+
+
+def public_modules(crate):
+    if PUBLIC[crate] is not None:
+        return PUBLIC[crate]
+    text = read(f"crates/{crate}/src/lib.rt")
+    modules = re.findall(r"(?m)^pub mod (\w+);", text)
+    # Macros are exported wherever they stand.
+    for module in re.findall(r"(?m)^mod (\w+);", text):
+        if "#[macro_export]" in read(f"crates/{crate}/src/{module}.rt"):
+            modules.append(module)
+    return sorted(modules)
+
+
+class Reader:
+    """Reads the public items of a file."""
+
+    def __init__(self, text):
+        self.lines = text.split("\n")
+        self.at = 0
+        self.comment = []
+        self.owners = []
+        self.inside = None
+        self.header = []
+        self.exported = False
+
+    def owner(self, title, comment=""):
+        for owner in self.owners:
+            if owner.title == title:
+                owner.comment = owner.comment or comment
+                return owner
+        self.owners.append(Owner(title, comment))
+        return self.owners[-1]
+
+    def items(self):
+        while self.at < len(self.lines):
+            self.item(self.lines[self.at])
+        return self.owners
+
+    def item(self, line):
+        bare = line.strip()
+        if bare.startswith("///"):
+            self.comment.append(bare[3:].strip())
+        elif bare.startswith("#["):
+            self.exported = self.exported or bare == "#[macro_export]"
+        elif self.begins_owner(line) or self.begins_call(line):
+            return
+        elif bare:
+            self.comment, self.exported = [], False
+        if line == "}":
+            self.inside = None
+        self.at += 1
+
+    def begins_owner(self, line):
+        """A type, a trait or an implementation begins here."""
+        named = re.match(r"pub (struct|enum|trait|type|const) (\w+)", line)
+        macro = re.match(r"macro_rules! (\w+)", line)
+        if named:
+            owner = self.owner(f"{named[1]} {named[2]}", self.taken())
+            owner.definition = self.definition(named[1])
+            self.inside = owner if named[1] == "trait" else None
+        elif macro and self.exported:
+            self.owner(f"macro {macro[1]}!", self.taken())
+        elif line.startswith("impl"):
+            kind = re.match(r"impl(?:<.*?>)? (\w+)(?:<.*>)? \{", line)
+            self.inside = self.of_type(kind[1]) if kind and " for " not in line else None
+            self.header = [line[: -len(" {")]] if line.startswith("impl<") else []
+            self.taken()
+        else:
+            return False
+        self.at += 1
+        return True
+
+    def definition(self, kind):
+        """What users see of a type: the variants of an enum, the public fields of a struct, with comments."""
+        line = self.lines[self.at]
+        if kind in ("type", "const"):
+            return [line] if line.endswith(";") else []
+        if kind == "trait" or not line.endswith("{"):
+            return []
+        end = self.lines.index("}", self.at)
+        inner = [row for row in self.lines[self.at + 1 : end] if not row.strip().startswith("#[")]
+        kept = inner if kind == "enum" else public_fields(inner)
+        return [line, *kept, "}"] if kept else []
+
+    def of_type(self, name):
+        for owner in self.owners:
+            if owner.title.split()[-1] == name:
+                return owner
+        return self.owner(f"struct {name}")
+
+    def begins_call(self, line):
+        in_trait = self.inside is not None and self.inside.title.startswith("trait ")
+        form = r"    (ghost \w+:|type \w+|(?:pub )?fn \w+)" if in_trait else r"(    )?pub fn \w+"
+        if not re.match(form, line):
+            return False
+        nested = line.startswith("    ")
+        comment = self.taken()
+        # The first call of an implementation shows what its types have to be.
+        header, self.header = (self.header if nested and not in_trait else []), []
+        call = Call(header + self.signature(), comment)
+        call.clauses = self.clauses()
+        if not nested:
+            self.owner("").calls.append(call)
+        elif self.inside is not None:
+            self.inside.calls.append(call)
+        return True
+
+    def taken(self):
+        text, self.comment, self.exported = "\n".join(self.comment), [], False
+        return text
+
+    def signature(self):
+        """The lines of a signature, as they are laid out in the code."""
+        lines = []
+        while True:
+            line = self.lines[self.at]
+            bare = line.strip()
+            if re.match(r"(requires|ensures)\b", bare) or bare.startswith("//") or bare in ("{", "{}", ""):
+                break
+            self.at += 1
+            lines.append(re.sub(r" \{$| \{\}$|;$", "", line.rstrip()))
+            if bare.endswith((";", " {", " {}")):
+                break
+        return textwrap.dedent("\n".join(lines)).split("\n")
+
+    def clauses(self):
+        """The clauses of the contract that begins here: up to the body, or to the end of the item."""
+        clauses, sentence, free, ended = [], [], False, False
+        if self.lines[self.at - 1].strip().endswith((";", " {", " {}")):
+            return clauses
+        while not ended:
+            bare = self.lines[self.at].strip()
+            begun = re.match(r"(requires|ensures)(?: (\w+))? \{ ?", bare)
+            if begun:
+                clause, ended = self.clause(begun)
+                # A comment behind an empty line is of all clauses below it: `tells` stands in each of these.
+                clause.sentence = "" if free else " ".join(sentence)
+                sentence, free = [], False
+                clauses.append(clause)
+                continue
+            if bare in ("{", "{}", "}"):
+                break
+            free = free or bare == ""
+            if bare.startswith("//"):
+                sentence.append(bare[2:].strip())
+            self.at += 1
+        return clauses
+
+    def clause(self, begun):
+        """A clause with its formula, up to the brace that closes it; whether the item ends with it."""
+        depth, text = 0, ""
+        while True:
+            bare = self.lines[self.at].strip()
+            self.at += 1
+            text += (" " if text else "") + bare
+            depth += bare.count("{") - bare.count("}")
+            if depth == 0:
+                break
+        ended = text.endswith(";")
+        formula = text[begun.end() :].rstrip(";").rstrip()
+        formula = formula[:-1].strip() if formula.endswith("}") else formula
+        return Clause(begun[1] == "requires", begun[2] or "", formula), ended
+
+
+def public_fields(lines):
+    """The public fields, each with its comment."""
+    kept, comment = [], []
+    for line in lines:
+        if line.strip().startswith("///"):
+            comment.append(line)
+            continue
+        kept += comment + [line] if line.startswith("    pub ") else []
+        comment = []
+    return kept
+
+
+def filled(text, first="", rest=""):
+    return textwrap.wrap(
+        text,
+        COLUMNS,
+        initial_indent=first,
+        subsequent_indent=rest,
+        break_long_words=False,
+        break_on_hyphens=False,
+    )
+
+
+def comment_lines(comment, first="", rest=""):
+    """The paragraphs of a comment; a table and a list keep their lines."""
+    lines = []
+    for part in re.split(r"\n\n+", plain(comment)):
+        if not part:
+            continue
+        if lines:
+            lines.append("")
+        if re.match(r"\||[*-] ", part):
+            lines += [rest + line for line in part.split("\n")]
+        else:
+            lines += filled(" ".join(part.split("\n")), first if not lines else rest, rest)
+    return lines
+
+
+def clause_text(clause):
+    begin = "*Asks* " if clause.asks else ""
+    name = f"`{clause.name}`" if clause.name else ""
+    if clause.sentence:
+        said = plain(clause.sentence)
+    elif len(clause.formula) <= (90 if clause.name else 250) and "`" not in clause.formula:
+        said = f"`{clause.formula}`"
+    else:
+        said = ""
+    return begin + ": ".join(part for part in (name, said) if part)
+
+
+def is_known(clause):
+    """Whether it speaks of folders that tell what they hold alone."""
+    return bool(re.match(r"IsTrue (\w\.)?tells → ", clause.formula))
+
+
+def contract_lines(clauses):
+    """The clauses, those with a text each on its own, the names of the others behind one another."""
+    lines, alone = [], {}
+    for clause in clauses:
+        text = clause_text(clause)
+        known = is_known(clause)
+        if text == f"`{clause.name}`" or text == f"*Asks* `{clause.name}`":
+            alone.setdefault((clause.asks, known), []).append(f"`{clause.name}`")
+        elif text:
+            if known and clause.sentence:
+                text = text.replace(": ", ", where contents are known: ", 1)
+            lines += filled(text, "- ", "  ")
+    for (asks, known), names in alone.items():
+        begin = "*Asks* " if asks else ""
+        end = ", where contents are known" if known else ""
+        lines += filled(f"{begin}{', '.join(names)}{end}", "- ", "  ")
+    return lines
+
+
+def call_lines(call):
+    lines = [""] + ["    " + line for line in call.signature]
+    comment = comment_lines(call.comment)
+    contract = contract_lines(call.clauses)
+    for part in (comment, contract):
+        if part:
+            lines += [""] + part
+    return lines
+
+
+def traits():
+    """The public traits of all listed crates."""
+    names = set()
+    for crate in PUBLIC:
+        for module in files_in(f"crates/{crate}/src", ".rt"):
+            names.update(re.findall(r"(?m)^pub trait (\w+)", read(f"crates/{crate}/src/{module}")))
+    return names
+
+
+def implemented(crate, known):
+    """The heads of the crate's implementations of these traits, by the name of the type."""
+    heads = {}
+    for module in files_in(f"crates/{crate}/src", ".rt"):
+        for head in re.findall(r"(?m)^(impl\b.* for .*) \{$", read(f"crates/{crate}/src/{module}")):
+            trait = re.match(r"impl(?:<.*>)? ([\w:]+?)(?:<.*>)? for (\w+)", head)
+            if trait and trait[1] in known:
+                heads.setdefault(trait[2], []).append("    " + head)
+    return heads
+
+
+def handed_on(text):
+    """The names of other crates that a file hands on, a line for each crate."""
+    names = {}
+    for path, group, other in re.findall(r"(?ms)^pub use ([\w:]+?)(?:::\{(.*?)\})?(?: as (\w+))?;", text):
+        parts = [part.strip() for part in group.split(",") if part.strip()] or [other or path.split("::")[-1]]
+        names.setdefault(path.split("::")[0], []).extend(parts)
+    names.pop("crate", None)
+    lines = ["", "It re-exports:", ""] if names else []
+    for crate, parts in names.items():
+        lines += filled(f"of `{crate}`: " + ", ".join(f"`{part}`" for part in parts), "- ", "  ")
+    return lines
+
+
+def module_lines(crate, module, heads):
+    path = f"crates/{crate}/src/{module}.rt"
+    owners = Reader(read(path)).items()
+    body = handed_on(read(path))
+    for owner in owners:
+        if not owner.title:
+            body += ["", "**functions**"] if len(owners) > 1 and owner.calls else []
+            for call in owner.calls:
+                body += call_lines(call)
+        elif owner.comment or owner.calls:
+            kind, name = owner.title.split(" ", 1)
+            text = f"**{kind} `{name}`**" + (f": {owner.comment}" if owner.comment else "")
+            body += [""] + comment_lines(text)
+            definition = ["    " + line for line in owner.definition] + heads.get(name, [])
+            body += [""] * bool(definition) + definition
+            for call in owner.calls:
+                body += call_lines(call)
+    if not body:
+        return []
+    head = plain(paragraph(head_of(path, "//!")))
+    return ["", f"### `{crate}::{module}`", ""] + filled(head) + body
+
+
+def calls_page():
+    lines = INTRODUCTION.rstrip("\n").split("\n") + [""]
+    heads = {crate: plain(paragraph(head_of(f"crates/{crate}/src/lib.rt", "//!"))) for crate in PUBLIC}
+    known = traits()
+    for crate, head in heads.items():
+        lines += filled(f"[{crate}](#{crate}): {head}", "- ", "  ")
+    for crate, head in heads.items():
+        lines += ["", f"## {crate}", ""] + filled(head) + handed_on(read(f"crates/{crate}/src/lib.rt"))
+        for module in public_modules(crate):
+            lines += module_lines(crate, module, implemented(crate, known))
+    return "\n".join(lines) + "\n"
+
+
+def main(words):
+    pages = {"docs/CRATES.md": crates_page().rstrip("\n") + "\n", "docs/CALLS.md": calls_page()}
+    status = 0
+    for path, text in pages.items():
+        there = read(path) if os.path.exists(os.path.join(ROOT, path)) else ""
+        if text == there:
+            continue
+        if words == ["--write"]:
+            with open(os.path.join(ROOT, path), "w", encoding="utf-8") as file:
+                file.write(text)
+            print(f"{path}: written")
+        else:
+            print(f"{path}: not what `bench/made.py --write` writes")
+            status = 1
+    return status
+
+
+if __name__ == "__main__":
+    sys.exit(main(sys.argv[1:]))
