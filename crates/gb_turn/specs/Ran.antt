@@ -38,9 +38,9 @@ stores task run limit =
     if is_empty task.outputs then []
     else Writes (record_place task.path) (record_text task.path run) limit (Ok tt) ∷ []
 
--- In full on these trees: the record was deleted and the outputs were emptied; the files that the actions make
--- of these trees were written, and each write and removal was answered as done; these are the lines of the
--- actions; and the record of just this was stored.
+-- In full on these trees: first nothing was removed but the record and files at the outputs; then came just the
+-- calls that write what the actions make of these trees, each answered as done; these are the lines of the
+-- actions; and the last call stored the record of just this.
 pub record RanInFull {F S : Type 0} (failures : F → ℕ) (may_leave : F → Tearing)
     (asked : F → Call → F → Type 0) (meanings : Meanings S) (rows : Rows S) (task : Task) (trees : Trees)
     (lines : List Text) (old new : F) : Type 0 where
@@ -56,9 +56,10 @@ pub record RanInFull {F S : Type 0} (failures : F → ℕ) (may_leave : F → Te
   pub limit : ℕ
   pub stored : AreAnswered failures may_leave asked done (stores task run limit) new
 
--- By these changes from outputs with these files: the record was deleted; what the actions answer to the
--- changes was done, each call answered so; and the record of just this was stored. It is one of these trees
--- where the outputs were made of old trees from which the changes lead to the new ones.
+-- By these changes from outputs with these files: first nothing was removed but the record; then came just the
+-- calls for what the actions answer to the changes, each answered as done (or that a file to be removed is
+-- not there); these are their lines; and the last call stored the record of just this. The record is one of
+-- these trees where the outputs were made of old trees from which the changes lead to the new ones.
 pub record RanByChanges {F S : Type 0} (failures : F → ℕ) (may_leave : F → Tearing)
     (asked : F → Call → F → Type 0) (meanings : Meanings S) (rows : Rows S) (task : Task) (trees : Trees)
     (changes : List Changes) (seen : List OutputFiles) (lines : List Text) (old new : F) : Type 0 where
