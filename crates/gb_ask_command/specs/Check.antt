@@ -1,4 +1,4 @@
--- What is replied where faults are asked for.
+-- The reply to `check`.
 use Rattle.std.specs.Prelude.{ℕ, ◌≡◌, ◌⊎◌, ◌++◌, Bool, IfOk, IsTrue, List, [], Result, Ok, Err, if◌then◌else◌}
 use Rattle.std.specs.Prelude.{nat_eq, string_bytes}
 use Rattle.std.specs.List.{flat_map}
@@ -47,17 +47,18 @@ IsNotForATask registry asked before after fault =
     ⊎ ((plan : Plan) × IsScheduleFault plan fault)))
 
 module _ {M F Z S A : Type 0} (tables : Tables M F Z S A) where
-  -- The theorem of silence, for builds of this folder with these values: whatever else is asked for, a refusal
-  -- is for no task.
+  -- The theorem of silence, for builds of this folder with these values: whatever else is requested, no task
+  -- is the reason for a refusal.
   abbrev pub IsQuiet : Source → Contents → List (Text × Text) → Type 0
   IsQuiet source contents given =
       (asked : Invocation) (failures after : ℕ) (fault : Fault) → asked.properties ≡ given
-      → IsNotBuilt (registers_in tables) (record { contents = contents; failures = failures }) asked fault after
+      → IsNotBuilt (registers_in tables) (record { contents = contents; failures = failures }) asked fault
+      after
       → IsNotForATask (registry_said tables source) asked failures after fault
 
 module _ {M F Z S A : Type 0} (tables : Tables M F Z S A) (tells : Bool) where
   -- What is found of what some scripts say. A warning of each value that nothing reads comes before those of
-  -- tasks. Where the folder tells, the scripts are its own.
+  -- tasks. Where the contents of the folder are known, the scripts are its own.
   pub record AreFindingsOf (source : Source) (contents : Contents) (found : Findings) : Type 0 where
     pub scripts : List (Path × List Statement)
     pub are_scripts : flat_map said_by scripts ≡ source.said
@@ -71,7 +72,8 @@ module _ {M F Z S A : Type 0} (tables : Tables M F Z S A) (tells : Bool) where
     pub source : Source
     pub said : IsTrue tells → FolderSays tables contents.files asked.properties (Ok source)
     pub found_of : AreFindingsOf source contents found
-    pub quiet : IsTrue tells → string_bytes found.faults ≡ [] → IsQuiet tables source contents asked.properties
+    pub quiet : IsTrue tells → string_bytes found.faults ≡ []
+        → IsQuiet tables source contents asked.properties
 
   abbrev pub IsCheckReply : Invocation → Contents → CheckReply → Type 0
   IsCheckReply asked contents reply = IfOk reply (IsChecked asked contents)

@@ -9,8 +9,8 @@ ghost use Rattle.gb_printer.specs.Printing.{Prints};
 ghost use Rattle.gb_registry.specs.Seen.{scripts_in};
 ghost use Rattle.gb_registry.specs.Tables.{tables_of};
 ghost use Rattle.gb_check.specs.All.{AreFindings};
-ghost use Rattle.gb_ask_command.specs.Check.{AreFindingsOf, CheckReply, IsCheckReply, RepliesCheck, check_status};
-ghost use Rattle.gb_ask_command.specs.Check.{check_text};
+ghost use Rattle.gb_ask_command.specs.Check.{AreFindingsOf, CheckReply, IsCheckReply, RepliesCheck};
+ghost use Rattle.gb_ask_command.specs.Check.{check_status, check_text};
 
 use crate::unread::warn_unread;
 use gb_action::actions::Actions;

@@ -17,7 +17,7 @@ use gb_script::script::{Call, Clause, Statement};
 use std::alloc::{AllocError, Global};
 use std::fmt::Write;
 
-/// Looks for the value of a name. It finds a fault, which stands for a mark.
+/// Looks for the value of a name. Where it finds one, it answers a fault as a mark.
 #[derive(Drop)]
 struct Marked<'a> {
     name: &'a Name,

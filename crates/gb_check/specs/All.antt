@@ -10,8 +10,8 @@ use Rattle.gb_check.specs.Warnings.{AreWarnings}
 use Rattle.gb_check.specs.declared.finding.Findings.{Findings}
 use Rattle.gb_check.specs.declared.sites.Site.{Site}
 
--- What is found of a registry whose tasks these scripts register. Where the folder tells, the lines are those
--- of its scripts.
+-- What is found of a registry whose tasks these scripts register. Where the contents of the folder are known,
+-- the lines are those of its scripts.
 pub record AreFindings (tells : Bool) (contents : Contents) (registry : Registry)
     (scripts : List (Path × List Statement)) (findings : Findings) : Type 0 where
   pub sites : List Site

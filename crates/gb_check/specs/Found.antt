@@ -31,7 +31,7 @@ where_text sites path = option_map_or site_text (find (λ site. bytes_eq site.pa
 abbrev pub found_text : List Site → Path → Fault → List ℕ
 found_text sites path fault = line (where_text sites path ++ fault_text fault)
 
--- the task whose line is told of a fault of a plan: the first that the fault names
+-- the task whose line is printed for the fault of a plan: the first that the fault names
 abbrev pub first_path : List Path → Option Path
 first_path [] = None
 first_path (path ∷ paths) = Some path

@@ -67,7 +67,7 @@ abbrev pub all_roots : Registry → List Rooted
 all_roots registry =
     of_each (λ path task. flat_map (λ property. map (rooted path) property.roots) task.files) registry
 
--- Nothing is at the root or beneath it, and no task makes anything there.
+-- Nothing is at the root or under it, and no task makes anything there.
 abbrev pub is_bare : Contents → List Place → Place → Bool
 is_bare contents outputs root =
     not (list_any (overlaps root) outputs) && is_empty (places_under contents.files root)
@@ -85,8 +85,8 @@ bare_roots_text sites contents registry =
 
 -- ---- All of them
 
--- The warnings of file properties, and of roots: where the folder tells, of those in it that have
--- no files.
+-- The warnings of file properties, and of roots: where the contents of the folder are known, of those in it
+-- that have no files.
 pub record AreWarnings (tells : Bool) (sites : List Site) (contents : Contents) (registry : Registry)
     (text : List ℕ) : Type 0 where
   pub bare : List ℕ

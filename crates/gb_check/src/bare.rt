@@ -19,7 +19,7 @@ use gb_store::faults::fault_at;
 use std::alloc::{AllocError, Global};
 use std::fmt::Write;
 
-/// A warning for each root of a file property at which and beneath which nothing is, unless a task makes
+/// A warning for each root of a file property at which and under which nothing is, unless a task makes
 /// something there.
 pub(crate) fn warn_bare<Ts: Tasks, F: Folder>(
     alloc: Global,
@@ -88,7 +88,7 @@ fn push_bare(text: &mut String, sites: &[Site], rooted: &Rooted) -> Result<(), A
     writeln!(text, "warning: no file is at {root}")
 }
 
-/// Whether nothing is at a root or beneath it, and no task makes anything there.
+/// Whether nothing is at a root or under it, and no task makes anything there.
 fn is_bare<F: Folder>(
     alloc: Global,
     folder: &mut F,

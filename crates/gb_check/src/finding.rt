@@ -1,4 +1,4 @@
-//! All that is wrong with registered tasks, and what is odd about them.
+//! The faults of registered tasks, and warnings.
 ghost use Rattle.std.specs.Prelude.{◌≡◌, IfOk, IsTrue};
 ghost use Rattle.gb_folder.specs.Calls.{Asks, no_change};
 ghost use Rattle.gb_plan.specs.Graph.{paths_of};
@@ -27,8 +27,8 @@ pub struct Findings {
 /// What is found of the tasks that these scripts of a folder register. `names` are the paths of all tasks, in
 /// the order of registration.
 ///
-/// Faults: that of each task that has one, in that order, behind the script and the line that registers the
-/// task. Where none has, the reason why there is no plan of all tasks, behind the line of the first task that
+/// Faults: that of each task that has one, in that order, after the script and the line that registers the
+/// task. Where none has, the reason why there is no plan of all tasks, after the line of the first task that
 /// it names.
 ///
 /// Warnings: each two file properties of a task that have a root in common, and each root without files.

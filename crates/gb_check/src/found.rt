@@ -11,7 +11,7 @@ use gb_report::fault::Fault;
 use std::alloc::{AllocError, Global};
 use std::fmt::Write;
 
-/// Adds the fault of a task, behind the line that registers it.
+/// Adds the fault of a task, after the line that registers it.
 pub(crate) fn push_found(
     text: &mut String,
     sites: &[Site],
@@ -25,7 +25,7 @@ pub(crate) fn push_found(
     writeln!(text, "{fault}")
 }
 
-/// Adds the fault of a plan, behind the line that registers the first task that it names.
+/// Adds the fault of a plan, after the line that registers the first task that it names.
 pub(crate) fn push_planned(
     text: &mut String,
     sites: &[Site],
@@ -90,7 +90,7 @@ fn push_site(text: &mut String, site: Option<&Site>) -> Result<(), AllocError>
     }
 }
 
-/// The line of a fault for which scripts or arguments cannot be read: behind its script and its line, where
+/// The line of a fault for which scripts or arguments cannot be read: after its script and its line, where
 /// it is one of a text.
 pub fn unread_text(alloc: Global, fault: &Fault) -> Result<String, AllocError>
     ensures { IfOk result (λ text. string_bytes text ≡ unread_text fault.now) }
