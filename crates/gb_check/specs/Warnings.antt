@@ -1,7 +1,6 @@
 -- What is warned of.
-use Rattle.std.specs.Prelude.{ℕ, ◌≡◌, ◌&&◌, Bool, not, IsTrue, List, [], ◌∷◌, ◌++◌, map, Option, Some, None}
-use Rattle.std.specs.Prelude.{Result, Ok, Err}
-use Rattle.std.specs.Prelude.{codes, if◌then◌else◌}
+use Rattle.std.specs.Prelude.{ℕ, ◌≡◌, ◌&&◌, ◌||◌, Bool, not, IsTrue, List, [], ◌∷◌, ◌++◌, map, Option, Some}
+use Rattle.std.specs.Prelude.{None, Result, Ok, Err, bytes_eq, codes, if◌then◌else◌}
 use Rattle.std.specs.List.{flat_map, list_any}
 use Rattle.gb_core.specs.Place.{overlaps}
 use Rattle.gb_folder.specs.Files.{Contents, Place, is_empty, is_odd_under, places_under}
@@ -19,17 +18,15 @@ use Rattle.gb_check.specs.declared.sites.Site.{Site}
 abbrev pub warning_text : List Site → Path → List ℕ → List ℕ
 warning_text sites path text = line (where_text sites path ++ codes "warning: " ++ text)
 
--- what is made of a task that is declared; nothing of one at fault
-abbrev pub of_declared : {X : Type 0} → (TaskDeclaration → List X) → Option (Result TaskDeclaration Fault)
-    → List X
-of_declared of (Some (Ok task)) = of task
-of_declared of (Some (Err fault)) = []
-of_declared of None = []
+-- what a task is declared as; nothing where it has a fault
+abbrev pub declared_of : Option (Result TaskDeclaration Fault) → List TaskDeclaration
+declared_of (Some (Ok task)) = task ∷ []
+declared_of (Some (Err fault)) = []
+declared_of None = []
 
--- the same of each task, in the order of registration
-abbrev pub of_each : {X : Type 0} → (Path → TaskDeclaration → List X) → Registry → List X
-of_each of registry =
-    flat_map (λ path. of_declared (of path) (declaration_at registry path)) (paths_of registry)
+-- the tasks without a fault, in the order of registration
+abbrev pub declared_in : Registry → List TaskDeclaration
+declared_in registry = flat_map (λ path. declared_of (declaration_at registry path)) (paths_of registry)
 
 -- ---- Two file properties over one folder
 
@@ -49,23 +46,55 @@ pairs_text sites path [] = []
 pairs_text sites path (first ∷ others) =
     flat_map (pair_text sites path first) others ++ pairs_text sites path others
 
-abbrev pub shared_text : List Site → Registry → List ℕ
-shared_text sites registry = of_each (λ path task. pairs_text sites path task.files) registry
+abbrev pub shared_text : List Site → List TaskDeclaration → List ℕ
+shared_text sites tasks = flat_map (λ task. pairs_text sites task.path task.files) tasks
+
+-- ---- Outputs that are read by place
+
+-- the task makes something that is at, under or above the root
+abbrev pub makes_at : Place → TaskDeclaration → Bool
+makes_at root task = list_any (λ output. overlaps root output.place) task.outputs
+
+-- the reader is the other task, or needs it
+abbrev pub is_or_needs : TaskDeclaration → TaskDeclaration → Bool
+is_or_needs reader other = bytes_eq reader.path other.path || has_path reader.needs other.path
+
+-- a root of the reader is at an output of a task that the reader does not need
+abbrev pub is_unneeded : TaskDeclaration → Place → TaskDeclaration → Bool
+is_unneeded reader root maker = makes_at root maker && not (is_or_needs reader maker)
+
+abbrev pub unneeded_text : List Site → TaskDeclaration → Place → TaskDeclaration → List ℕ
+unneeded_text sites reader root maker =
+    if is_unneeded reader root maker
+    then warning_text sites reader.path (root ++ codes " overlaps an output of " ++ maker.path
+    ++ codes ", which is not needed")
+    else []
+
+-- of a root of the reader and each of these tasks, of all roots of a file property, and of all properties
+abbrev pub root_text : List Site → List TaskDeclaration → TaskDeclaration → Place → List ℕ
+root_text sites tasks reader root = flat_map (unneeded_text sites reader root) tasks
+
+abbrev pub property_text : List Site → List TaskDeclaration → TaskDeclaration → FileProperty → List ℕ
+property_text sites tasks reader property = flat_map (root_text sites tasks reader) property.roots
+
+abbrev pub readers_text : List Site → List TaskDeclaration → List ℕ
+readers_text sites tasks =
+    flat_map (λ reader. flat_map (property_text sites tasks reader) reader.files) tasks
 
 -- ---- Roots without files
 
 -- the outputs of all tasks
-abbrev pub all_outputs : Registry → List Place
-all_outputs registry = of_each (λ path task. output_places task) registry
+abbrev pub all_outputs : List TaskDeclaration → List Place
+all_outputs tasks = flat_map output_places tasks
 
 -- a root of the task at a path
 abbrev pub rooted : Path → Place → Rooted
 rooted path root = record { path = path; root = root }
 
 -- the roots of all tasks
-abbrev pub all_roots : Registry → List Rooted
-all_roots registry =
-    of_each (λ path task. flat_map (λ property. map (rooted path) property.roots) task.files) registry
+abbrev pub all_roots : List TaskDeclaration → List Rooted
+all_roots tasks =
+    flat_map (λ task. flat_map (λ property. map (rooted task.path) property.roots) task.files) tasks
 
 -- Nothing is at the root or under it, and no task makes anything there.
 abbrev pub is_bare : Contents → List Place → Place → Bool
@@ -79,16 +108,17 @@ bare_text sites contents outputs rooted =
     then warning_text sites rooted.path (codes "no file is at " ++ rooted.root) else []
 
 -- the roots that have no files
-abbrev pub bare_roots_text : List Site → Contents → Registry → List ℕ
-bare_roots_text sites contents registry =
-    flat_map (bare_text sites contents (all_outputs registry)) (all_roots registry)
+abbrev pub bare_roots_text : List Site → Contents → List TaskDeclaration → List ℕ
+bare_roots_text sites contents tasks =
+    flat_map (bare_text sites contents (all_outputs tasks)) (all_roots tasks)
 
 -- ---- All of them
 
--- The warnings of file properties, and of roots: where the contents of the folder are known, of those in it
--- that have no files.
+-- The warnings of file properties, of outputs that are read by place, and of roots: where the contents of the
+-- folder are known, of those in it that have no files.
 pub record AreWarnings (tells : Bool) (sites : List Site) (contents : Contents) (registry : Registry)
     (text : List ℕ) : Type 0 where
   pub bare : List ℕ
-  pub are_bare : IsTrue tells → bare ≡ bare_roots_text sites contents registry
-  pub text_is : text ≡ shared_text sites registry ++ bare
+  pub are_bare : IsTrue tells → bare ≡ bare_roots_text sites contents (declared_in registry)
+  pub text_is : text ≡ shared_text sites (declared_in registry) ++ readers_text sites (declared_in registry)
+      ++ bare

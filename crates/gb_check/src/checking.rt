@@ -1,5 +1,5 @@
 //! The faults of all registered tasks.
-ghost use Rattle.std.specs.Prelude.{◌≡◌, ◌≢◌, ◌++◌, [], Err, IfOk, IsTrue, OnOk, Some, string_bytes};
+ghost use Rattle.std.specs.Prelude.{◌≡◌, ◌≢◌, ◌++◌, [], IfErr, IfOk, IsTrue, OnOk, string_bytes};
 ghost use Rattle.gb_plan.specs.Graph.{declaration_at, paths_of};
 ghost use Rattle.gb_plan.specs.Task.{has_path};
 ghost use Rattle.gb_check.specs.Found.{IsFound, IsSilent, found_text, task_text, tasks_text};
@@ -26,6 +26,7 @@ pub(crate) fn check<Ts: Tasks>(
         IsFound sites.now (Ts.registry tasks.old) (string_bytes text)) }
     // The theorem of silence.
     ensures silent { IfOk result (λ text. string_bytes text ≡ [] → IsSilent (Ts.registry tasks.old)) }
+    ensures err { IfErr result (λ fault. fault ≡ Fault.OutOfMemory) }
 {
     let text = check_each(alloc, tasks, names, sites)?;
     if text.as_str().is_empty() {
@@ -46,6 +47,7 @@ fn check_each<Ts: Tasks>(
     ensures kept { Ts.registry tasks.new ≡ Ts.registry tasks.old }
     ensures text { IfOk result (λ text.
         string_bytes text ≡ tasks_text sites.now (Ts.registry tasks.old)) }
+    ensures err { IfErr result (λ fault. fault ≡ Fault.OutOfMemory) }
 {
     let mut text = String::new(alloc);
     for path in names {
@@ -66,6 +68,7 @@ fn push_task<Ts: Tasks>(
     ensures kept { Ts.registry tasks.new ≡ Ts.registry tasks.old }
     ensures line { OnOk result (string_bytes text.new
         ≡ string_bytes text.old ++ task_text sites.now (Ts.registry tasks.old) path.now) }
+    ensures err { IfErr result (λ fault. fault ≡ Fault.OutOfMemory) }
 {
     match tasks.realise(alloc, path) {
         Ok(task) => {
@@ -81,6 +84,7 @@ fn push_fault(text: &mut String, sites: &[Site], path: &TaskPath, fault: Fault) 
     ensures fault { OnOk result (fault ≢ Fault.OutOfMemory) }
     ensures line { OnOk result
         (string_bytes text.new ≡ string_bytes text.old ++ found_text sites.now path.now fault) }
+    ensures err { IfErr result (λ fault. fault ≡ Fault.OutOfMemory) }
 {
     if is_out_of_memory(&fault) {
         return Err(fault);

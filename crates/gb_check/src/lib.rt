@@ -4,10 +4,12 @@
 
 mod bare;
 mod checking;
+mod declared;
 pub mod finding;
 pub mod found;
 mod places;
 mod planning;
 mod shared;
 pub mod sites;
+mod unneeded;
 mod warning;

@@ -1,14 +1,19 @@
 //! Where scripts register tasks.
-ghost use Rattle.std.specs.Prelude.{◌≡◌, ℕ, [], ◌∷◌, ◌++◌, All, IfErr, IfOk, IsTrue, List, OnOk};
+ghost use Rattle.std.specs.Prelude.{◌≡◌, ◌⊎◌, ℕ, [], ◌∷◌, ◌++◌, Err, IfErr, IfOk, IsTrue, List, OnOk};
+ghost use Rattle.std.specs.Prelude.{codes, false};
 ghost use Rattle.std.specs.Option.{option_copied};
 ghost use Rattle.gb_core.specs.Path.{task_in};
-ghost use Rattle.gb_core.specs.Place.{joined};
+ghost use Rattle.gb_core.specs.Place.{is_place, joined};
 ghost use Rattle.gb_folder.specs.Calls.{Asks, no_change};
 ghost use Rattle.gb_registry.specs.Seen.{scripts_in};
 ghost use Rattle.gb_report.specs.declared.fault.Fault.TheVariants.{OutOfMemory};
 ghost use Rattle.gb_script.specs.Lines.{AreLinesOf};
-ghost use Rattle.gb_check.specs.Sites.{AreLinesAt, IsSiteIn, Lines, first_line, other_lines, registered_at};
-ghost use Rattle.gb_check.specs.Sites.{script_of_project, sites_of};
+ghost use Rattle.gb_script.specs.Script.{Says};
+ghost use Rattle.gb_script.specs.declared.fault.ScriptFault.{ScriptFault};
+ghost use Rattle.gb_store.specs.Faults.{IsOfMachine};
+ghost use Rattle.gb_check.specs.Sites.{AreLinesAt, AreSites, HasTextFault, IsUnread, Lines, first_line};
+ghost use Rattle.gb_check.specs.Sites.{in_file, other_lines, registered_at, script_of_project, sites_of};
+ghost use Rattle.gb_check.specs.Sites.{unread_at};
 
 use gb_core::name::{Name, NameFault};
 use gb_core::path::{ProjectPath, TaskPath};
@@ -45,8 +50,11 @@ pub(crate) fn read_sites<F: Folder>(
 ) -> Result<Vec<Site>, Fault>
     ensures asks { Asks F.failures F.may_leave F.asked no_change folder.old folder.new }
     ensures same { IsTrue F.tells → F.contents folder.new ≡ F.contents folder.old }
-    ensures sites { IsTrue F.tells → IfOk result (λ sites.
-        All (IsSiteIn (F.contents folder.old).files (scripts_in scripts.now)) sites.items) }
+    ensures sites { IfOk result (λ sites.
+        AreSites F.tells (F.contents folder.old).files (scripts_in scripts.now) sites.items) }
+    ensures err { IsTrue F.tells → IfErr result (λ fault.
+        IsOfMachine (F.failures folder.old) (F.failures folder.new) fault
+        ⊎ IsUnread (F.contents folder.old).files (scripts_in scripts.now) fault) }
 {
     let mut sites = Vec::new(alloc);
     for scripted in scripts {
@@ -69,6 +77,9 @@ fn push_script<F: Folder>(
         → AreLinesAt (F.contents folder.old).files (script_of_project scripted.now.project) lines)
         × (sites.new.items ≡ sites.old.items ++ sites_of scripted.now.project
         (script_of_project scripted.now.project) scripted.now.script lines)) }
+    ensures err { IsTrue F.tells → IfErr result (λ fault.
+        IsOfMachine (F.failures folder.old) (F.failures folder.new) fault
+        ⊎ HasTextFault (F.contents folder.old).files (script_of_project scripted.now.project) fault) }
 {
     let script = script_of_project(alloc, &scripted.project)?;
     let lines = lines_at(alloc, folder, &script)?;
@@ -84,7 +95,10 @@ fn push_script<F: Folder>(
 
 /// The place of the script of a project.
 fn script_of_project(alloc: Global, project: &Project) -> Result<Place, Fault>
-    ensures { IfOk result (λ place. place ≡ script_of_project project.now) }
+    ensures place { IfOk result (λ place. place ≡ script_of_project project.now) }
+    ensures err { IfErr result (λ fault. (fault ≡ OutOfMemory)
+        ⊎ ((is_place (script_of_project project.now) ≡ false)
+        × (fault ≡ Fault.BadPlace (codes "build.gb")))) }
 {
     match Place::join(alloc, project.folder(), "build.gb") {
         Ok(place) => Ok(place),
@@ -103,19 +117,43 @@ fn lines_at<F: Folder>(
     ensures same { IsTrue F.tells → F.contents folder.new ≡ F.contents folder.old }
     ensures lines { IsTrue F.tells → IfOk result (λ lines.
         AreLinesAt (F.contents folder.old).files place.now lines.items) }
+    ensures err { IsTrue F.tells → IfErr result (λ fault.
+        IsOfMachine (F.failures folder.old) (F.failures folder.new) fault
+        ⊎ HasTextFault (F.contents folder.old).files place.now fault) }
 {
     match folder.read(alloc, place, MAX_SCRIPT as u64) {
         Ok(bytes) => lines_in(alloc, bytes.as_slice(), place),
         Err(fault) => match fault {
             FolderFault::Missing => Ok(Vec::new(alloc)),
-            other => Err(fault_at(other, place)),
+            other => Err(unread(other, place)),
         },
+    }
+}
+
+/// The folder's fault where a text was to be read.
+fn unread(fault: FolderFault, place: &Place) -> Fault
+    ensures { (result ≡ OutOfMemory) ⊎ (result ≡ unread_at place.now fault) }
+{
+    match fault {
+        FolderFault::TooLarge => too_long(place),
+        other => fault_at(other, place),
+    }
+}
+
+fn too_long(place: &Place) -> Fault
+    ensures { (result ≡ OutOfMemory) ⊎ (result ≡ Fault.TooLong place.now) }
+{
+    match place.copy() {
+        Ok(place) => Fault::TooLong(place),
+        Err(_) => Fault::OutOfMemory,
     }
 }
 
 /// The lines of the statements of these bytes, which are those of the script at this place.
 fn lines_in(alloc: Global, bytes: &[u8], place: &Place) -> Result<Vec<StatementLines>, Fault>
-    ensures { IfOk result (λ lines. AreLinesOf bytes.now lines.items) }
+    ensures lines { IfOk result (λ lines. AreLinesOf bytes.now lines.items) }
+    ensures err { IfErr result (λ fault. (fault ≡ OutOfMemory)
+        ⊎ ((of : ScriptFault) × Says bytes.now (Err of) × (fault ≡ in_file place.now of))) }
 {
     match read_script_lines(alloc, bytes) {
         Ok(lines) => Ok(lines),
@@ -124,7 +162,9 @@ fn lines_in(alloc: Global, bytes: &[u8], place: &Place) -> Result<Vec<StatementL
 }
 
 /// The fault of a text, with the place of its file.
-fn in_file(fault: ScriptFault, place: Place) -> Fault {
+fn in_file(fault: ScriptFault, place: Place) -> Fault
+    ensures { result ≡ in_file place fault }
+{
     match fault {
         ScriptFault::OutOfMemory => Fault::OutOfMemory,
         ScriptFault::Syntax(line) => Fault::Syntax(place, line),
@@ -143,8 +183,9 @@ fn push_registered(
     statements: &[Statement],
     lines: &[StatementLines],
 ) -> Result<(), Fault>
-    ensures { OnOk result (sites.new.items
+    ensures sites { OnOk result (sites.new.items
         ≡ sites.old.items ++ sites_of project.now script.now statements.now lines.now) }
+    ensures err { IfErr result (λ fault. fault ≡ OutOfMemory) }
 {
     let mut rest = lines;
     for statement in statements {
@@ -175,8 +216,9 @@ fn push_statement(
     statement: &Statement,
     line: u64,
 ) -> Result<(), Fault>
-    ensures { OnOk result (sites.new.items
+    ensures sites { OnOk result (sites.new.items
         ≡ sites.old.items ++ registered_at project.now script.now line statement.now) }
+    ensures err { IfErr result (λ fault. fault ≡ OutOfMemory) }
 {
     match statement {
         Statement::Register(registration) => {
@@ -194,8 +236,9 @@ fn push_site(
     name: &Name,
     line: u64,
 ) -> Result<(), Fault>
-    ensures { OnOk result (sites.new.items ≡ sites.old.items
+    ensures sites { OnOk result (sites.new.items ≡ sites.old.items
         ++ record { path = task_in project.now name.now; script = script.now; line = line } ∷ []) }
+    ensures err { IfErr result (λ fault. fault ≡ OutOfMemory) }
 {
     let path = task_path(alloc, project.path(), name)?;
     let script = script.copy()?;

@@ -10,7 +10,7 @@ returns-clause-found g c =
     let told = c.in_ok-with_warnings.ensures in
     record {
       scripts = scripts;
-      are_scripts = c.scripts-scripts.ensures.said;
+      are_scripts = c.scripts-scripts.ensures.read;
       in_tasks = c.in_ok-found.found;
       findings = c.in_ok-found.ensures.found;
       faults = told.0;
