@@ -18,4 +18,4 @@ pub record AreFindings (tells : Bool) (contents : Contents) (registry : Registry
   pub faults : IsFound sites registry (string_bytes findings.faults)
   -- The theorem of silence.
   pub silent : string_bytes findings.faults ≡ [] → IsSilent registry
-  pub warnings : AreWarnings tells sites contents registry (string_bytes findings.warnings)
+  pub warnings : AreWarnings tells sites scripts contents registry (string_bytes findings.warnings)

@@ -1,7 +1,8 @@
 -- What is warned of.
 use Rattle.std.specs.Prelude.{ℕ, ◌≡◌, ◌&&◌, ◌||◌, Bool, not, IsTrue, List, [], ◌∷◌, ◌++◌, map, Option, Some}
-use Rattle.std.specs.Prelude.{None, Result, Ok, Err, bytes_eq, codes, if◌then◌else◌}
+use Rattle.std.specs.Prelude.{None, Result, Ok, Err, bytes_eq, codes, false, if◌then◌else◌, true}
 use Rattle.std.specs.List.{flat_map, list_any}
+use Rattle.gb_core.specs.Path.{task_in}
 use Rattle.gb_core.specs.Place.{overlaps}
 use Rattle.gb_folder.specs.Files.{Contents, Place, is_empty, is_odd_under, places_under}
 use Rattle.gb_plan.specs.Graph.{Registry, declaration_at, paths_of}
@@ -10,6 +11,10 @@ use Rattle.gb_plan.specs.declared.task.FileProperty.{FileProperty}
 use Rattle.gb_plan.specs.declared.task.TaskDeclaration.{TaskDeclaration}
 use Rattle.gb_report.specs.Report.{line}
 use Rattle.gb_report.specs.declared.fault.Fault.{Fault}
+use Rattle.gb_script.specs.declared.script.Clause.{Clause}
+use Rattle.gb_script.specs.declared.script.Clause.TheVariants as clauses
+use Rattle.gb_script.specs.declared.script.Statement.{Statement}
+use Rattle.gb_script.specs.declared.script.Statement.TheVariants as statements
 use Rattle.gb_check.specs.Found.{where_text}
 use Rattle.gb_check.specs.declared.places.Rooted.{Rooted}
 use Rattle.gb_check.specs.declared.sites.Site.{Site}
@@ -81,6 +86,46 @@ abbrev pub readers_text : List Site → List TaskDeclaration → List ℕ
 readers_text sites tasks =
     flat_map (λ reader. flat_map (property_text sites tasks reader) reader.files) tasks
 
+-- ---- Outputs of tasks that may be skipped
+
+-- the clause may skip its task
+abbrev pub may_skip : Clause → Bool
+may_skip (clauses.OnlyIf condition) = true
+may_skip (clauses.Enabled value) = true
+may_skip other = false
+
+-- the task to which a statement gives such a clause, if it does
+abbrev pub guarded_by : Path → Statement → List Path
+guarded_by project (statements.Register r) =
+    if list_any may_skip r.block then task_in project r.name ∷ [] else []
+guarded_by project (statements.Named c) =
+    if list_any may_skip c.block then task_in project c.name ∷ [] else []
+guarded_by project other = []
+
+-- the tasks to which these scripts give such clauses
+abbrev pub guarded_in : List (Path × List Statement) → List Path
+guarded_in scripts = flat_map (λ script. flat_map (guarded_by script.0) script.1) scripts
+
+-- a root of the reader is at an output of the other task
+abbrev pub reads_from : TaskDeclaration → TaskDeclaration → Bool
+reads_from reader maker =
+    list_any (λ property. list_any (λ root. makes_at root maker) property.roots) reader.files
+
+abbrev pub stale_text : List Site → TaskDeclaration → TaskDeclaration → List ℕ
+stale_text sites maker reader =
+    if reads_from reader maker && not (bytes_eq reader.path maker.path)
+    then warning_text sites maker.path (codes "where " ++ maker.path ++ codes " is skipped, " ++ reader.path
+    ++ codes " reads its old output")
+    else []
+
+-- of a task that may be skipped and each of these
+abbrev pub maker_text : List Site → List Path → List TaskDeclaration → TaskDeclaration → List ℕ
+maker_text sites guarded tasks maker =
+    if has_path guarded maker.path then flat_map (stale_text sites maker) tasks else []
+
+abbrev pub skipped_text : List Site → List (Path × List Statement) → List TaskDeclaration → List ℕ
+skipped_text sites scripts tasks = flat_map (maker_text sites (guarded_in scripts) tasks) tasks
+
 -- ---- Roots without files
 
 -- the outputs of all tasks
@@ -114,11 +159,16 @@ bare_roots_text sites contents tasks =
 
 -- ---- All of them
 
--- The warnings of file properties, of outputs that are read by place, and of roots: where the contents of the
--- folder are known, of those in it that have no files.
-pub record AreWarnings (tells : Bool) (sites : List Site) (contents : Contents) (registry : Registry)
-    (text : List ℕ) : Type 0 where
+-- the warnings that no file changes: of file properties, of outputs that are read by place, and of those of
+-- tasks that may be skipped
+abbrev pub declared_text : List Site → List (Path × List Statement) → List TaskDeclaration → List ℕ
+declared_text sites scripts tasks =
+    shared_text sites tasks ++ readers_text sites tasks ++ skipped_text sites scripts tasks
+
+-- These, and then those of roots: where the contents of the folder are known, of those in it that have no
+-- files.
+pub record AreWarnings (tells : Bool) (sites : List Site) (scripts : List (Path × List Statement))
+    (contents : Contents) (registry : Registry) (text : List ℕ) : Type 0 where
   pub bare : List ℕ
   pub are_bare : IsTrue tells → bare ≡ bare_roots_text sites contents (declared_in registry)
-  pub text_is : text ≡ shared_text sites (declared_in registry) ++ readers_text sites (declared_in registry)
-      ++ bare
+  pub text_is : text ≡ declared_text sites scripts (declared_in registry) ++ bare

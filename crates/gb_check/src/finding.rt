@@ -34,7 +34,8 @@ pub struct Findings {
 /// it names.
 ///
 /// Warnings: each two file properties of a task that have a root in common; each root of a task that overlaps
-/// an output of another one which the task does not need; and each root without files.
+/// an output of another one which the task does not need; each task that reads an output of one which a test
+/// may skip; and each root without files.
 ///
 /// Refused where memory runs out or the device fails, or where a script, which is read once more for its
 /// lines, cannot be read as one (2, 12, 20 to 23).
@@ -56,6 +57,6 @@ pub fn find<Ts: Tasks, F: Folder>(
 {
     let sites = read_sites(alloc, folder, scripts)?;
     let faults = check(alloc, tasks, names, sites.as_slice())?;
-    let warnings = warn(alloc, folder, tasks, names, sites.as_slice())?;
+    let warnings = warn(alloc, folder, tasks, names, scripts, sites.as_slice())?;
     Ok(Findings { faults, warnings })
 }

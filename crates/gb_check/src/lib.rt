@@ -11,5 +11,6 @@ mod places;
 mod planning;
 mod shared;
 pub mod sites;
+mod skipped;
 mod unneeded;
 mod warning;

@@ -247,7 +247,11 @@ fn push_site(
 }
 
 /// The path of the task of a name in a project.
-fn task_path(alloc: Global, project: &ProjectPath, name: &Name) -> Result<TaskPath, Fault>
+pub(crate) fn task_path(
+    alloc: Global,
+    project: &ProjectPath,
+    name: &Name,
+) -> Result<TaskPath, Fault>
     ensures path { IfOk result (λ path. path ≡ task_in project.now name.now) }
     ensures fault { IfErr result (λ fault. fault ≡ OutOfMemory) }
 {

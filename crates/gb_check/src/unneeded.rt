@@ -122,7 +122,7 @@ fn is_unneeded(reader: &TaskDeclaration, root: &Place, maker: &TaskDeclaration) 
 }
 
 /// Whether the task makes something that is at, under or above the root.
-fn makes_at(root: &Place, task: &TaskDeclaration) -> bool
+pub(crate) fn makes_at(root: &Place, task: &TaskDeclaration) -> bool
     ensures { result ≡ makes_at root.now task.now }
 {
     task.outputs
