@@ -16,20 +16,14 @@ use Rattle.gb_script.specs.declared.fault.ScriptFault.TheVariants as texts
 use Rattle.gb_script.specs.declared.script.Statement.{Statement}
 use Rattle.gb_script.specs.declared.script.Statement.TheVariants as statements
 use Rattle.gb_store.specs.Faults.{told_at}
+use Rattle.gb_check.specs.Marks.{Lines, marks_of, other_lines}
+use Rattle.gb_check.specs.declared.marks.Mark.{Mark}
 use Rattle.gb_check.specs.declared.sites.Site.{Site}
-
--- the lines of a statement and of its clauses
-abbrev pub Lines : Type 0
-Lines = ℕ × List ℕ
 
 -- the line of the first statement; 1 where there is none
 abbrev pub first_line : List Lines → ℕ
 first_line [] = 1
 first_line (lines ∷ others) = lines.0
-
-abbrev pub other_lines : List Lines → List Lines
-other_lines [] = []
-other_lines (lines ∷ others) = others
 
 -- the task that a statement in this line registers, if it registers one
 abbrev pub registered_at : Path → Place → ℕ → Statement → List Site
@@ -58,15 +52,16 @@ abbrev pub AreLinesAt : Files → Place → List Lines → Type 0
 AreLinesAt files place lines =
     MatchOption (file_at files place) (lines ≡ []) (λ bytes. AreLinesOf bytes lines)
 
--- Where these scripts register tasks, in their order: each task in the line in which its statement begins.
--- Where the contents of the folder are known, the lines are those of the files.
-abbrev pub AreSites : Bool → Files → List (Path × List Statement) → List Site → Type 0
-AreSites tells files [] sites = sites ≡ []
-AreSites tells files (script ∷ scripts) sites =
-    (lines : List Lines) × (others : List Site)
+-- Where these scripts register tasks, in their order, each in the line in which its statement begins, and the
+-- words of their clauses. Where the contents of the folder are known, the lines are those of the files.
+abbrev pub AreSites : Bool → Files → List (Path × List Statement) → List Site → List Mark → Type 0
+AreSites tells files [] sites marks = (sites ≡ []) × (marks ≡ [])
+AreSites tells files (script ∷ scripts) sites marks =
+    (lines : List Lines) × (others : List Site) × (words : List Mark)
     × (IsTrue tells → AreLinesAt files (script_of_project script.0) lines)
-    × AreSites tells files scripts others
+    × AreSites tells files scripts others words
     × (sites ≡ sites_of script.0 (script_of_project script.0) script.1 lines ++ others)
+    × (marks ≡ marks_of script.0 script.1 lines ++ words)
 
 -- ---- Why there are none
 

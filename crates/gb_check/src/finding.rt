@@ -29,8 +29,8 @@ pub struct Findings {
 /// What is found of the tasks that these scripts of a folder register. `names` are the paths of all tasks, in
 /// the order of registration.
 ///
-/// Faults: that of each task that has one, in that order, after the script and the line that registers the
-/// task. Where none has, the reason why there is no plan of all tasks, after the line of the first task that
+/// Faults: that of each task that has one, in that order, after the script and the line of the one clause of
+/// the task that it names, or else the line that registers the task. Where none has, the reason why there is no plan of all tasks, after the line of the first task that
 /// it names.
 ///
 /// Warnings: each two file properties of a task that have a root in common; each root of a task that overlaps
@@ -55,8 +55,8 @@ pub fn find<Ts: Tasks, F: Folder>(
         IsOfMachine (F.failures folder.old) (F.failures folder.new) fault
         ⊎ IsUnread (F.contents folder.old).files (scripts_in scripts.now) fault) }
 {
-    let sites = read_sites(alloc, folder, scripts)?;
-    let faults = check(alloc, tasks, names, sites.as_slice())?;
+    let (sites, marks) = read_sites(alloc, folder, scripts)?;
+    let faults = check(alloc, tasks, names, sites.as_slice(), marks.as_slice())?;
     let warnings = warn(alloc, folder, tasks, names, scripts, sites.as_slice())?;
     Ok(Findings { faults, warnings })
 }

@@ -7,6 +7,8 @@ mod checking;
 mod declared;
 pub mod finding;
 pub mod found;
+pub mod marks;
+mod naming;
 mod places;
 mod planning;
 mod shared;

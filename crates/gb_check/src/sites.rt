@@ -11,10 +11,11 @@ ghost use Rattle.gb_script.specs.Lines.{AreLinesOf};
 ghost use Rattle.gb_script.specs.Script.{Says};
 ghost use Rattle.gb_script.specs.declared.fault.ScriptFault.{ScriptFault};
 ghost use Rattle.gb_store.specs.Faults.{IsOfMachine};
-ghost use Rattle.gb_check.specs.Sites.{AreLinesAt, AreSites, HasTextFault, IsUnread, Lines, first_line};
-ghost use Rattle.gb_check.specs.Sites.{in_file, other_lines, registered_at, script_of_project, sites_of};
-ghost use Rattle.gb_check.specs.Sites.{unread_at};
+ghost use Rattle.gb_check.specs.Marks.{Lines, marks_of, other_lines};
+ghost use Rattle.gb_check.specs.Sites.{AreLinesAt, AreSites, HasTextFault, IsUnread, first_line, in_file};
+ghost use Rattle.gb_check.specs.Sites.{registered_at, script_of_project, sites_of, unread_at};
 
+use crate::marks::{Mark, push_marks};
 use gb_core::name::{Name, NameFault};
 use gb_core::path::{ProjectPath, TaskPath};
 use gb_core::place::{Place, PlaceFault};
@@ -41,33 +42,35 @@ pub struct Site {
     pub line: u64,
 }
 
-/// Where these scripts register tasks. Each script is read once more for its lines. A task has the line 1 if
-/// its script lost statements since it was read first.
+/// Where these scripts register tasks, and the words of their clauses. Each script is read once more for its
+/// lines. A task has the line 1 if its script lost statements since it was read first.
 pub(crate) fn read_sites<F: Folder>(
     alloc: Global,
     folder: &mut F,
     scripts: &[Scripted],
-) -> Result<Vec<Site>, Fault>
+) -> Result<(Vec<Site>, Vec<Mark>), Fault>
     ensures asks { Asks F.failures F.may_leave F.asked no_change folder.old folder.new }
     ensures same { IsTrue F.tells → F.contents folder.new ≡ F.contents folder.old }
-    ensures sites { IfOk result (λ sites.
-        AreSites F.tells (F.contents folder.old).files (scripts_in scripts.now) sites.items) }
+    ensures sites { IfOk result (λ read.
+        AreSites F.tells (F.contents folder.old).files (scripts_in scripts.now) read.0.items read.1.items) }
     ensures err { IsTrue F.tells → IfErr result (λ fault.
         IsOfMachine (F.failures folder.old) (F.failures folder.new) fault
         ⊎ IsUnread (F.contents folder.old).files (scripts_in scripts.now) fault) }
 {
     let mut sites = Vec::new(alloc);
+    let mut marks = Vec::new(alloc);
     for scripted in scripts {
-        push_script(alloc, folder, &mut sites, scripted)?;
+        push_script(alloc, folder, &mut sites, &mut marks, scripted)?;
     }
-    Ok(sites)
+    Ok((sites, marks))
 }
 
-/// Adds the tasks that a script registers.
+/// Adds the tasks that a script registers, and the words of their clauses.
 fn push_script<F: Folder>(
     alloc: Global,
     folder: &mut F,
     sites: &mut Vec<Site>,
+    marks: &mut Vec<Mark>,
     scripted: &Scripted,
 ) -> Result<(), Fault>
     ensures asks { Asks F.failures F.may_leave F.asked no_change folder.old folder.new }
@@ -76,19 +79,28 @@ fn push_script<F: Folder>(
         × (IsTrue F.tells
         → AreLinesAt (F.contents folder.old).files (script_of_project scripted.now.project) lines)
         × (sites.new.items ≡ sites.old.items ++ sites_of scripted.now.project
-        (script_of_project scripted.now.project) scripted.now.script lines)) }
+        (script_of_project scripted.now.project) scripted.now.script lines)
+        × (marks.new.items ≡ marks.old.items ++ marks_of scripted.now.project scripted.now.script lines)) }
     ensures err { IsTrue F.tells → IfErr result (λ fault.
         IsOfMachine (F.failures folder.old) (F.failures folder.new) fault
         ⊎ HasTextFault (F.contents folder.old).files (script_of_project scripted.now.project) fault) }
 {
     let script = script_of_project(alloc, &scripted.project)?;
     let lines = lines_at(alloc, folder, &script)?;
+    let statements = scripted.script.statements();
+    push_marks(
+        alloc,
+        marks,
+        &scripted.project,
+        statements,
+        lines.as_slice(),
+    )?;
     push_registered(
         alloc,
         sites,
         &scripted.project,
         &script,
-        scripted.script.statements(),
+        statements,
         lines.as_slice(),
     )
 }

@@ -1,6 +1,7 @@
 use Rattle.std.proofs.Common.{ℕ, ◌++◌, ◌+◌, List, drop, ap, sym, ◌∙◌}
 use Rattle.gb_script.specs.declared.script.Statement.{Statement}
-use Rattle.gb_check.specs.Sites.{Lines, first_line, other_lines, registered_at, sites_of}
+use Rattle.gb_check.specs.Marks.{Lines, other_lines}
+use Rattle.gb_check.specs.Sites.{first_line, registered_at, sites_of}
 use Rattle.gb_check.proofs.Rows.{rest_from, step}
 use Rattle.gb_check.proofs.sites.push_registered.Goals as goal
 

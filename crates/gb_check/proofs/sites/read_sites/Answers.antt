@@ -7,6 +7,8 @@ use Rattle.gb_registry.specs.declared.checking.Scripted.{Scripted}
 use Rattle.gb_report.specs.declared.fault.Fault.{Fault}
 use Rattle.gb_store.specs.Faults.{IsOfMachine}
 use Rattle.gb_check.specs.Sites.{AreLinesAt, AreSites, HasTextFault, IsUnread, script_of_project, sites_of}
+use Rattle.gb_check.specs.Marks.{marks_of}
+use Rattle.gb_check.specs.declared.marks.Mark.{Mark}
 use Rattle.gb_check.specs.declared.sites.Site.{Site}
 use Rattle.gb_registry.specs.Projects.{Path}
 use Rattle.gb_script.specs.declared.script.Statement.{Statement}
@@ -25,19 +27,19 @@ loop-scripted-preserved g c =
     let added = c.in_ok-push_script.ensures.sites in
     let before = c.loop-scripted.sites.items in
     let more = sites_of scripted.project place scripted.script added.0 in
+    let marks_before = c.loop-scripted.marks.items in
+    let marked = marks_of scripted.project scripted.script added.0 in
     record {
       asks = asks_then c.loop-scripted.invariant.asks c.push_script.ensures.asks;
       same = λ tells. c.push_script.ensures.same tells ∙ c.loop-scripted.invariant.same tells;
-      sites = λ others rest.
-          subst (λ (sites : List Site). AreSites F.tells files (scripts_in scripts) sites) (sym (ap (λ (sites : List Site). sites ++ others) added.2 ∙ append_assoc before more others))
-          (c.loop-scripted.invariant.sites (more ++ others)
-          (subst (λ (left : List Scripted). AreSites F.tells files (scripts_in left) (more ++ others)) (sym (rest_from scripts index scripted c.loop-scripted-test.true c.scripted-item.is)) (
-            added.0,
-            others,
-            λ tells. subst (λ (contents : Contents). AreLinesAt contents.files place added.0) (c.loop-scripted.invariant.same tells) (added.1 tells),
-            rest,
-            refl,
-          )));
+      sites = λ others words rest.
+          subst (λ (sites : List Site). AreSites F.tells files (scripts_in scripts) sites (c.push_script.new.marks.items ++ words)) (sym (ap (λ (sites : List Site). sites ++ others) added.2 ∙ append_assoc before more others))
+          (subst (λ (marks : List Mark). AreSites F.tells files (scripts_in scripts) (before ++ (more ++ others)) marks) (sym (ap (λ (marks : List Mark). marks ++ words) added.3 ∙ append_assoc marks_before marked words))
+          (c.loop-scripted.invariant.sites (more ++ others) (marked ++ words)
+          (subst (λ (left : List Scripted). AreSites F.tells files (scripts_in left) (more ++ others) (marked ++ words)) (sym (rest_from scripts index scripted c.loop-scripted-test.true c.scripted-item.is))
+          (added.0, others, words,
+          λ tells. subst (λ (contents : Contents). AreLinesAt contents.files place added.0) (c.loop-scripted.invariant.same tells) (added.1 tells),
+          rest, refl, refl))));
     }
 
 pub returns-in_err-push_script-clause-err : goal.returns-in_err-push_script-clause-err
@@ -62,6 +64,8 @@ returns-clause-sites g c =
     let scripts = c.args.scripts.now in
     let files = (F.contents c.args.folder.now).files in
     let sites = c.loop-scripted.sites.items in
+    let marks = c.loop-scripted.marks.items in
     let all = drop_all c.loop-scripted.scripted-index scripts (omega (arith, c.loop-scripted-test.false)) in
-    subst (λ (s : List Site). AreSites F.tells files (scripts_in scripts) s) (append-nil sites)
-    (c.loop-scripted.invariant.sites [] (subst (λ (left : List Scripted). AreSites F.tells files (scripts_in left) []) (sym all) refl))
+    subst (λ (s : List Site). AreSites F.tells files (scripts_in scripts) s marks) (append-nil sites)
+    (subst (λ (m : List Mark). AreSites F.tells files (scripts_in scripts) (sites ++ []) m) (append-nil marks)
+    (c.loop-scripted.invariant.sites [] [] (subst (λ (left : List Scripted). AreSites F.tells files (scripts_in left) [] []) (sym all) (refl, refl))))

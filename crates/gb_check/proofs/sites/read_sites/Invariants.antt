@@ -2,6 +2,7 @@ use Rattle.std.proofs.Common.{◌≡◌, ◌++◌, IsTrue, List, drop}
 use Rattle.gb_folder.specs.Calls.{Asks, no_change}
 use Rattle.gb_registry.specs.Seen.{scripts_in}
 use Rattle.gb_check.specs.Sites.{AreSites}
+use Rattle.gb_check.specs.declared.marks.Mark.{Mark}
 use Rattle.gb_check.specs.declared.sites.Site.{Site}
 use Rattle.gb_check.proofs.sites.read_sites.Given as goal
 
@@ -13,5 +14,5 @@ invariant-loop-scripted g l =
     record {
       asks : Asks g.F.Folder.failures g.F.Folder.may_leave g.F.Folder.asked no_change l.fn.folder l.folder;
       same : IsTrue tells → contents l.folder ≡ contents l.fn.folder;
-      sites : (others : List Site) → AreSites tells files (scripts_in (drop l.scripted-index l.scripts)) others → AreSites tells files (scripts_in l.scripts) (l.sites.items ++ others);
+      sites : (others : List Site) (words : List Mark) → AreSites tells files (scripts_in (drop l.scripted-index l.scripts)) others words → AreSites tells files (scripts_in l.scripts) (l.sites.items ++ others) (l.marks.items ++ words);
     }
