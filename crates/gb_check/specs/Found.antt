@@ -30,10 +30,11 @@ site_text site = line_text site.script site.line
 abbrev pub where_text : List Site → Path → List ℕ
 where_text sites path = option_map_or site_text (find (λ site. bytes_eq site.path path) sites) []
 
--- the fault of the task at a path, after the line of the clause that it names, or else of the registration
+-- the line of the clause that the fault of a registered task names, or else of the registration
 abbrev pub fault_site_text : List Mark → Path → Fault → Site → List ℕ
 fault_site_text marks path fault site = line_text site.script (line_for marks path fault site.line)
 
+-- the same of the task at a path; nothing where it is not known where it is registered
 abbrev pub fault_where : List Site → List Mark → Path → Fault → List ℕ
 fault_where sites marks path fault =
     option_map_or (fault_site_text marks path fault) (find (λ site. bytes_eq site.path path) sites) []

@@ -30,8 +30,8 @@ pub struct Findings {
 /// the order of registration.
 ///
 /// Faults: that of each task that has one, in that order, after the script and the line of the one clause of
-/// the task that it names, or else the line that registers the task. Where none has, the reason why there is no plan of all tasks, after the line of the first task that
-/// it names.
+/// the task that it names, or else the line that registers the task. Where none has, the reason why there is
+/// no plan of all tasks, after the line of the first task that it names.
 ///
 /// Warnings: each two file properties of a task that have a root in common; each root of a task that overlaps
 /// an output of another one which the task does not need; each task that reads an output of one which a test
