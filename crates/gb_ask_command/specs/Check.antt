@@ -1,6 +1,6 @@
 -- The reply to `check`.
-use Rattle.std.specs.Prelude.{ℕ, ◌≡◌, ◌⊎◌, ◌++◌, Bool, IsTrue, MatchResult, List, [], Result, Ok, Err, if◌then◌else◌}
-use Rattle.std.specs.Prelude.{nat_eq, string_bytes}
+use Rattle.std.specs.Prelude.{ℕ, ◌≡◌, ◌⊎◌, ◌++◌, Bool, IsTrue, MatchResult, List, [], Result, Ok, Err}
+use Rattle.std.specs.Prelude.{if◌then◌else◌, nat_eq, string_bytes}
 use Rattle.gb_build.specs.Registering.{registers_in}
 use Rattle.gb_build.specs.Scripts.{FolderSays}
 use Rattle.gb_check.specs.All.{AreFindings}
@@ -57,8 +57,8 @@ module _ {M F Z S A : Type 0} (tables : Tables M F Z S A) where
       → IsNotForATask (registry_said tables source) asked failures after fault
 
 module _ {M F Z S A : Type 0} (tables : Tables M F Z S A) (tells : Bool) where
-  -- What is found of what scripts say, one script for each project. A warning of each value that nothing reads
-  -- comes before those of tasks.
+  -- What is found of what scripts say, one script for each project. A warning of each value that nothing
+  -- reads comes before those of tasks.
   pub record AreFindingsOf (source : Source) (contents : Contents) (found : Findings) : Type 0 where
     pub scripts : List (Path × List Statement)
     pub are_scripts : IsRead source scripts

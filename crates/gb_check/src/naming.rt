@@ -8,7 +8,7 @@ use gb_core::path::TaskPath;
 use gb_report::fault::Fault;
 use std::alloc::{AllocError, Global};
 
-/// The line of the one clause that the fault of a task names; or if it names none, or more than one, this line.
+/// The line of the one clause that the fault of a task names; if it names none, or more than one, this line.
 pub(crate) fn line_for(
     alloc: Global,
     marks: &[Mark],

@@ -93,7 +93,8 @@ fn push_path(
     project: &Project,
     name: &Name,
 ) -> Result<(), Fault>
-    ensures guarded { OnOk result (guarded.new.items ≡ guarded.old.items ++ task_in project.now name.now ∷ []) }
+    ensures guarded { OnOk result
+        (guarded.new.items ≡ guarded.old.items ++ task_in project.now name.now ∷ []) }
     ensures err { IfErr result (λ fault. fault ≡ Fault.OutOfMemory) }
 {
     guarded.push(task_path(alloc, project.path(), name)?)?;
@@ -191,8 +192,9 @@ fn push_stale(
     maker: &TaskPath,
     reader: &TaskPath,
 ) -> Result<(), AllocError>
-    ensures { OnOk result (string_bytes text.new ≡ string_bytes text.old ++ warning_text sites.now maker.now
-        (codes "where " ++ maker.now ++ codes " is skipped, " ++ reader.now ++ codes " reads its old output")) }
+    ensures { OnOk result (string_bytes text.new
+        ≡ string_bytes text.old ++ warning_text sites.now maker.now (codes "where " ++ maker.now
+        ++ codes " is skipped, " ++ reader.now ++ codes " reads its old output")) }
 {
     push_where(text, sites, maker)?;
     writeln!(

@@ -20,9 +20,8 @@ use gb_registry::checking::Scripted;
 use gb_report::fault::Fault;
 use std::alloc::Global;
 
-/// The warnings of file properties, of outputs that are read by place, of outputs of tasks that may be skipped,
-/// and then of roots without files.
-/// `names` are the paths of all tasks.
+/// The warnings of file properties, of outputs that are read by place, of outputs of tasks that may be
+/// skipped, and then of roots without files. `names` are the paths of all tasks.
 pub(crate) fn warn<Ts: Tasks, F: Folder>(
     alloc: Global,
     folder: &mut F,

@@ -36,10 +36,15 @@ loop-scripted-preserved g c =
           subst (λ (sites : List Site). AreSites F.tells files (scripts_in scripts) sites (c.push_script.new.marks.items ++ words)) (sym (ap (λ (sites : List Site). sites ++ others) added.2 ∙ append_assoc before more others))
           (subst (λ (marks : List Mark). AreSites F.tells files (scripts_in scripts) (before ++ (more ++ others)) marks) (sym (ap (λ (marks : List Mark). marks ++ words) added.3 ∙ append_assoc marks_before marked words))
           (c.loop-scripted.invariant.sites (more ++ others) (marked ++ words)
-          (subst (λ (left : List Scripted). AreSites F.tells files (scripts_in left) (more ++ others) (marked ++ words)) (sym (rest_from scripts index scripted c.loop-scripted-test.true c.scripted-item.is))
-          (added.0, others, words,
-          λ tells. subst (λ (contents : Contents). AreLinesAt contents.files place added.0) (c.loop-scripted.invariant.same tells) (added.1 tells),
-          rest, refl, refl))));
+          (subst (λ (left : List Scripted). AreSites F.tells files (scripts_in left) (more ++ others) (marked ++ words)) (sym (rest_from scripts index scripted c.loop-scripted-test.true c.scripted-item.is)) (
+            added.0,
+            others,
+            words,
+            λ tells. subst (λ (contents : Contents). AreLinesAt contents.files place added.0) (c.loop-scripted.invariant.same tells) (added.1 tells),
+            rest,
+            refl,
+            refl,
+          ))));
     }
 
 pub returns-in_err-push_script-clause-err : goal.returns-in_err-push_script-clause-err
