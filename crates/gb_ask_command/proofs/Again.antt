@@ -2,6 +2,7 @@
 use Rattle.std.proofs.Common.{ℕ, ◌≡◌, ◌⊎◌, ◌&&◌, ◌∙◌, Bool, true, false, IsTrue, List, [], ◌∷◌, None, Option, Some, Result, Ok, Err, ap, inl, inr, refl, subst, sym}
 use Rattle.std.specs.List.{AllByRecursion, AllZip, list_all}
 use Rattle.std.specs.Prelude.{All, Contains, IfErr, IfOk, MatchResult, zip}
+use Rattle.std.specs.Result.{IsErrAnd}
 use Rattle.std.proofs.lemmas.Bool.{and_parts, false≢true}
 use Rattle.std.proofs.lemmas.List.Elements.{All-contains, All-from_recursion}
 use Rattle.gb_core.specs.Place.{is_place}
@@ -23,7 +24,7 @@ use Rattle.gb_check.specs.Sites.{HasTextFault, IsUnread, blocked, no_place, no_s
 
 module _ (files : Files) where
   -- the place of the project's script is one, and what is there can be read
-  IsReadable : Path × List Statement → Type 0
+  abbrev IsReadable : Path × List Statement → Type 0
   IsReadable script = (is_place (script_of_project script.0) ≡ true) × ((text : List Statement) × TextSays Says files (script_of_project script.0) (Ok text))
 
   each_readable : (paths : List Path) (texts others : List (List Statement)) → AreTexts files (script_places (with_folders paths)) texts
@@ -57,6 +58,11 @@ none_again tables files given source scripts fault (settings, (first, says_first
     subst (λ (ps : List Path). Contains (zip ps read.texts) unread.script) (sym paths) (subst (λ ss. Contains ss unread.script) read.each unread.is_one) in
     let readable = All-contains (IsReadable files) (zip (project_paths settings) read.texts) unread.script all there in
     no_fault files (script_of_project unread.script.0) readable.1.0 fault readable.0 readable.1.1 unread.has
+
+-- what holds of a fault that is handed on holds of the result
+pub handed : {T : Type 0} (Good : T → Type 0) (Bad : Fault → Type 0) (result : Result T Fault) (fault : Fault) → IsErrAnd result (λ told. told ≡ fault) → Bad fault → MatchResult result Good Bad
+handed Good Bad (Ok x) fault is bad = absurd is
+handed Good Bad (Err told) fault is bad = subst Bad (sym is) bad
 
 -- what holds of a result and what holds of an error, as one
 pub match_of : {T : Type 0} (result : Result T Fault) (Good Better : T → Type 0) (tells : Bool) (Bad Worse : Fault → Type 0) → ((x : T) → Good x → Better x)

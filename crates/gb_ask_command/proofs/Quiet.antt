@@ -10,6 +10,7 @@ use Rattle.gb_check.specs.Found.{IsSilent}
 use Rattle.gb_check.specs.Sites.{AreLinesAt, AreSites, script_of_project}
 use Rattle.gb_check.specs.Warnings.{bare_roots_text, declared_in}
 use Rattle.gb_check.specs.declared.finding.Findings.{Findings}
+use Rattle.gb_check.specs.declared.marks.Mark.{Mark}
 use Rattle.gb_check.specs.declared.sites.Site.{Site}
 use Rattle.gb_declare.specs.Registered.{registry_said}
 use Rattle.gb_folder.specs.Files.{Contents, Files, Place}
@@ -28,17 +29,26 @@ use Rattle.gb_ask_command.specs.Check.{AreFindingsOf, IsNotForATask, IsQuiet}
 
 -- ---- The same folder
 
-sites_of_same : (tells : Bool) (old new : Files) → (IsTrue tells → new ≡ old) → (scripts : List (Path × List Statement)) (sites : List Site) → AreSites tells new scripts sites → AreSites tells old scripts sites
-sites_of_same tells old new same [] sites are = are
-sites_of_same tells old new same (script ∷ scripts) sites (lines, others, at, rest, is) =
-    (lines, others, λ told. subst (λ (files : Files). AreLinesAt files (script_of_project script.0) lines) (same told) (at told), sites_of_same tells old new same scripts others rest, is)
+sites_of_same : (tells : Bool) (old new : Files) → (IsTrue tells → new ≡ old) → (scripts : List (Path × List Statement)) (sites : List Site) (marks : List Mark)
+    → AreSites tells new scripts sites marks → AreSites tells old scripts sites marks
+sites_of_same tells old new same [] sites marks are = are
+sites_of_same tells old new same (script ∷ scripts) sites marks (lines, others, words, at, rest, is, of) = (
+  lines,
+  others,
+  words,
+  λ told. subst (λ (files : Files). AreLinesAt files (script_of_project script.0) lines) (same told) (at told),
+  sites_of_same tells old new same scripts others words rest,
+  is,
+  of,
+)
 
 -- what is found of a folder is found of one that has the same contents
 pub found_of_same : (tells : Bool) (old new : Contents) → (IsTrue tells → new ≡ old) → (registry : Registry) (scripts : List (Path × List Statement)) (findings : Findings)
     → AreFindings tells new registry scripts findings → AreFindings tells old registry scripts findings
 found_of_same tells old new same registry scripts findings are = record {
   sites = are.sites;
-  are_sites = sites_of_same tells old.files new.files (λ told. ap (λ (c : Contents). c.files) (same told)) scripts are.sites are.are_sites;
+  marks = are.marks;
+  are_sites = sites_of_same tells old.files new.files (λ told. ap (λ (c : Contents). c.files) (same told)) scripts are.sites are.marks are.are_sites;
   faults = are.faults;
   silent = are.silent;
   warnings = record {

@@ -7,13 +7,13 @@ use Rattle.gb_folder.specs.Files.{Contents}
 use Rattle.gb_registry.specs.Projects.{Path}
 use Rattle.gb_registry.specs.Read.{IsRead}
 use Rattle.gb_registry.specs.Tables.{tables_of}
-use Rattle.gb_registry.specs.declared.tables.Tables as handed
+use Rattle.gb_registry.specs.declared.tables.Tables as tables_of_code
 use Rattle.gb_report.specs.declared.fault.Fault.{Fault}
 use Rattle.gb_script.specs.declared.script.Statement.{Statement}
 use Rattle.gb_store.proofs.Machine.{machine_before}
 use Rattle.gb_store.specs.Faults.{IsOfMachine}
 use Rattle.gb_ask_command.specs.Check.{AreFindingsOf, IsChecked}
-use Rattle.gb_ask_command.proofs.Again.{match_of, none_again}
+use Rattle.gb_ask_command.proofs.Again.{handed, match_of, none_again}
 use Rattle.gb_ask_command.proofs.Quiet.{found_in_same, quiet}
 use Rattle.gb_ask_command.proofs.check.check_asked.Goals as goal
 
@@ -32,7 +32,7 @@ returns-clause-reply g c =
     let said : IsTrue F.tells → FolderSays tables old.files given (Ok source) =
     λ tells. subst (λ values. FolderSays tables old.files values (Ok source)) (c.into_vec-given.ensures ∙ c.in_ok-copied.ensures) (c.in_ok-configured.ensures.said tells) in
     let found : IfOk c.check_configured.result (AreFindingsOf tables F.tells source mid) =
-    subst (λ (handed_in : handed.Tables _ _ _ _ _ _ _). IfOk c.check_configured.result (AreFindingsOf (tables_of g.T.Transforms.meanings M handed_in) F.tells source mid)) c.in_ok-configured.ensures.tables c.check_configured.ensures.found in
+    subst (λ (handed_in : tables_of_code.Tables _ _ _ _ _ _ _). IfOk c.check_configured.result (AreFindingsOf (tables_of g.T.Transforms.meanings M handed_in) F.tells source mid)) c.in_ok-configured.ensures.tables c.check_configured.ensures.found in
     let Unread : Contents → Fault → Type 0 = λ contents fault. (scripts : List (Path × List Statement)) × IsRead source scripts × IsUnread contents.files scripts fault in
     let Bad : Fault → Type 0 = λ fault. IsOfMachine between after fault ⊎ Unread mid fault in
     let Worse : Fault → Type 0 = λ fault. IsOfMachine before after fault ⊎ FolderSays tables old.files given (Err fault) in
@@ -52,3 +52,15 @@ returns-clause-reply g c =
     ])
     found
     c.check_configured.ensures.err
+
+pub returns-in_err-configured-clause-reply : goal.returns-in_err-configured-clause-reply
+returns-in_err-configured-clause-reply g c =
+    let F = g.F.Folder in
+    let files = (F.contents c.args.folder.now).files in
+    let tables = tables_of g.T.Transforms.meanings g.A.Actions.meanings c.args.tables.now in
+    let fault = c.in_err-configured.field-0.0 in
+    let Refused : List (List _ × List _) → Fault → Type 0 = λ given fault.
+    IsOfMachine (F.failures c.args.folder.now) (F.failures c.read_registry.new.folder) fault ⊎ FolderSays tables files given (Err fault) in
+    handed (IsChecked tables F.tells c.args.asked.now (F.contents c.args.folder.now)) (λ fault. IsTrue F.tells → Refused c.args.asked.now.properties fault)
+    c.from_residual-in_err-configured.result fault c.from_residual-in_err-configured.ensures.1
+    (λ tells. subst (λ given. Refused given fault) (c.into_vec-given.ensures ∙ c.in_ok-copied.ensures) (c.in_err-configured.ensures.said tells))

@@ -14,5 +14,5 @@ returns-clause-found g c =
       in_tasks = c.in_ok-found.found;
       findings = c.in_ok-found.ensures.found;
       faults = told.0;
-      warnings = told.1 ∙ ap (λ (text : List _). text ++ string_bytes c.in_ok-found.found.warnings) (c.in_ok-warnings.ensures ∙ ap (unread_values_text scripts) c.given.ensures);
+      warnings = told.1 ∙ ap (λ (text : List _). text ++ string_bytes c.in_ok-found.found.warnings) (c.in_ok-warnings.ensures.text ∙ ap (unread_values_text scripts) c.given.ensures);
     }
