@@ -1,12 +1,12 @@
 -- Scripts that could be read can be read once more.
-use Rattle.std.proofs.Common.{ℕ, ◌≡◌, ◌⊎◌, ◌&&◌, ◌∙◌, Bool, true, false, IsTrue, List, [], ◌∷◌, None, Option, Some, Result, Ok, Err, ap, inl, inr, refl, subst, sym}
-use Rattle.std.specs.List.{AllByRecursion, AllZip, list_all}
-use Rattle.std.specs.Prelude.{All, Contains, IfErr, IfOk, MatchResult, zip}
+use Rattle.std.proofs.Common.{ℕ, ◌≡◌, ◌∙◌, Bool, true, IsTrue, List, [], ◌∷◌, Option, Some, Result, Ok, Err, ap, inl, inr, subst, sym}
+use Rattle.std.specs.List.{AllByRecursion, list_all}
+use Rattle.std.specs.Prelude.{Contains, IfErr, IfOk, MatchResult, zip}
 use Rattle.std.specs.Result.{IsErrAnd}
 use Rattle.std.proofs.lemmas.Bool.{and_parts, false≢true}
 use Rattle.std.proofs.lemmas.List.Elements.{All-contains, All-from_recursion}
 use Rattle.gb_core.specs.Place.{is_place}
-use Rattle.gb_folder.specs.Files.{Bytes, Files, Place, file_at, is_blocked}
+use Rattle.gb_folder.specs.Files.{Bytes, Files, Place}
 use Rattle.gb_registry.specs.Projects.{Path, project_paths, projects_of, with_folders}
 use Rattle.gb_registry.specs.Read.{IsRead}
 use Rattle.gb_registry.specs.Source.{Source}
@@ -15,7 +15,6 @@ use Rattle.gb_report.specs.declared.fault.Fault.{Fault}
 use Rattle.gb_script.proofs.Sources.{one_said}
 use Rattle.gb_script.proofs.StatementLaws.{Reads-script, script_ends_text}
 use Rattle.gb_script.specs.Script.{Says}
-use Rattle.gb_script.specs.declared.fault.ScriptFault.{ScriptFault}
 use Rattle.gb_script.specs.declared.script.Statement.{Statement}
 use Rattle.gb_build.proofs.PlaceLemmas.{places_good}
 use Rattle.gb_build.specs.Scripts.{AreTexts, FolderSays, script_places}

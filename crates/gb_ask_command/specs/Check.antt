@@ -52,8 +52,8 @@ module _ {M F Z S A : Type 0} (tables : Tables M F Z S A) where
   abbrev pub IsQuiet : Source → Contents → List (Text × Text) → Type 0
   IsQuiet source contents given =
       (asked : Invocation) (failures after : ℕ) (fault : Fault) → asked.properties ≡ given
-      → IsNotBuilt (registers_in tables) (record { contents = contents; failures = failures }) asked fault
-      after
+      → IsNotBuilt (registers_in tables) (record { contents = contents; failures = failures })
+      asked fault after
       → IsNotForATask (registry_said tables source) asked failures after fault
 
 module _ {M F Z S A : Type 0} (tables : Tables M F Z S A) (tells : Bool) where

@@ -1,8 +1,7 @@
-use Rattle.std.proofs.Common.{◌≡◌, ◌⊎◌, Ok, Err, List, ap, inl, inr, subst, sym, ◌∙◌}
-use Rattle.std.specs.Prelude.{IfOk, IsTrue, string_bytes}
+use Rattle.std.proofs.Common.{◌⊎◌, Ok, Err, List, inl, inr, subst, sym, ◌∙◌}
+use Rattle.std.specs.Prelude.{IfOk, IsTrue}
 use Rattle.gb_build.specs.Scripts.{FolderSays}
 use Rattle.gb_check.specs.Sites.{IsUnread}
-use Rattle.gb_check.specs.declared.finding.Findings.{Findings}
 use Rattle.gb_folder.specs.Files.{Contents}
 use Rattle.gb_registry.specs.Projects.{Path}
 use Rattle.gb_registry.specs.Read.{IsRead}
