@@ -38,7 +38,7 @@ const STALE: &str = "register a:writeText(\"x\"){enabled true\noutputFile out=fi
      inputFiles src from dir(\"build/a\")\noutputDir out=dir(\"build/c\")}";
 
 const SKIPPED: &str =
-    "build.gb:6: warning: build/a overlaps an output of :a, which is not needed\n\
+    "build.gb:6: warning: build/a overlaps an output of :a, which is not needed directly\n\
      build.gb:1: warning: where :a is skipped, :b reads its old output\n\
      build.gb:1: warning: where :a is skipped, :c reads its old output\n";
 

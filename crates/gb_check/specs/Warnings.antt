@@ -72,7 +72,7 @@ abbrev pub unneeded_text : List Site → TaskDeclaration → Place → TaskDecla
 unneeded_text sites reader root maker =
     if is_unneeded reader root maker
     then warning_text sites reader.path (root ++ codes " overlaps an output of " ++ maker.path
-    ++ codes ", which is not needed")
+    ++ codes ", which is not needed directly")
     else []
 
 -- of a root of the reader and each of these tasks, of all roots of a file property, and of all properties

@@ -104,13 +104,14 @@ fn push_unneeded(
     root: &Place,
     maker: &TaskPath,
 ) -> Result<(), AllocError>
-    ensures { OnOk result (string_bytes text.new ≡ string_bytes text.old ++ warning_text sites.now reader.now
-        (root.now ++ codes " overlaps an output of " ++ maker.now ++ codes ", which is not needed")) }
+    ensures { OnOk result (string_bytes text.new
+        ≡ string_bytes text.old ++ warning_text sites.now reader.now (root.now
+        ++ codes " overlaps an output of " ++ maker.now ++ codes ", which is not needed directly")) }
 {
     push_where(text, sites, reader)?;
     writeln!(
         text,
-        "warning: {root} overlaps an output of {maker}, which is not needed"
+        "warning: {root} overlaps an output of {maker}, which is not needed directly"
     )
 }
 
