@@ -4,3 +4,4 @@ pub mod Listed
 pub mod Writing
 pub mod Treating
 pub mod Quiet
+pub mod Again

@@ -1,17 +1,19 @@
 -- What is found of a folder, and that builds of it are refused for no task where no fault is found.
-use Rattle.std.proofs.Common.{ℕ, ◌≡◌, ◌⊎◌, List, [], Ok, Err, Result, ap, subst, sym, ◌∙◌, inl, inr}
-use Rattle.std.specs.Prelude.{All, Bool, IsTrue}
+use Rattle.std.proofs.Common.{ℕ, ◌≡◌, ◌⊎◌, List, [], ◌∷◌, Ok, Err, Result, ap, subst, sym, ◌∙◌, inl, inr}
+use Rattle.std.specs.Prelude.{Bool, IsTrue}
 use Rattle.gb_build.proofs.OneLemmas.{folders_one}
 use Rattle.gb_build.proofs.Readings.{registered}
 use Rattle.gb_build.specs.Registering.{registers_in}
 use Rattle.gb_build.specs.Scripts.{FolderSays}
 use Rattle.gb_check.specs.All.{AreFindings}
 use Rattle.gb_check.specs.Found.{IsSilent}
-use Rattle.gb_check.specs.Sites.{IsSiteIn}
-use Rattle.gb_check.specs.Warnings.{bare_roots_text}
+use Rattle.gb_check.specs.Sites.{AreLinesAt, AreSites, script_of_project}
+use Rattle.gb_check.specs.Warnings.{bare_roots_text, declared_in}
 use Rattle.gb_check.specs.declared.finding.Findings.{Findings}
+use Rattle.gb_check.specs.declared.marks.Mark.{Mark}
+use Rattle.gb_check.specs.declared.sites.Site.{Site}
 use Rattle.gb_declare.specs.Registered.{registry_said}
-use Rattle.gb_folder.specs.Files.{Contents, Place}
+use Rattle.gb_folder.specs.Files.{Contents, Files, Place}
 use Rattle.gb_meaning.specs.Events.{IsDeviceFault, IsRefusedBy}
 use Rattle.gb_meaning.specs.TrueRecord.{outside}
 use Rattle.gb_meaning.specs.declared.events.Invocation.{Invocation}
@@ -27,17 +29,31 @@ use Rattle.gb_ask_command.specs.Check.{AreFindingsOf, IsNotForATask, IsQuiet}
 
 -- ---- The same folder
 
+sites_of_same : (tells : Bool) (old new : Files) → (IsTrue tells → new ≡ old) → (scripts : List (Path × List Statement)) (sites : List Site) (marks : List Mark)
+    → AreSites tells new scripts sites marks → AreSites tells old scripts sites marks
+sites_of_same tells old new same [] sites marks are = are
+sites_of_same tells old new same (script ∷ scripts) sites marks (lines, others, words, at, rest, is, of) = (
+  lines,
+  others,
+  words,
+  λ told. subst (λ (files : Files). AreLinesAt files (script_of_project script.0) lines) (same told) (at told),
+  sites_of_same tells old new same scripts others words rest,
+  is,
+  of,
+)
+
 -- what is found of a folder is found of one that has the same contents
 pub found_of_same : (tells : Bool) (old new : Contents) → (IsTrue tells → new ≡ old) → (registry : Registry) (scripts : List (Path × List Statement)) (findings : Findings)
     → AreFindings tells new registry scripts findings → AreFindings tells old registry scripts findings
 found_of_same tells old new same registry scripts findings are = record {
   sites = are.sites;
-  are_sites = λ told. subst (λ (contents : Contents). All (IsSiteIn contents.files scripts) are.sites) (same told) (are.are_sites told);
+  marks = are.marks;
+  are_sites = sites_of_same tells old.files new.files (λ told. ap (λ (c : Contents). c.files) (same told)) scripts are.sites are.marks are.are_sites;
   faults = are.faults;
   silent = are.silent;
   warnings = record {
     bare = are.warnings.bare;
-    are_bare = λ told. subst (λ (contents : Contents). are.warnings.bare ≡ bare_roots_text are.sites contents registry) (same told) (are.warnings.are_bare told);
+    are_bare = λ told. subst (λ (contents : Contents). are.warnings.bare ≡ bare_roots_text are.sites contents (declared_in registry)) (same told) (are.warnings.are_bare told);
     text_is = are.warnings.text_is;
   };
 }

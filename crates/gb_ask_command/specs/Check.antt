@@ -1,7 +1,6 @@
--- What is replied where faults are asked for.
-use Rattle.std.specs.Prelude.{ℕ, ◌≡◌, ◌⊎◌, ◌++◌, Bool, IfOk, IsTrue, List, [], Result, Ok, Err, if◌then◌else◌}
-use Rattle.std.specs.Prelude.{nat_eq, string_bytes}
-use Rattle.std.specs.List.{flat_map}
+-- The reply to `check`.
+use Rattle.std.specs.Prelude.{ℕ, ◌≡◌, ◌⊎◌, ◌++◌, Bool, IsTrue, MatchResult, List, [], Result, Ok, Err}
+use Rattle.std.specs.Prelude.{if◌then◌else◌, nat_eq, string_bytes}
 use Rattle.gb_build.specs.Registering.{registers_in}
 use Rattle.gb_build.specs.Scripts.{FolderSays}
 use Rattle.gb_check.specs.All.{AreFindings}
@@ -16,13 +15,14 @@ use Rattle.gb_plan.specs.Graph.{Plan, Registry}
 use Rattle.gb_plan.specs.Refusal.{IsScheduleFault, request_of}
 use Rattle.gb_plan.specs.Task.{Text}
 use Rattle.gb_registry.specs.Projects.{Path}
-use Rattle.gb_registry.specs.Said.{said_by}
+use Rattle.gb_registry.specs.Read.{IsRead}
 use Rattle.gb_registry.specs.Source.{Source}
 use Rattle.gb_registry.specs.Tables.{Tables}
 use Rattle.gb_report.specs.Fault.{fault_number}
 use Rattle.gb_report.specs.declared.fault.Fault.{Fault}
 use Rattle.gb_report.specs.declared.fault.Fault.TheVariants as faults
 use Rattle.gb_script.specs.declared.script.Statement.{Statement}
+use Rattle.gb_store.specs.Faults.{IsOfMachine}
 use Rattle.gb_ask_command.specs.Unread.{unread_values_text}
 
 -- what is found, or why scripts or arguments cannot be read
@@ -47,20 +47,21 @@ IsNotForATask registry asked before after fault =
     ⊎ ((plan : Plan) × IsScheduleFault plan fault)))
 
 module _ {M F Z S A : Type 0} (tables : Tables M F Z S A) where
-  -- The theorem of silence, for builds of this folder with these values: whatever else is asked for, a refusal
-  -- is for no task.
+  -- The theorem of silence, for builds of this folder with these values: whatever else is requested, no task
+  -- is the reason for a refusal.
   abbrev pub IsQuiet : Source → Contents → List (Text × Text) → Type 0
   IsQuiet source contents given =
       (asked : Invocation) (failures after : ℕ) (fault : Fault) → asked.properties ≡ given
-      → IsNotBuilt (registers_in tables) (record { contents = contents; failures = failures }) asked fault after
+      → IsNotBuilt (registers_in tables) (record { contents = contents; failures = failures })
+      asked fault after
       → IsNotForATask (registry_said tables source) asked failures after fault
 
 module _ {M F Z S A : Type 0} (tables : Tables M F Z S A) (tells : Bool) where
-  -- What is found of what some scripts say. A warning of each value that nothing reads comes before those of
-  -- tasks. Where the folder tells, the scripts are its own.
+  -- What is found of what scripts say, one script for each project. A warning of each value that nothing
+  -- reads comes before those of tasks.
   pub record AreFindingsOf (source : Source) (contents : Contents) (found : Findings) : Type 0 where
     pub scripts : List (Path × List Statement)
-    pub are_scripts : flat_map said_by scripts ≡ source.said
+    pub are_scripts : IsRead source scripts
     pub in_tasks : Findings
     pub findings : AreFindings tells contents (registry_said tables source) scripts in_tasks
     pub faults : string_bytes found.faults ≡ string_bytes in_tasks.faults
@@ -71,13 +72,19 @@ module _ {M F Z S A : Type 0} (tables : Tables M F Z S A) (tells : Bool) where
     pub source : Source
     pub said : IsTrue tells → FolderSays tables contents.files asked.properties (Ok source)
     pub found_of : AreFindingsOf source contents found
-    pub quiet : IsTrue tells → string_bytes found.faults ≡ [] → IsQuiet tables source contents asked.properties
+    pub quiet : IsTrue tells → string_bytes found.faults ≡ []
+        → IsQuiet tables source contents asked.properties
 
-  abbrev pub IsCheckReply : Invocation → Contents → CheckReply → Type 0
-  IsCheckReply asked contents reply = IfOk reply (IsChecked asked contents)
+  -- What is found; or where the contents of the folder are known, a fault of the machine between these counts
+  -- of failures, or the fault of what the folder says.
+  abbrev pub IsCheckReply : Invocation → Contents → ℕ → ℕ → CheckReply → Type 0
+  IsCheckReply asked contents before after reply =
+      MatchResult reply (IsChecked asked contents)
+      (λ fault. IsTrue tells
+      → IsOfMachine before after fault ⊎ FolderSays tables contents.files asked.properties (Err fault))
 
   -- the words are refused, or they ask for something, and this is the reply to it
-  abbrev pub RepliesCheck : Given → Contents → CheckReply → Type 0
-  RepliesCheck given contents reply =
+  abbrev pub RepliesCheck : Given → Contents → ℕ → ℕ → CheckReply → Type 0
+  RepliesCheck given contents before after reply =
       ((fault : Fault) × AreRefused given fault × (reply ≡ Err fault))
-      ⊎ ((asked : Invocation) × AskFor given asked × IsCheckReply asked contents reply)
+      ⊎ ((asked : Invocation) × AskFor given asked × IsCheckReply asked contents before after reply)

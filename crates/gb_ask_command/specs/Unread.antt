@@ -15,7 +15,7 @@ use Rattle.gb_script.specs.declared.script.Clause.TheVariants as clauses
 use Rattle.gb_script.specs.declared.script.Statement.{Statement}
 use Rattle.gb_script.specs.declared.script.Statement.TheVariants as statements
 
--- a fault, which stands for a mark, at each `gradleProperty(..)` of this name, and none elsewhere
+-- a fault as a mark at each `gradleProperty(..)` of this name, and none elsewhere
 abbrev pub marks_at : Text → Root → List Fault
 marks_at name (GradlePropertyOf text) = if bytes_eq text name then faults.NoTasks ∷ [] else []
 marks_at name other = []

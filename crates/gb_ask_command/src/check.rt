@@ -1,16 +1,22 @@
 //! What is wrong with the tasks of a folder.
-ghost use Rattle.std.specs.Prelude.{◌≡◌, ◌++◌, IfOk, IfSome, if◌then◌else◌, IsTrue, map, string_bytes};
+ghost use Rattle.std.specs.Prelude.{◌≡◌, ◌⊎◌, ◌++◌, IfErr, IfOk, IfSome, if◌then◌else◌, IsTrue, List, map};
+ghost use Rattle.std.specs.Prelude.{string_bytes};
 ghost use Rattle.std.specs.Io.KnownBytes.{Appends};
 ghost use Rattle.gb_command.specs.Answered.{given_of};
 ghost use Rattle.gb_declare.specs.Registered.{registry_said};
 ghost use Rattle.gb_folder.specs.Calls.{Asks, no_change};
 ghost use Rattle.gb_folder.specs.Files.{is_empty};
 ghost use Rattle.gb_printer.specs.Printing.{Prints};
+ghost use Rattle.gb_registry.specs.Projects.{Path};
+ghost use Rattle.gb_registry.specs.Read.{IsRead};
 ghost use Rattle.gb_registry.specs.Seen.{scripts_in};
 ghost use Rattle.gb_registry.specs.Tables.{tables_of};
+ghost use Rattle.gb_script.specs.declared.script.Statement.{Statement};
+ghost use Rattle.gb_store.specs.Faults.{IsOfMachine};
 ghost use Rattle.gb_check.specs.All.{AreFindings};
-ghost use Rattle.gb_ask_command.specs.Check.{AreFindingsOf, CheckReply, IsCheckReply, RepliesCheck, check_status};
-ghost use Rattle.gb_ask_command.specs.Check.{check_text};
+ghost use Rattle.gb_check.specs.Sites.{IsUnread};
+ghost use Rattle.gb_ask_command.specs.Check.{AreFindingsOf, CheckReply, IsCheckReply, RepliesCheck};
+ghost use Rattle.gb_ask_command.specs.Check.{check_status, check_text};
 
 use crate::unread::warn_unread;
 use gb_action::actions::Actions;
@@ -44,7 +50,8 @@ pub fn run<A: Actions, T: Transforms, F: Folder, W: Printer>(
     ensures same { IsTrue F.tells → F.contents folder.new ≡ F.contents folder.old }
     ensures told { (reply : CheckReply)
         × RepliesCheck (tables_of T.meanings A.meanings tables.now) F.tells
-        (given_of (λ words. map string_bytes words.items) words) (F.contents folder.old) reply
+        (given_of (λ words. map string_bytes words.items) words) (F.contents folder.old)
+        (F.failures folder.old) (F.failures folder.new) reply
         × Prints W.contents W.whole (check_text reply) writer.old writer.new
         × IfSome result (λ status.
         Appends (W.contents writer.old) (W.contents writer.new) (check_text reply)
@@ -134,8 +141,8 @@ fn replied<A: Actions, T: Transforms, F: Folder>(
     ensures asks { Asks F.failures F.may_leave F.asked no_change folder.old folder.new }
     ensures same { IsTrue F.tells → F.contents folder.new ≡ F.contents folder.old }
     ensures replies { RepliesCheck (tables_of T.meanings A.meanings tables.now) F.tells
-        (given_of (λ words. map string_bytes words.items) words)
-        (F.contents folder.old) result }
+        (given_of (λ words. map string_bytes words.items) words) (F.contents folder.old)
+        (F.failures folder.old) (F.failures folder.new) result }
 {
     match asked_by(alloc, words) {
         Ok(asked) => check_asked(alloc, folder, tables, &asked),
@@ -153,7 +160,7 @@ fn check_asked<A: Actions, T: Transforms, F: Folder>(
     ensures asks { Asks F.failures F.may_leave F.asked no_change folder.old folder.new }
     ensures same { IsTrue F.tells → F.contents folder.new ≡ F.contents folder.old }
     ensures reply { IsCheckReply (tables_of T.meanings A.meanings tables.now) F.tells asked.now
-        (F.contents folder.old) result }
+        (F.contents folder.old) (F.failures folder.old) (F.failures folder.new) result }
 {
     let copied = asked.properties.copy(alloc)?;
     let given = copied.into_vec();
@@ -172,6 +179,10 @@ fn check_configured<A: Actions, T: Transforms, F: Folder>(
     ensures found { IfOk result
         (AreFindingsOf (tables_of T.meanings A.meanings configured.now.tables.now) F.tells
         configured.now.registry (F.contents folder.old)) }
+    ensures err { IsTrue F.tells → IfErr result (λ fault.
+        IsOfMachine (F.failures folder.old) (F.failures folder.new) fault
+        ⊎ ((scripts : List (Path × List Statement)) × IsRead configured.now.registry scripts
+        × IsUnread (F.contents folder.old).files scripts fault)) }
 {
     let registry = &configured.registry;
     let scripts = registry.scripts();
@@ -205,6 +216,9 @@ fn check_tasks<A: Actions, T: Transforms, F: Folder>(
     ensures found { let tables = tables_of T.meanings A.meanings configured.now.tables.now in
         IfOk result (AreFindings F.tells (F.contents folder.old)
         (registry_said tables configured.now.registry) (scripts_in scripts.now)) }
+    ensures err { IsTrue F.tells → IfErr result (λ fault.
+        IsOfMachine (F.failures folder.old) (F.failures folder.new) fault
+        ⊎ IsUnread (F.contents folder.old).files (scripts_in scripts.now) fault) }
 {
     let _registered = configured.registry.tasks();
     let names = configured.registry.names(alloc)?;

@@ -10,7 +10,7 @@ use gb_reason::text::push_reason;
 use std::alloc::AllocError;
 use std::fmt::Write;
 
-/// Puts the line of a task behind a text.
+/// Adds the line of a task to a text.
 pub(crate) fn push_line(text: &mut String, told: &Foretold) -> Result<(), AllocError>
     ensures { OnOk result (string_bytes text.new ≡ string_bytes text.old ++ line_text told.now) }
 {

@@ -1,5 +1,5 @@
 //! Values of `-P` that nothing reads.
-ghost use Rattle.std.specs.Prelude.{◌≡◌, ◌≢◌, ◌++◌, IfOk, OnOk, false, string_bytes, true};
+ghost use Rattle.std.specs.Prelude.{◌≡◌, ◌≢◌, ◌++◌, IfErr, IfOk, OnOk, false, string_bytes, true};
 ghost use Rattle.std.specs.List.{list_any};
 ghost use Rattle.std.specs.Option.{option_copied};
 ghost use Rattle.gb_registry.specs.Seen.{scripts_in};
@@ -17,7 +17,7 @@ use gb_script::script::{Call, Clause, Statement};
 use std::alloc::{AllocError, Global};
 use std::fmt::Write;
 
-/// Looks for the value of a name. It finds a fault, which stands for a mark.
+/// Looks for the value of a name. Where it finds one, it answers a fault as a mark.
 #[derive(Drop)]
 struct Marked<'a> {
     name: &'a Name,
@@ -50,8 +50,9 @@ pub(crate) fn warn_unread(
     scripts: &[Scripted],
     given: &[(Name, Text)],
 ) -> Result<String, Fault>
-    ensures { IfOk result (λ text.
+    ensures text { IfOk result (λ text.
         string_bytes text ≡ unread_values_text (scripts_in scripts.now) given.now) }
+    ensures err { IfErr result (λ fault. fault ≡ Fault.OutOfMemory) }
 {
     let mut text = String::new(alloc);
     for value in given {
@@ -66,8 +67,9 @@ fn push_value(
     scripts: &[Scripted],
     given: &(Name, Text),
 ) -> Result<(), Fault>
-    ensures { OnOk result (string_bytes text.new
+    ensures text { OnOk result (string_bytes text.new
         ≡ string_bytes text.old ++ unread_value_text (scripts_in scripts.now) given.now) }
+    ensures err { IfErr result (λ fault. fault ≡ Fault.OutOfMemory) }
 {
     let name = &given.0;
     if is_read(alloc, scripts, name)? {
@@ -79,14 +81,16 @@ fn push_value(
 
 /// Whether some script reads the value of a name.
 fn is_read(alloc: Global, scripts: &[Scripted], name: &Name) -> Result<bool, Fault>
-    ensures { IfOk result (λ is. is ≡ is_read (scripts_in scripts.now) name.now) }
+    ensures is { IfOk result (λ is. is ≡ is_read (scripts_in scripts.now) name.now) }
+    ensures err { IfErr result (λ fault. fault ≡ Fault.OutOfMemory) }
 {
     is_read_in_scripts(alloc, scripts, name)
 }
 
 fn is_read_in_scripts(alloc: Global, scripts: &[Scripted], name: &Name) -> Result<bool, Fault>
-    ensures { IfOk result (λ is.
+    ensures is { IfOk result (λ is.
         is ≡ list_any (λ scripted. list_any (is_read_by name.now) scripted.script) scripts.now) }
+    ensures err { IfErr result (λ fault. fault ≡ Fault.OutOfMemory) }
 {
     for scripted in scripts {
         if is_read_by_any(alloc, scripted.script.statements(), name)? {
@@ -97,7 +101,8 @@ fn is_read_in_scripts(alloc: Global, scripts: &[Scripted], name: &Name) -> Resul
 }
 
 fn is_read_by_any(alloc: Global, statements: &[Statement], name: &Name) -> Result<bool, Fault>
-    ensures { IfOk result (λ is. is ≡ list_any (is_read_by name.now) statements.now) }
+    ensures is { IfOk result (λ is. is ≡ list_any (is_read_by name.now) statements.now) }
+    ensures err { IfErr result (λ fault. fault ≡ Fault.OutOfMemory) }
 {
     for statement in statements {
         if is_read_by(alloc, statement, name)? {
@@ -108,7 +113,8 @@ fn is_read_by_any(alloc: Global, statements: &[Statement], name: &Name) -> Resul
 }
 
 fn is_read_by(alloc: Global, statement: &Statement, name: &Name) -> Result<bool, Fault>
-    ensures { IfOk result (λ is. is ≡ is_read_by name.now statement.now) }
+    ensures is { IfOk result (λ is. is ≡ is_read_by name.now statement.now) }
+    ensures err { IfErr result (λ fault. fault ≡ Fault.OutOfMemory) }
 {
     match statement {
         Statement::Set(assignment) | Statement::Convention(assignment) => {
@@ -128,7 +134,8 @@ fn is_read_by(alloc: Global, statement: &Statement, name: &Name) -> Result<bool,
 }
 
 fn is_read_by_call(alloc: Global, call: Option<&Call>, name: &Name) -> Result<bool, Fault>
-    ensures { IfOk result (λ is. is ≡ is_read_by_call name.now (option_copied call.entry)) }
+    ensures is { IfOk result (λ is. is ≡ is_read_by_call name.now (option_copied call.entry)) }
+    ensures err { IfErr result (λ fault. fault ≡ Fault.OutOfMemory) }
 {
     match call {
         Some(call) => is_read_in_any(alloc, call.arguments.as_slice(), name),
@@ -137,7 +144,8 @@ fn is_read_by_call(alloc: Global, call: Option<&Call>, name: &Name) -> Result<bo
 }
 
 fn is_read_in_block(alloc: Global, clauses: &[Clause], name: &Name) -> Result<bool, Fault>
-    ensures { IfOk result (λ is. is ≡ list_any (is_read_by_clause name.now) clauses.now) }
+    ensures is { IfOk result (λ is. is ≡ list_any (is_read_by_clause name.now) clauses.now) }
+    ensures err { IfErr result (λ fault. fault ≡ Fault.OutOfMemory) }
 {
     for clause in clauses {
         if is_read_by_clause(alloc, clause, name)? {
@@ -148,7 +156,8 @@ fn is_read_in_block(alloc: Global, clauses: &[Clause], name: &Name) -> Result<bo
 }
 
 fn is_read_by_clause(alloc: Global, clause: &Clause, name: &Name) -> Result<bool, Fault>
-    ensures { IfOk result (λ is. is ≡ is_read_by_clause name.now clause.now) }
+    ensures is { IfOk result (λ is. is ≡ is_read_by_clause name.now clause.now) }
+    ensures err { IfErr result (λ fault. fault ≡ Fault.OutOfMemory) }
 {
     match clause {
         Clause::Input(assignment) => is_read_in(alloc, &assignment.value, name),
@@ -165,7 +174,8 @@ fn is_read_by_clause(alloc: Global, clause: &Clause, name: &Name) -> Result<bool
 }
 
 fn is_read_in_any(alloc: Global, trees: &[Expression], name: &Name) -> Result<bool, Fault>
-    ensures { IfOk result (λ is. is ≡ list_any (is_read_in name.now) trees.now) }
+    ensures is { IfOk result (λ is. is ≡ list_any (is_read_in name.now) trees.now) }
+    ensures err { IfErr result (λ fault. fault ≡ Fault.OutOfMemory) }
 {
     for tree in trees {
         if is_read_in(alloc, tree, name)? {
@@ -176,7 +186,8 @@ fn is_read_in_any(alloc: Global, trees: &[Expression], name: &Name) -> Result<bo
 }
 
 fn is_read_in(alloc: Global, tree: &Expression, name: &Name) -> Result<bool, Fault>
-    ensures { IfOk result (λ is. is ≡ is_read_in name.now tree.now) }
+    ensures is { IfOk result (λ is. is ≡ is_read_in name.now tree.now) }
+    ensures err { IfErr result (λ fault. fault ≡ Fault.OutOfMemory) }
 {
     match look_along(alloc, &Marked { name }, tree) {
         Ok(()) => Ok(false),
@@ -188,6 +199,7 @@ fn is_read_in(alloc: Global, tree: &Expression, name: &Name) -> Result<bool, Fau
 fn was_found(fault: Fault) -> Result<bool, Fault>
     ensures is { IfOk result (λ is. is ≡ true) }
     ensures found { OnOk result (fault ≢ Fault.OutOfMemory) }
+    ensures err { IfErr result (λ fault. fault ≡ Fault.OutOfMemory) }
 {
     if is_out_of_memory(&fault) {
         return Err(fault);
@@ -197,7 +209,8 @@ fn was_found(fault: Fault) -> Result<bool, Fault>
 }
 
 fn is_out_of_memory(fault: &Fault) -> bool
-    ensures { result ≡ false → fault.now ≢ Fault.OutOfMemory }
+    ensures no { result ≡ false → fault.now ≢ Fault.OutOfMemory }
+    ensures yes { result ≡ true → fault.now ≡ Fault.OutOfMemory }
 {
     matches!(fault, Fault::OutOfMemory)
 }

@@ -16,7 +16,7 @@ const WRONG: &str = "register pages : copyFile {\n    inputFiles src from dir(\"
      inputFiles src from dir(\"notes\")\n    outputDir out = dir(\"notes/out\")\n}\n";
 
 const FAULTS: &str =
-    "build.gb:1: 40 unknown action copyFile\nbuild.gb:5: 56 output outside build :notes notes/out\n\
+    "build.gb:1: 40 unknown action copyFile\nbuild.gb:7: 56 output outside build :notes notes/out\n\
      -Pversion: warning: nothing reads it\n";
 
 const RIGHT: &str = "register pages : copyFiles {\n    inputFiles src from dir(\"src\")\n    \
@@ -31,6 +31,16 @@ const MET: &str = "register a:writeText(\"x\"){outputFile out=file(\"build/a\")}
 
 const MEETING: &str =
     "build.gb:1: 61 overlapping outputs :a :b build/a\nbuild.gb:2: warning: one and two read one folder\n";
+
+const STALE: &str = "register a:writeText(\"x\"){enabled true\noutputFile out=file(\"build/a\")}\n\
+     register b:copyFiles{dependsOn \"a\"\ninputFiles src from file(\"build/a\")\n\
+     outputDir out=dir(\"build/b\")}\nregister c:copyFiles{mustRunAfter \"a\"\n\
+     inputFiles src from dir(\"build/a\")\noutputDir out=dir(\"build/c\")}";
+
+const SKIPPED: &str =
+    "build.gb:6: warning: build/a overlaps an output of :a, which is not needed directly\n\
+     build.gb:1: warning: where :a is skipped, :b reads its old output\n\
+     build.gb:1: warning: where :a is skipped, :c reads its old output\n";
 
 const BROKEN: &str = "register a {}\nregister {}\n";
 
@@ -68,6 +78,7 @@ fn all_hold<A: Actions, T: Transforms>(alloc: Global, tables: &Tables<A, T>) -> 
         (WRONG, "-Pversion=2", FAULTS, 1),
         (RIGHT, "", BARE, 0),
         (MET, "", MEETING, 1),
+        (STALE, "", SKIPPED, 0),
         (BROKEN, "", "build.gb:2: 20 syntax build.gb:2\n", 1),
     ];
     for (script, words, text, status) in rows {

@@ -1,11 +1,10 @@
 -- Texts, tasks and sites one after another.
 use Rattle.std.proofs.Common.{ℕ, zero, suc, ◌≡◌, ◌≢◌, ◌<◌, ◌+◌, Bool, true, false, ◌||◌, List, [], ◌∷◌, ◌++◌, Some, length, get_or, drop, take, map, append-nil, refl, ap, sym, ◌∙◌, append_assoc, arith}
-use Rattle.std.specs.Prelude.{◌==◌, All, Contains, IsTrue, bytes_eq, slice_get}
+use Rattle.std.specs.Prelude.{◌==◌, Contains, IsTrue, bytes_eq, slice_get}
 use Rattle.std.proofs.lemmas.Bool.Decides.{nat_tests}
 use Rattle.std.specs.List.{flat_map, list_any}
 use Rattle.std.proofs.lemmas.Grind.{flat_map-append}
 use Rattle.std.specs.Cmp.Lexicographic.{bytes_decides}
-use Rattle.std.proofs.lemmas.List.Elements.{All-contains_itself}
 use Rattle.std.proofs.lemmas.List.{length-map, take_more}
 use Rattle.std.proofs.lemmas.Option.{slice_get_read}
 use Rattle.gb_plan.proofs.Tests.{or_right}
@@ -31,10 +30,6 @@ rest_from (y ∷ xs) (suc i) x low at =
 -- what is there so far with one more, and the rest
 pub step : {X : Type 0} (before one rest now all : List X) → now ≡ before ++ one → before ++ (one ++ rest) ≡ all → now ++ rest ≡ all
 step before one rest now all added so_far = ap (λ t. t ++ rest) added ∙ append_assoc before one rest ∙ so_far
-
--- what holds of each of a row
-pub all_in : {X : Type 0} (P : X → Type 0) (xs : List X) → ((x : X) → Contains xs x → P x) → All P xs
-all_in P xs each = λ k d low. each _ (All-contains_itself xs k d low)
 
 -- ---- Rows without a thing
 

@@ -18,6 +18,7 @@ use Rattle.gb_report.specs.Report.{line}
 use Rattle.gb_report.specs.declared.fault.Fault.{Fault}
 use Rattle.gb_report.specs.declared.fault.Fault.TheVariants as faults
 use Rattle.gb_check.specs.Found.{IsFound, IsSilent, faults_of, found_text, in_plan, in_tasks, task_text, tasks_text}
+use Rattle.gb_check.specs.declared.marks.Mark.{Mark}
 use Rattle.gb_check.specs.declared.sites.Site.{Site}
 
 -- ---- Texts
@@ -82,12 +83,12 @@ module _ (registry : Registry) where
 
 -- ---- Silence
 
-module _ (sites : List Site) (registry : Registry) (none : tasks_text sites registry ≡ []) where
+module _ (sites : List Site) (marks : List Mark) (registry : Registry) (none : tasks_text sites marks registry ≡ []) where
   not_at_fault : (path : Path) (fault : Fault) → declaration_at registry path ≢ Some (Err fault)
   not_at_fault path fault is =
-      let empty = nothing_in (task_text sites registry) (paths_of registry) path none (registered registry.tasks path (Err fault) is) in
-      let one : flat_map (found_text sites path) (fault ∷ []) ≡ [] = sym (ap (λ d. flat_map (found_text sites path) (faults_of d)) is) ∙ empty in
-      line_full _ (front_empty (found_text sites path fault) [] one)
+      let empty = nothing_in (task_text sites marks registry) (paths_of registry) path none (registered registry.tasks path (Err fault) is) in
+      let one : flat_map (found_text sites marks path) (fault ∷ []) ≡ [] = sym (ap (λ d. flat_map (found_text sites marks path) (faults_of d)) is) ∙ empty in
+      line_full _ (front_empty (found_text sites marks path fault) [] one)
 
   pub silent_of : IsSilent registry
   silent_of requested excluded fault (inl memory) = inl memory
@@ -96,6 +97,6 @@ module _ (sites : List Site) (registry : Registry) (none : tasks_text sites regi
       absurd (not_at_fault task.path fault (ap (λ r. declaration_at r task.path) (sym (request_registry registry requested excluded request asked)) ∙ task.at_fault))
   silent_of requested excluded fault (inr (inr (request, asked, inr (plan, schedule, bad)))) = inr (inr (plan, bad))
 
-pub silence : (sites : List Site) (registry : Registry) (text : List ℕ) → IsFound sites registry text → text ≡ [] → IsSilent registry
-silence sites registry text (in_tasks full is) empty = absurd (full empty)
-silence sites registry text (in_plan none found) empty = silent_of sites registry none
+pub silence : (sites : List Site) (marks : List Mark) (registry : Registry) (text : List ℕ) → IsFound sites marks registry text → text ≡ [] → IsSilent registry
+silence sites marks registry text (in_tasks full is) empty = absurd (full empty)
+silence sites marks registry text (in_plan none found) empty = silent_of sites marks registry none

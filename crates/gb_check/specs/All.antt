@@ -1,22 +1,23 @@
 -- All that is found: faults and warnings.
-use Rattle.std.specs.Prelude.{◌≡◌, All, Bool, IsTrue, List, [], string_bytes}
+use Rattle.std.specs.Prelude.{◌≡◌, Bool, List, [], string_bytes}
 use Rattle.gb_folder.specs.Files.{Contents}
 use Rattle.gb_plan.specs.Graph.{Registry}
 use Rattle.gb_plan.specs.Task.{Path}
 use Rattle.gb_script.specs.declared.script.Statement.{Statement}
 use Rattle.gb_check.specs.Found.{IsFound, IsSilent}
-use Rattle.gb_check.specs.Sites.{IsSiteIn}
+use Rattle.gb_check.specs.Sites.{AreSites}
 use Rattle.gb_check.specs.Warnings.{AreWarnings}
 use Rattle.gb_check.specs.declared.finding.Findings.{Findings}
+use Rattle.gb_check.specs.declared.marks.Mark.{Mark}
 use Rattle.gb_check.specs.declared.sites.Site.{Site}
 
--- What is found of a registry whose tasks these scripts register. Where the folder tells, the lines are those
--- of its scripts.
+-- What is found of a registry whose tasks these scripts register, with the lines in which they do.
 pub record AreFindings (tells : Bool) (contents : Contents) (registry : Registry)
     (scripts : List (Path × List Statement)) (findings : Findings) : Type 0 where
   pub sites : List Site
-  pub are_sites : IsTrue tells → All (IsSiteIn contents.files scripts) sites
-  pub faults : IsFound sites registry (string_bytes findings.faults)
+  pub marks : List Mark
+  pub are_sites : AreSites tells contents.files scripts sites marks
+  pub faults : IsFound sites marks registry (string_bytes findings.faults)
   -- The theorem of silence.
   pub silent : string_bytes findings.faults ≡ [] → IsSilent registry
-  pub warnings : AreWarnings tells sites contents registry (string_bytes findings.warnings)
+  pub warnings : AreWarnings tells sites scripts contents registry (string_bytes findings.warnings)

@@ -13,6 +13,8 @@ use Rattle.gb_report.specs.Fault.{fault_text}
 use Rattle.gb_report.specs.Report.{line}
 use Rattle.gb_report.specs.declared.fault.Fault.{Fault}
 use Rattle.gb_report.specs.declared.fault.Fault.TheVariants as faults
+use Rattle.gb_check.specs.Marks.{line_for}
+use Rattle.gb_check.specs.declared.marks.Mark.{Mark}
 use Rattle.gb_check.specs.declared.sites.Site.{Site}
 
 -- ---- What is printed
@@ -28,10 +30,19 @@ site_text site = line_text site.script site.line
 abbrev pub where_text : List Site → Path → List ℕ
 where_text sites path = option_map_or site_text (find (λ site. bytes_eq site.path path) sites) []
 
-abbrev pub found_text : List Site → Path → Fault → List ℕ
-found_text sites path fault = line (where_text sites path ++ fault_text fault)
+-- the line of the clause that the fault of a registered task names, or else of the registration
+abbrev pub fault_site_text : List Mark → Path → Fault → Site → List ℕ
+fault_site_text marks path fault site = line_text site.script (line_for marks path fault site.line)
 
--- the task whose line is told of a fault of a plan: the first that the fault names
+-- the same of the task at a path; nothing where it is not known where it is registered
+abbrev pub fault_where : List Site → List Mark → Path → Fault → List ℕ
+fault_where sites marks path fault =
+    option_map_or (fault_site_text marks path fault) (find (λ site. bytes_eq site.path path) sites) []
+
+abbrev pub found_text : List Site → List Mark → Path → Fault → List ℕ
+found_text sites marks path fault = line (fault_where sites marks path fault ++ fault_text fault)
+
+-- the task whose line is printed for the fault of a plan: the first that the fault names
 abbrev pub first_path : List Path → Option Path
 first_path [] = None
 first_path (path ∷ paths) = Some path
@@ -67,13 +78,13 @@ faults_of (Some (Ok task)) = []
 faults_of None = []
 
 -- the fault of the task at a path, if it has one
-abbrev pub task_text : List Site → Registry → Path → List ℕ
-task_text sites registry path =
-    flat_map (found_text sites path) (faults_of (declaration_at registry path))
+abbrev pub task_text : List Site → List Mark → Registry → Path → List ℕ
+task_text sites marks registry path =
+    flat_map (found_text sites marks path) (faults_of (declaration_at registry path))
 
 -- the fault of each task that has one, in the order of registration
-abbrev pub tasks_text : List Site → Registry → List ℕ
-tasks_text sites registry = flat_map (task_text sites registry) (paths_of registry)
+abbrev pub tasks_text : List Site → List Mark → Registry → List ℕ
+tasks_text sites marks registry = flat_map (task_text sites marks registry) (paths_of registry)
 
 -- what is found of the plan of these words: nothing, or why there is none
 abbrev pub IsFoundInPlan : List Site → Registry → List Text → List ℕ → Type 0
@@ -88,10 +99,10 @@ IsFoundInAll sites registry paths text =
     ((paths ≡ []) × (text ≡ [])) ⊎ ((paths ≢ []) × IsFoundInPlan sites registry paths text)
 
 -- The faults of all tasks; or where no task has one, what is found of the plan of all.
-pub data IsFound (sites : List Site) (registry : Registry) (text : List ℕ) : Type 0 where
-  in_tasks : text ≢ [] → text ≡ tasks_text sites registry → IsFound sites registry text
-  in_plan : tasks_text sites registry ≡ [] → IsFoundInAll sites registry (paths_of registry) text
-      → IsFound sites registry text
+pub data IsFound (sites : List Site) (marks : List Mark) (registry : Registry) (text : List ℕ) : Type 0 where
+  in_tasks : text ≢ [] → text ≡ tasks_text sites marks registry → IsFound sites marks registry text
+  in_plan : tasks_text sites marks registry ≡ [] → IsFoundInAll sites registry (paths_of registry) text
+      → IsFound sites marks registry text
 
 -- ---- Where nothing is found
 

@@ -1,3 +1,4 @@
+pub mod Marks
 pub mod Sites
 pub mod Found
 pub mod Warnings

@@ -1,26 +1,29 @@
 -- Where scripts register tasks.
-use Rattle.std.specs.Prelude.{ℕ, ◌≡◌, List, [], ◌∷◌, ◌++◌, Contains, MatchOption, codes}
+use Rattle.std.specs.Prelude.{ℕ, ◌≡◌, Bool, false, IsTrue, List, [], ◌∷◌, ◌++◌, Contains, MatchOption, Some}
+use Rattle.std.specs.Prelude.{Err, codes}
 use Rattle.gb_core.specs.Path.{task_in}
-use Rattle.gb_core.specs.Place.{joined}
-use Rattle.gb_folder.specs.Files.{Files, Place, file_at}
+use Rattle.gb_core.specs.Place.{is_place, joined}
+use Rattle.gb_folder.specs.Files.{Bytes, Files, Place, file_at, is_blocked}
+use Rattle.gb_folder.specs.declared.folder.FolderFault.{FolderFault}
+use Rattle.gb_folder.specs.declared.folder.FolderFault.TheVariants as folders
 use Rattle.gb_registry.specs.Projects.{Path, folder_of}
+use Rattle.gb_report.specs.declared.fault.Fault.{Fault}
+use Rattle.gb_report.specs.declared.fault.Fault.TheVariants as faults
 use Rattle.gb_script.specs.Lines.{AreLinesOf}
+use Rattle.gb_script.specs.Script.{Says}
+use Rattle.gb_script.specs.declared.fault.ScriptFault.{ScriptFault}
+use Rattle.gb_script.specs.declared.fault.ScriptFault.TheVariants as texts
 use Rattle.gb_script.specs.declared.script.Statement.{Statement}
 use Rattle.gb_script.specs.declared.script.Statement.TheVariants as statements
+use Rattle.gb_store.specs.Faults.{told_at}
+use Rattle.gb_check.specs.Marks.{Lines, marks_of, other_lines}
+use Rattle.gb_check.specs.declared.marks.Mark.{Mark}
 use Rattle.gb_check.specs.declared.sites.Site.{Site}
-
--- the lines of a statement and of its clauses
-abbrev pub Lines : Type 0
-Lines = ℕ × List ℕ
 
 -- the line of the first statement; 1 where there is none
 abbrev pub first_line : List Lines → ℕ
 first_line [] = 1
 first_line (lines ∷ others) = lines.0
-
-abbrev pub other_lines : List Lines → List Lines
-other_lines [] = []
-other_lines (lines ∷ others) = others
 
 -- the task that a statement in this line registers, if it registers one
 abbrev pub registered_at : Path → Place → ℕ → Statement → List Site
@@ -49,10 +52,42 @@ abbrev pub AreLinesAt : Files → Place → List Lines → Type 0
 AreLinesAt files place lines =
     MatchOption (file_at files place) (lines ≡ []) (λ bytes. AreLinesOf bytes lines)
 
--- One of these scripts registers the task in this line of its file.
-pub record IsSiteIn (files : Files) (scripts : List (Path × List Statement)) (site : Site) : Type 0 where
+-- Where these scripts register tasks, in their order, each in the line in which its statement begins, and the
+-- words of their clauses. Where the contents of the folder are known, the lines are those of the files.
+abbrev pub AreSites : Bool → Files → List (Path × List Statement) → List Site → List Mark → Type 0
+AreSites tells files [] sites marks = (sites ≡ []) × (marks ≡ [])
+AreSites tells files (script ∷ scripts) sites marks =
+    (lines : List Lines) × (others : List Site) × (words : List Mark)
+    × (IsTrue tells → AreLinesAt files (script_of_project script.0) lines)
+    × AreSites tells files scripts others words
+    × (sites ≡ sites_of script.0 (script_of_project script.0) script.1 lines ++ others)
+    × (marks ≡ marks_of script.0 script.1 lines ++ words)
+
+-- ---- Why there are none
+
+-- a fault of a text, with the place of its file
+abbrev pub in_file : Place → ScriptFault → Fault
+in_file place texts.OutOfMemory = faults.OutOfMemory
+in_file place (texts.Syntax line) = faults.Syntax place line
+in_file place texts.TooLong = faults.TooLong place
+in_file place (texts.TooDeep line) = faults.TooDeep place line
+in_file place texts.NotUtf8 = faults.NotUtf8 place
+
+-- a fault of the folder where a text is read: a file that is too large is a text that is too long
+abbrev pub unread_at : Place → FolderFault → Fault
+unread_at place folders.TooLarge = faults.TooLong place
+unread_at place other = told_at place other
+
+-- Why a script has no lines: its place is none, another file is in its way, or its text is no script.
+pub data HasTextFault (files : Files) (place : Place) (fault : Fault) : Type 0 where
+  no_place : is_place place ≡ false → fault ≡ faults.BadPlace (codes "build.gb")
+      → HasTextFault files place fault
+  blocked : IsTrue (is_blocked files place) → fault ≡ faults.Blocked place → HasTextFault files place fault
+  no_script : (bytes : Bytes) (of : ScriptFault) → file_at files place ≡ Some bytes → Says bytes (Err of)
+      → fault ≡ in_file place of → HasTextFault files place fault
+
+-- one of these scripts has no lines, for this reason
+pub record IsUnread (files : Files) (scripts : List (Path × List Statement)) (fault : Fault) : Type 0 where
   pub script : Path × List Statement
   pub is_one : Contains scripts script
-  pub lines : List Lines
-  pub are_lines : AreLinesAt files (script_of_project script.0) lines
-  pub is_there : Contains (sites_of script.0 (script_of_project script.0) script.1 lines) site
+  pub has : HasTextFault files (script_of_project script.0) fault

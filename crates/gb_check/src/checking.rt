@@ -1,10 +1,11 @@
 //! The faults of all registered tasks.
-ghost use Rattle.std.specs.Prelude.{◌≡◌, ◌≢◌, ◌++◌, [], Err, IfOk, IsTrue, OnOk, Some, string_bytes};
+ghost use Rattle.std.specs.Prelude.{◌≡◌, ◌≢◌, ◌++◌, [], IfErr, IfOk, IsTrue, OnOk, string_bytes};
 ghost use Rattle.gb_plan.specs.Graph.{declaration_at, paths_of};
 ghost use Rattle.gb_plan.specs.Task.{has_path};
 ghost use Rattle.gb_check.specs.Found.{IsFound, IsSilent, found_text, task_text, tasks_text};
 
 use crate::found::push_found;
+use crate::marks::Mark;
 use crate::planning::{check_all, is_out_of_memory};
 use crate::sites::Site;
 use gb_core::path::TaskPath;
@@ -19,15 +20,17 @@ pub(crate) fn check<Ts: Tasks>(
     tasks: &mut Ts,
     names: &[TaskPath],
     sites: &[Site],
+    marks: &[Mark],
 ) -> Result<String, Fault>
     requires { names.now ≡ paths_of (Ts.registry tasks.old) }
     ensures kept { Ts.registry tasks.new ≡ Ts.registry tasks.old }
     ensures found { IfOk result (λ text.
-        IsFound sites.now (Ts.registry tasks.old) (string_bytes text)) }
+        IsFound sites.now marks.now (Ts.registry tasks.old) (string_bytes text)) }
     // The theorem of silence.
     ensures silent { IfOk result (λ text. string_bytes text ≡ [] → IsSilent (Ts.registry tasks.old)) }
+    ensures err { IfErr result (λ fault. fault ≡ Fault.OutOfMemory) }
 {
-    let text = check_each(alloc, tasks, names, sites)?;
+    let text = check_each(alloc, tasks, names, sites, marks)?;
     if text.as_str().is_empty() {
         check_all(alloc, tasks, names, sites)
     } else {
@@ -41,15 +44,17 @@ fn check_each<Ts: Tasks>(
     tasks: &mut Ts,
     names: &[TaskPath],
     sites: &[Site],
+    marks: &[Mark],
 ) -> Result<String, Fault>
     requires { names.now ≡ paths_of (Ts.registry tasks.old) }
     ensures kept { Ts.registry tasks.new ≡ Ts.registry tasks.old }
     ensures text { IfOk result (λ text.
-        string_bytes text ≡ tasks_text sites.now (Ts.registry tasks.old)) }
+        string_bytes text ≡ tasks_text sites.now marks.now (Ts.registry tasks.old)) }
+    ensures err { IfErr result (λ fault. fault ≡ Fault.OutOfMemory) }
 {
     let mut text = String::new(alloc);
     for path in names {
-        push_task(alloc, &mut text, tasks, path, sites)?;
+        push_task(alloc, &mut text, tasks, path, sites, marks)?;
     }
     Ok(text)
 }
@@ -61,31 +66,41 @@ fn push_task<Ts: Tasks>(
     tasks: &mut Ts,
     path: &TaskPath,
     sites: &[Site],
+    marks: &[Mark],
 ) -> Result<(), Fault>
     requires { IsTrue (has_path (paths_of (Ts.registry tasks.old)) path.now) }
     ensures kept { Ts.registry tasks.new ≡ Ts.registry tasks.old }
     ensures line { OnOk result (string_bytes text.new
-        ≡ string_bytes text.old ++ task_text sites.now (Ts.registry tasks.old) path.now) }
+        ≡ string_bytes text.old ++ task_text sites.now marks.now (Ts.registry tasks.old) path.now) }
+    ensures err { IfErr result (λ fault. fault ≡ Fault.OutOfMemory) }
 {
     match tasks.realise(alloc, path) {
         Ok(task) => {
             drop(task);
             Ok(())
         }
-        Err(fault) => push_fault(text, sites, path, fault),
+        Err(fault) => push_fault(alloc, text, sites, marks, path, fault),
     }
 }
 
 /// Adds the line of a fault, but that memory ran out: that is handed on.
-fn push_fault(text: &mut String, sites: &[Site], path: &TaskPath, fault: Fault) -> Result<(), Fault>
+fn push_fault(
+    alloc: Global,
+    text: &mut String,
+    sites: &[Site],
+    marks: &[Mark],
+    path: &TaskPath,
+    fault: Fault,
+) -> Result<(), Fault>
     ensures fault { OnOk result (fault ≢ Fault.OutOfMemory) }
     ensures line { OnOk result
-        (string_bytes text.new ≡ string_bytes text.old ++ found_text sites.now path.now fault) }
+        (string_bytes text.new ≡ string_bytes text.old ++ found_text sites.now marks.now path.now fault) }
+    ensures err { IfErr result (λ fault. fault ≡ Fault.OutOfMemory) }
 {
     if is_out_of_memory(&fault) {
         return Err(fault);
     }
-    let pushed = push_found(text, sites, path, &fault);
+    let pushed = push_found(alloc, text, sites, marks, path, &fault);
     drop(fault);
     Ok(pushed?)
 }

@@ -1,9 +1,11 @@
-//! All that is wrong with registered tasks, and what is odd about them.
-ghost use Rattle.std.specs.Prelude.{◌≡◌, IfOk, IsTrue};
+//! The faults of registered tasks, and warnings.
+ghost use Rattle.std.specs.Prelude.{◌≡◌, ◌⊎◌, IfErr, IfOk, IsTrue};
 ghost use Rattle.gb_folder.specs.Calls.{Asks, no_change};
 ghost use Rattle.gb_plan.specs.Graph.{paths_of};
 ghost use Rattle.gb_registry.specs.Seen.{scripts_in};
+ghost use Rattle.gb_store.specs.Faults.{IsOfMachine};
 ghost use Rattle.gb_check.specs.All.{AreFindings};
+ghost use Rattle.gb_check.specs.Sites.{IsUnread};
 
 use crate::checking::check;
 use crate::sites::read_sites;
@@ -27,11 +29,16 @@ pub struct Findings {
 /// What is found of the tasks that these scripts of a folder register. `names` are the paths of all tasks, in
 /// the order of registration.
 ///
-/// Faults: that of each task that has one, in that order, behind the script and the line that registers the
-/// task. Where none has, the reason why there is no plan of all tasks, behind the line of the first task that
-/// it names.
+/// Faults: that of each task that has one, in that order, after the script and the line of the one clause of
+/// the task that it names, or else the line that registers the task. Where none has, the reason why there is
+/// no plan of all tasks, after the line of the first task that it names.
 ///
-/// Warnings: each two file properties of a task that have a root in common, and each root without files.
+/// Warnings: each two file properties of a task that have a root in common; each root of a task that overlaps
+/// an output of another one which the task does not need; each task that reads an output of one which a test
+/// may skip; and each root without files.
+///
+/// Refused where memory runs out or the device fails, or where a script, which is read once more for its
+/// lines, cannot be read as one (2, 12, 20 to 23).
 pub fn find<Ts: Tasks, F: Folder>(
     alloc: Global,
     folder: &mut F,
@@ -44,9 +51,12 @@ pub fn find<Ts: Tasks, F: Folder>(
     ensures same { IsTrue F.tells → F.contents folder.new ≡ F.contents folder.old }
     ensures findings { IfOk result (AreFindings F.tells (F.contents folder.old)
         (Ts.registry tasks.old) (scripts_in scripts.now)) }
+    ensures err { IsTrue F.tells → IfErr result (λ fault.
+        IsOfMachine (F.failures folder.old) (F.failures folder.new) fault
+        ⊎ IsUnread (F.contents folder.old).files (scripts_in scripts.now) fault) }
 {
-    let sites = read_sites(alloc, folder, scripts)?;
-    let faults = check(alloc, tasks, names, sites.as_slice())?;
-    let warnings = warn(alloc, folder, tasks, names, sites.as_slice())?;
+    let (sites, marks) = read_sites(alloc, folder, scripts)?;
+    let faults = check(alloc, tasks, names, sites.as_slice(), marks.as_slice())?;
+    let warnings = warn(alloc, folder, tasks, names, scripts, sites.as_slice())?;
     Ok(Findings { faults, warnings })
 }

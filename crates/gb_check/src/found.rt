@@ -1,9 +1,11 @@
 //! The lines of what is found.
 ghost use Rattle.std.specs.Prelude.{◌≡◌, ◌++◌, [], IfOk, OnOk, bytes_eq, find, string_bytes};
 ghost use Rattle.std.specs.Option.{option_copied, option_map_or};
-ghost use Rattle.gb_check.specs.Found.{found_text, line_text, named_by, plan_text, site_text};
-ghost use Rattle.gb_check.specs.Found.{unread_text, unread_where, where_text};
+ghost use Rattle.gb_check.specs.Found.{fault_site_text, found_text, line_text, named_by, plan_text};
+ghost use Rattle.gb_check.specs.Found.{site_text, unread_text, unread_where, where_text};
 
+use crate::marks::Mark;
+use crate::naming::line_for;
 use crate::sites::Site;
 use gb_core::path::TaskPath;
 use gb_core::place::Place;
@@ -11,21 +13,43 @@ use gb_report::fault::Fault;
 use std::alloc::{AllocError, Global};
 use std::fmt::Write;
 
-/// Adds the fault of a task, behind the line that registers it.
+/// Adds the fault of a task, after the line of the clause that it names, or else of the registration.
 pub(crate) fn push_found(
+    alloc: Global,
     text: &mut String,
     sites: &[Site],
+    marks: &[Mark],
     path: &TaskPath,
     fault: &Fault,
 ) -> Result<(), AllocError>
     ensures { OnOk result (string_bytes text.new
-        ≡ string_bytes text.old ++ found_text sites.now path.now fault.now) }
+        ≡ string_bytes text.old ++ found_text sites.now marks.now path.now fault.now) }
 {
-    push_where(text, sites, path)?;
+    push_fault_site(alloc, text, marks, path, fault, site_of(sites, path))?;
     writeln!(text, "{fault}")
 }
 
-/// Adds the fault of a plan, behind the line that registers the first task that it names.
+fn push_fault_site(
+    alloc: Global,
+    text: &mut String,
+    marks: &[Mark],
+    path: &TaskPath,
+    fault: &Fault,
+    site: Option<&Site>,
+) -> Result<(), AllocError>
+    ensures { OnOk result (string_bytes text.new ≡ string_bytes text.old
+        ++ option_map_or (fault_site_text marks.now path.now fault.now) (option_copied site.entry) []) }
+{
+    match site {
+        Some(site) => {
+            let line = line_for(alloc, marks, path, fault, site.line)?;
+            push_line(text, &site.script, line)
+        }
+        None => Ok(()),
+    }
+}
+
+/// Adds the fault of a plan, after the line that registers the first task that it names.
 pub(crate) fn push_planned(
     text: &mut String,
     sites: &[Site],
@@ -90,7 +114,7 @@ fn push_site(text: &mut String, site: Option<&Site>) -> Result<(), AllocError>
     }
 }
 
-/// The line of a fault for which scripts or arguments cannot be read: behind its script and its line, where
+/// The line of a fault for which scripts or arguments cannot be read: after its script and its line, where
 /// it is one of a text.
 pub fn unread_text(alloc: Global, fault: &Fault) -> Result<String, AllocError>
     ensures { IfOk result (λ text. string_bytes text ≡ unread_text fault.now) }

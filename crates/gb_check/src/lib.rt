@@ -1,13 +1,19 @@
-//! What is wrong with the tasks of a folder, found before any of them is asked for: the fault of each task,
-//! with the line of the script that registers it, or that of the plan of all tasks; and warnings.
+//! What is wrong with the tasks of a folder, found before any of them is requested: the fault of each task,
+//! with the line of the clause that it names or of the statement that registers the task; where no task has
+//! one, the fault of the plan of all tasks; and warnings.
 #![tactic(auto)]
 
 mod bare;
 mod checking;
+mod declared;
 pub mod finding;
 pub mod found;
+pub mod marks;
+mod naming;
 mod places;
 mod planning;
 mod shared;
 pub mod sites;
+mod skipped;
+mod unneeded;
 mod warning;

@@ -1,5 +1,5 @@
 //! The plan of all registered tasks.
-ghost use Rattle.std.specs.Prelude.{◌≡◌, ◌≢◌, IfOk, OnOk, false, string_bytes};
+ghost use Rattle.std.specs.Prelude.{◌≡◌, ◌≢◌, IfErr, IfOk, OnOk, false, string_bytes, true};
 ghost use Rattle.gb_check.specs.Found.{IsFoundInAll, IsFoundInPlan, plan_text};
 
 use crate::found::push_planned;
@@ -21,6 +21,7 @@ pub(crate) fn check_all<Ts: Tasks>(
     ensures kept { Ts.registry tasks.new ≡ Ts.registry tasks.old }
     ensures found { IfOk result (λ text.
         IsFoundInAll sites.now (Ts.registry tasks.old) names.now (string_bytes text)) }
+    ensures err { IfErr result (λ fault. fault ≡ Fault.OutOfMemory) }
 {
     if names.is_empty() {
         return Ok(String::new(alloc));
@@ -50,6 +51,7 @@ fn check_plan<Ts: Tasks>(
     ensures kept { Ts.registry tasks.new ≡ Ts.registry tasks.old }
     ensures found { IfOk result (λ text.
         IsFoundInPlan sites.now (Ts.registry tasks.old) words.now (string_bytes text)) }
+    ensures err { IfErr result (λ fault. fault ≡ Fault.OutOfMemory) }
 {
     match plan(alloc, tasks, words, &[]) {
         Ok(plan) => {
@@ -64,6 +66,7 @@ fn check_plan<Ts: Tasks>(
 fn planned_text(alloc: Global, sites: &[Site], fault: Fault) -> Result<String, Fault>
     ensures fault { OnOk result (fault ≢ Fault.OutOfMemory) }
     ensures text { IfOk result (λ text. string_bytes text ≡ plan_text sites.now fault) }
+    ensures err { IfErr result (λ fault. fault ≡ Fault.OutOfMemory) }
 {
     if is_out_of_memory(&fault) {
         return Err(fault);
@@ -75,7 +78,8 @@ fn planned_text(alloc: Global, sites: &[Site], fault: Fault) -> Result<String, F
 
 /// Whether memory ran out.
 pub(crate) fn is_out_of_memory(fault: &Fault) -> bool
-    ensures { result ≡ false → fault.now ≢ Fault.OutOfMemory }
+    ensures no { result ≡ false → fault.now ≢ Fault.OutOfMemory }
+    ensures yes { result ≡ true → fault.now ≡ Fault.OutOfMemory }
 {
     matches!(fault, Fault::OutOfMemory)
 }

@@ -1,15 +1,21 @@
 //! Where scripts register tasks.
-ghost use Rattle.std.specs.Prelude.{◌≡◌, ℕ, [], ◌∷◌, ◌++◌, All, IfErr, IfOk, IsTrue, List, OnOk};
+ghost use Rattle.std.specs.Prelude.{◌≡◌, ◌⊎◌, ℕ, [], ◌∷◌, ◌++◌, Err, IfErr, IfOk, IsTrue, List, OnOk};
+ghost use Rattle.std.specs.Prelude.{codes, false};
 ghost use Rattle.std.specs.Option.{option_copied};
 ghost use Rattle.gb_core.specs.Path.{task_in};
-ghost use Rattle.gb_core.specs.Place.{joined};
+ghost use Rattle.gb_core.specs.Place.{is_place, joined};
 ghost use Rattle.gb_folder.specs.Calls.{Asks, no_change};
 ghost use Rattle.gb_registry.specs.Seen.{scripts_in};
 ghost use Rattle.gb_report.specs.declared.fault.Fault.TheVariants.{OutOfMemory};
 ghost use Rattle.gb_script.specs.Lines.{AreLinesOf};
-ghost use Rattle.gb_check.specs.Sites.{AreLinesAt, IsSiteIn, Lines, first_line, other_lines, registered_at};
-ghost use Rattle.gb_check.specs.Sites.{script_of_project, sites_of};
+ghost use Rattle.gb_script.specs.Script.{Says};
+ghost use Rattle.gb_script.specs.declared.fault.ScriptFault.{ScriptFault};
+ghost use Rattle.gb_store.specs.Faults.{IsOfMachine};
+ghost use Rattle.gb_check.specs.Marks.{Lines, marks_of, other_lines};
+ghost use Rattle.gb_check.specs.Sites.{AreLinesAt, AreSites, HasTextFault, IsUnread, first_line, in_file};
+ghost use Rattle.gb_check.specs.Sites.{registered_at, script_of_project, sites_of, unread_at};
 
+use crate::marks::{Mark, push_marks};
 use gb_core::name::{Name, NameFault};
 use gb_core::path::{ProjectPath, TaskPath};
 use gb_core::place::{Place, PlaceFault};
@@ -36,30 +42,35 @@ pub struct Site {
     pub line: u64,
 }
 
-/// Where these scripts register tasks. Each script is read once more for its lines. A task has the line 1 if
-/// its script lost statements since it was read first.
+/// Where these scripts register tasks, and the words of their clauses. Each script is read once more for its
+/// lines. A task has the line 1 if its script lost statements since it was read first.
 pub(crate) fn read_sites<F: Folder>(
     alloc: Global,
     folder: &mut F,
     scripts: &[Scripted],
-) -> Result<Vec<Site>, Fault>
+) -> Result<(Vec<Site>, Vec<Mark>), Fault>
     ensures asks { Asks F.failures F.may_leave F.asked no_change folder.old folder.new }
     ensures same { IsTrue F.tells → F.contents folder.new ≡ F.contents folder.old }
-    ensures sites { IsTrue F.tells → IfOk result (λ sites.
-        All (IsSiteIn (F.contents folder.old).files (scripts_in scripts.now)) sites.items) }
+    ensures sites { IfOk result (λ read.
+        AreSites F.tells (F.contents folder.old).files (scripts_in scripts.now) read.0.items read.1.items) }
+    ensures err { IsTrue F.tells → IfErr result (λ fault.
+        IsOfMachine (F.failures folder.old) (F.failures folder.new) fault
+        ⊎ IsUnread (F.contents folder.old).files (scripts_in scripts.now) fault) }
 {
     let mut sites = Vec::new(alloc);
+    let mut marks = Vec::new(alloc);
     for scripted in scripts {
-        push_script(alloc, folder, &mut sites, scripted)?;
+        push_script(alloc, folder, &mut sites, &mut marks, scripted)?;
     }
-    Ok(sites)
+    Ok((sites, marks))
 }
 
-/// Adds the tasks that a script registers.
+/// Adds the tasks that a script registers, and the words of their clauses.
 fn push_script<F: Folder>(
     alloc: Global,
     folder: &mut F,
     sites: &mut Vec<Site>,
+    marks: &mut Vec<Mark>,
     scripted: &Scripted,
 ) -> Result<(), Fault>
     ensures asks { Asks F.failures F.may_leave F.asked no_change folder.old folder.new }
@@ -68,23 +79,38 @@ fn push_script<F: Folder>(
         × (IsTrue F.tells
         → AreLinesAt (F.contents folder.old).files (script_of_project scripted.now.project) lines)
         × (sites.new.items ≡ sites.old.items ++ sites_of scripted.now.project
-        (script_of_project scripted.now.project) scripted.now.script lines)) }
+        (script_of_project scripted.now.project) scripted.now.script lines)
+        × (marks.new.items ≡ marks.old.items ++ marks_of scripted.now.project scripted.now.script lines)) }
+    ensures err { IsTrue F.tells → IfErr result (λ fault.
+        IsOfMachine (F.failures folder.old) (F.failures folder.new) fault
+        ⊎ HasTextFault (F.contents folder.old).files (script_of_project scripted.now.project) fault) }
 {
     let script = script_of_project(alloc, &scripted.project)?;
     let lines = lines_at(alloc, folder, &script)?;
+    let statements = scripted.script.statements();
+    push_marks(
+        alloc,
+        marks,
+        &scripted.project,
+        statements,
+        lines.as_slice(),
+    )?;
     push_registered(
         alloc,
         sites,
         &scripted.project,
         &script,
-        scripted.script.statements(),
+        statements,
         lines.as_slice(),
     )
 }
 
 /// The place of the script of a project.
 fn script_of_project(alloc: Global, project: &Project) -> Result<Place, Fault>
-    ensures { IfOk result (λ place. place ≡ script_of_project project.now) }
+    ensures place { IfOk result (λ place. place ≡ script_of_project project.now) }
+    ensures err { IfErr result (λ fault. (fault ≡ OutOfMemory)
+        ⊎ ((is_place (script_of_project project.now) ≡ false)
+        × (fault ≡ Fault.BadPlace (codes "build.gb")))) }
 {
     match Place::join(alloc, project.folder(), "build.gb") {
         Ok(place) => Ok(place),
@@ -103,19 +129,43 @@ fn lines_at<F: Folder>(
     ensures same { IsTrue F.tells → F.contents folder.new ≡ F.contents folder.old }
     ensures lines { IsTrue F.tells → IfOk result (λ lines.
         AreLinesAt (F.contents folder.old).files place.now lines.items) }
+    ensures err { IsTrue F.tells → IfErr result (λ fault.
+        IsOfMachine (F.failures folder.old) (F.failures folder.new) fault
+        ⊎ HasTextFault (F.contents folder.old).files place.now fault) }
 {
     match folder.read(alloc, place, MAX_SCRIPT as u64) {
         Ok(bytes) => lines_in(alloc, bytes.as_slice(), place),
         Err(fault) => match fault {
             FolderFault::Missing => Ok(Vec::new(alloc)),
-            other => Err(fault_at(other, place)),
+            other => Err(unread(other, place)),
         },
+    }
+}
+
+/// The folder's fault where a text was to be read.
+fn unread(fault: FolderFault, place: &Place) -> Fault
+    ensures { (result ≡ OutOfMemory) ⊎ (result ≡ unread_at place.now fault) }
+{
+    match fault {
+        FolderFault::TooLarge => too_long(place),
+        other => fault_at(other, place),
+    }
+}
+
+fn too_long(place: &Place) -> Fault
+    ensures { (result ≡ OutOfMemory) ⊎ (result ≡ Fault.TooLong place.now) }
+{
+    match place.copy() {
+        Ok(place) => Fault::TooLong(place),
+        Err(_) => Fault::OutOfMemory,
     }
 }
 
 /// The lines of the statements of these bytes, which are those of the script at this place.
 fn lines_in(alloc: Global, bytes: &[u8], place: &Place) -> Result<Vec<StatementLines>, Fault>
-    ensures { IfOk result (λ lines. AreLinesOf bytes.now lines.items) }
+    ensures lines { IfOk result (λ lines. AreLinesOf bytes.now lines.items) }
+    ensures err { IfErr result (λ fault. (fault ≡ OutOfMemory)
+        ⊎ ((of : ScriptFault) × Says bytes.now (Err of) × (fault ≡ in_file place.now of))) }
 {
     match read_script_lines(alloc, bytes) {
         Ok(lines) => Ok(lines),
@@ -124,7 +174,9 @@ fn lines_in(alloc: Global, bytes: &[u8], place: &Place) -> Result<Vec<StatementL
 }
 
 /// The fault of a text, with the place of its file.
-fn in_file(fault: ScriptFault, place: Place) -> Fault {
+fn in_file(fault: ScriptFault, place: Place) -> Fault
+    ensures { result ≡ in_file place fault }
+{
     match fault {
         ScriptFault::OutOfMemory => Fault::OutOfMemory,
         ScriptFault::Syntax(line) => Fault::Syntax(place, line),
@@ -143,8 +195,9 @@ fn push_registered(
     statements: &[Statement],
     lines: &[StatementLines],
 ) -> Result<(), Fault>
-    ensures { OnOk result (sites.new.items
+    ensures sites { OnOk result (sites.new.items
         ≡ sites.old.items ++ sites_of project.now script.now statements.now lines.now) }
+    ensures err { IfErr result (λ fault. fault ≡ OutOfMemory) }
 {
     let mut rest = lines;
     for statement in statements {
@@ -175,8 +228,9 @@ fn push_statement(
     statement: &Statement,
     line: u64,
 ) -> Result<(), Fault>
-    ensures { OnOk result (sites.new.items
+    ensures sites { OnOk result (sites.new.items
         ≡ sites.old.items ++ registered_at project.now script.now line statement.now) }
+    ensures err { IfErr result (λ fault. fault ≡ OutOfMemory) }
 {
     match statement {
         Statement::Register(registration) => {
@@ -194,8 +248,9 @@ fn push_site(
     name: &Name,
     line: u64,
 ) -> Result<(), Fault>
-    ensures { OnOk result (sites.new.items ≡ sites.old.items
+    ensures sites { OnOk result (sites.new.items ≡ sites.old.items
         ++ record { path = task_in project.now name.now; script = script.now; line = line } ∷ []) }
+    ensures err { IfErr result (λ fault. fault ≡ OutOfMemory) }
 {
     let path = task_path(alloc, project.path(), name)?;
     let script = script.copy()?;
@@ -204,7 +259,11 @@ fn push_site(
 }
 
 /// The path of the task of a name in a project.
-fn task_path(alloc: Global, project: &ProjectPath, name: &Name) -> Result<TaskPath, Fault>
+pub(crate) fn task_path(
+    alloc: Global,
+    project: &ProjectPath,
+    name: &Name,
+) -> Result<TaskPath, Fault>
     ensures path { IfOk result (λ path. path ≡ task_in project.now name.now) }
     ensures fault { IfErr result (λ fault. fault ≡ OutOfMemory) }
 {

@@ -1,12 +1,18 @@
-use Rattle.std.proofs.Common.{◌≡◌, Ok, List, ap, subst, sym, ◌∙◌}
-use Rattle.std.specs.Prelude.{IfOk, IsTrue, string_bytes}
-use Rattle.std.proofs.lemmas.Result.{IfOk-weaker}
+use Rattle.std.proofs.Common.{◌⊎◌, Ok, Err, List, inl, inr, subst, sym, ◌∙◌}
+use Rattle.std.specs.Prelude.{IfOk, IsTrue}
 use Rattle.gb_build.specs.Scripts.{FolderSays}
+use Rattle.gb_check.specs.Sites.{IsUnread}
 use Rattle.gb_folder.specs.Files.{Contents}
+use Rattle.gb_registry.specs.Projects.{Path}
+use Rattle.gb_registry.specs.Read.{IsRead}
 use Rattle.gb_registry.specs.Tables.{tables_of}
-use Rattle.gb_registry.specs.declared.tables.Tables as handed
-use Rattle.gb_check.specs.declared.finding.Findings.{Findings}
+use Rattle.gb_registry.specs.declared.tables.Tables as tables_of_code
+use Rattle.gb_report.specs.declared.fault.Fault.{Fault}
+use Rattle.gb_script.specs.declared.script.Statement.{Statement}
+use Rattle.gb_store.proofs.Machine.{machine_before}
+use Rattle.gb_store.specs.Faults.{IsOfMachine}
 use Rattle.gb_ask_command.specs.Check.{AreFindingsOf, IsChecked}
+use Rattle.gb_ask_command.proofs.Again.{handed, match_of, none_again}
 use Rattle.gb_ask_command.proofs.Quiet.{found_in_same, quiet}
 use Rattle.gb_ask_command.proofs.check.check_asked.Goals as goal
 
@@ -17,13 +23,19 @@ returns-clause-reply g c =
     let source = c.in_ok-configured.configured.registry in
     let old : Contents = F.contents c.args.folder.now in
     let mid : Contents = F.contents c.read_registry.new.folder in
+    let before = F.failures c.args.folder.now in
+    let between = F.failures c.read_registry.new.folder in
+    let after = F.failures c.check_configured.new.folder in
     let tables = tables_of g.T.Transforms.meanings M c.args.tables.now in
     let given = c.args.asked.now.properties in
     let said : IsTrue F.tells → FolderSays tables old.files given (Ok source) =
     λ tells. subst (λ values. FolderSays tables old.files values (Ok source)) (c.into_vec-given.ensures ∙ c.in_ok-copied.ensures) (c.in_ok-configured.ensures.said tells) in
     let found : IfOk c.check_configured.result (AreFindingsOf tables F.tells source mid) =
-    subst (λ (handed_in : handed.Tables _ _ _ _ _ _ _). IfOk c.check_configured.result (AreFindingsOf (tables_of g.T.Transforms.meanings M handed_in) F.tells source mid)) c.in_ok-configured.ensures.tables c.check_configured.ensures.found in
-    IfOk-weaker c.check_configured.result _ (IsChecked tables F.tells c.args.asked.now old)
+    subst (λ (handed_in : tables_of_code.Tables _ _ _ _ _ _ _). IfOk c.check_configured.result (AreFindingsOf (tables_of g.T.Transforms.meanings M handed_in) F.tells source mid)) c.in_ok-configured.ensures.tables c.check_configured.ensures.found in
+    let Unread : Contents → Fault → Type 0 = λ contents fault. (scripts : List (Path × List Statement)) × IsRead source scripts × IsUnread contents.files scripts fault in
+    let Bad : Fault → Type 0 = λ fault. IsOfMachine between after fault ⊎ Unread mid fault in
+    let Worse : Fault → Type 0 = λ fault. IsOfMachine before after fault ⊎ FolderSays tables old.files given (Err fault) in
+    match_of c.check_configured.result (AreFindingsOf tables F.tells source mid) (IsChecked tables F.tells c.args.asked.now old) F.tells Bad Worse
     (λ findings are.
     let here : AreFindingsOf tables F.tells source old findings = found_in_same tables F.tells old mid c.read_registry.ensures.same source findings are in
     record {
@@ -32,4 +44,22 @@ returns-clause-reply g c =
       found_of = here;
       quiet = λ tells none. quiet tables source old given (said tells) (here.findings.silent (sym here.faults ∙ none));
     })
+    (λ fault tells bad.
+    elim bad as (λ _. Worse fault) [
+      | inl machine ↦ inl (machine_before before between after fault c.read_registry.ensures.asks.count c.check_configured.ensures.asks.count machine)
+      | inr unread ↦ absurd (none_again tables old.files given source unread.0 fault (said tells) unread.1 (subst (λ (contents : Contents). IsUnread contents.files unread.0 fault) (c.read_registry.ensures.same tells) unread.2))
+    ])
     found
+    c.check_configured.ensures.err
+
+pub returns-in_err-configured-clause-reply : goal.returns-in_err-configured-clause-reply
+returns-in_err-configured-clause-reply g c =
+    let F = g.F.Folder in
+    let files = (F.contents c.args.folder.now).files in
+    let tables = tables_of g.T.Transforms.meanings g.A.Actions.meanings c.args.tables.now in
+    let fault = c.in_err-configured.field-0.0 in
+    let Refused : List (List _ × List _) → Fault → Type 0 = λ given fault.
+    IsOfMachine (F.failures c.args.folder.now) (F.failures c.read_registry.new.folder) fault ⊎ FolderSays tables files given (Err fault) in
+    handed (IsChecked tables F.tells c.args.asked.now (F.contents c.args.folder.now)) (λ fault. IsTrue F.tells → Refused c.args.asked.now.properties fault)
+    c.from_residual-in_err-configured.result fault c.from_residual-in_err-configured.ensures.1
+    (λ tells. subst (λ given. Refused given fault) (c.into_vec-given.ensures ∙ c.in_ok-copied.ensures) (c.in_err-configured.ensures.said tells))

@@ -1,4 +1,4 @@
-use Rattle.std.proofs.Common.{◌≡◌, ◌++◌, List, ap, subst, sym, ◌∙◌}
+use Rattle.std.proofs.Common.{◌++◌, List, ap, ◌∙◌}
 use Rattle.std.specs.Prelude.{string_bytes}
 use Rattle.gb_registry.specs.Seen.{scripts_in}
 use Rattle.gb_ask_command.specs.Unread.{unread_values_text}
@@ -10,9 +10,9 @@ returns-clause-found g c =
     let told = c.in_ok-with_warnings.ensures in
     record {
       scripts = scripts;
-      are_scripts = c.scripts-scripts.ensures.said;
+      are_scripts = c.scripts-scripts.ensures.read;
       in_tasks = c.in_ok-found.found;
       findings = c.in_ok-found.ensures.found;
       faults = told.0;
-      warnings = told.1 ∙ ap (λ (text : List _). text ++ string_bytes c.in_ok-found.found.warnings) (c.in_ok-warnings.ensures ∙ ap (unread_values_text scripts) c.given.ensures);
+      warnings = told.1 ∙ ap (λ (text : List _). text ++ string_bytes c.in_ok-found.found.warnings) (c.in_ok-warnings.ensures.text ∙ ap (unread_values_text scripts) c.given.ensures);
     }

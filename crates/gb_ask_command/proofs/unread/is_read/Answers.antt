@@ -8,8 +8,8 @@ use Rattle.gb_script.specs.declared.script.Statement.{Statement}
 use Rattle.gb_ask_command.specs.Unread.{is_read_by}
 use Rattle.gb_ask_command.proofs.unread.is_read.Goals as goal
 
-pub returns : goal.returns
-returns c =
+pub returns-clause-is : goal.returns-clause-is
+returns-clause-is c =
     IfOk-weaker c.is_read_in_scripts.result _ _
     (λ is read. read ∙ sym (any_map (λ (script : Path × List Statement). list_any (is_read_by c.args.name.now) script.1) (λ (s : Scripted). (s.project, s.script)) c.args.scripts.now))
-    c.is_read_in_scripts.ensures
+    c.is_read_in_scripts.ensures.is

@@ -2,6 +2,9 @@ use Rattle.std.proofs.Common.{◌++◌, List, ℕ, ap, string_bytes, ◌∙◌}
 use Rattle.gb_folder.specs.Files.{Contents}
 use Rattle.gb_folder.proofs.Asked.{asks_then}
 use Rattle.gb_check.specs.Warnings.{bare_text}
+use Rattle.gb_store.proofs.Machine.{machine_before}
+use Rattle.gb_store.specs.Faults.{IsOfMachine}
+use Rattle.gb_check.proofs.Refused.{handed}
 use Rattle.gb_check.proofs.Rows.{one_more}
 use Rattle.gb_check.proofs.bare.warn_each.Goals as goal
 
@@ -22,3 +25,10 @@ loop-rooted-preserved g c =
           ∙ ap (λ (text : List ℕ). text ++ of rooted) (c.loop-rooted.invariant.text tells)
           ∙ one_more of c.args.roots.now c.loop-rooted.rooted-index rooted c.loop-rooted-test.true c.rooted-item.is;
     }
+
+pub returns-in_err-push_rooted-clause-err : goal.returns-in_err-push_rooted-clause-err
+returns-in_err-push_rooted-clause-err g c = λ tells.
+    let failures = g.F.Folder.failures in
+    let fault = c.in_err-push_rooted.field-0.0 in
+    handed (IsOfMachine (failures c.args.folder.now) (failures c.push_rooted.new.folder)) c.from_residual.result fault c.from_residual.ensures.1
+    (machine_before _ _ _ fault c.loop-rooted.invariant.asks.count c.push_rooted.ensures.asks.count (c.in_err-push_rooted.ensures.err tells))

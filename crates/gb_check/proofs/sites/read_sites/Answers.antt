@@ -1,13 +1,19 @@
-use Rattle.std.proofs.Common.{List, subst, sym, ◌∙◌}
-use Rattle.std.specs.Prelude.{All}
-use Rattle.std.proofs.lemmas.List.Elements.{All-append}
+use Rattle.std.proofs.Common.{◌⊎◌, ◌++◌, arith, ◌∙◌, [], List, append-nil, append_assoc, ap, refl, subst, sym}
+use Rattle.std.proofs.lemmas.List.{drop_all}
 use Rattle.gb_folder.specs.Files.{Contents}
 use Rattle.gb_folder.proofs.Asked.{asks_then}
 use Rattle.gb_registry.specs.Seen.{scripts_in}
 use Rattle.gb_registry.specs.declared.checking.Scripted.{Scripted}
-use Rattle.gb_check.specs.Sites.{AreLinesAt, IsSiteIn, script_of_project, sites_of}
+use Rattle.gb_report.specs.declared.fault.Fault.{Fault}
+use Rattle.gb_store.specs.Faults.{IsOfMachine}
+use Rattle.gb_check.specs.Sites.{AreLinesAt, AreSites, HasTextFault, IsUnread, script_of_project, sites_of}
+use Rattle.gb_check.specs.Marks.{marks_of}
+use Rattle.gb_check.specs.declared.marks.Mark.{Mark}
 use Rattle.gb_check.specs.declared.sites.Site.{Site}
-use Rattle.gb_check.proofs.Rows.{all_in, contained}
+use Rattle.gb_registry.specs.Projects.{Path}
+use Rattle.gb_script.specs.declared.script.Statement.{Statement}
+use Rattle.gb_check.proofs.Refused.{handed, unread_one}
+use Rattle.gb_check.proofs.Rows.{contained, rest_from}
 use Rattle.gb_check.proofs.sites.read_sites.Goals as goal
 
 pub loop-scripted-preserved : goal.loop-scripted-preserved
@@ -15,21 +21,56 @@ loop-scripted-preserved g c =
     let F = g.F.Folder in
     let scripted = c.scripted-item.result in
     let scripts = c.args.scripts.now in
+    let index = c.loop-scripted.scripted-index in
     let files = (F.contents c.args.folder.now).files in
     let place = script_of_project scripted.project in
     let added = c.in_ok-push_script.ensures.sites in
+    let before = c.loop-scripted.sites.items in
+    let more = sites_of scripted.project place scripted.script added.0 in
+    let marks_before = c.loop-scripted.marks.items in
+    let marked = marks_of scripted.project scripted.script added.0 in
     record {
       asks = asks_then c.loop-scripted.invariant.asks c.push_script.ensures.asks;
       same = λ tells. c.push_script.ensures.same tells ∙ c.loop-scripted.invariant.same tells;
-      sites = λ tells.
-          let P : Site → Type 0 = IsSiteIn files (scripts_in scripts) in
-          subst (λ (sites : List Site). All P sites) (sym added.2)
-          (All-append P c.loop-scripted.sites.items (sites_of scripted.project place scripted.script added.0) (c.loop-scripted.invariant.sites tells)
-          (all_in P (sites_of scripted.project place scripted.script added.0) (λ site there. record {
-            script = (scripted.project, scripted.script);
-            is_one = contained (λ (s : Scripted). (s.project, s.script)) scripts c.loop-scripted.scripted-index scripted c.loop-scripted-test.true c.scripted-item.is;
-            lines = added.0;
-            are_lines = subst (λ (contents : Contents). AreLinesAt contents.files place added.0) (c.loop-scripted.invariant.same tells) (added.1 tells);
-            is_there = there;
-          })));
+      sites = λ others words rest.
+          subst (λ (sites : List Site). AreSites F.tells files (scripts_in scripts) sites (c.push_script.new.marks.items ++ words)) (sym (ap (λ (sites : List Site). sites ++ others) added.2 ∙ append_assoc before more others))
+          (subst (λ (marks : List Mark). AreSites F.tells files (scripts_in scripts) (before ++ (more ++ others)) marks) (sym (ap (λ (marks : List Mark). marks ++ words) added.3 ∙ append_assoc marks_before marked words))
+          (c.loop-scripted.invariant.sites (more ++ others) (marked ++ words)
+          (subst (λ (left : List Scripted). AreSites F.tells files (scripts_in left) (more ++ others) (marked ++ words)) (sym (rest_from scripts index scripted c.loop-scripted-test.true c.scripted-item.is)) (
+            added.0,
+            others,
+            words,
+            λ tells. subst (λ (contents : Contents). AreLinesAt contents.files place added.0) (c.loop-scripted.invariant.same tells) (added.1 tells),
+            rest,
+            refl,
+            refl,
+          ))));
     }
+
+pub returns-in_err-push_script-clause-err : goal.returns-in_err-push_script-clause-err
+returns-in_err-push_script-clause-err g c = λ tells.
+    let F = g.F.Folder in
+    let scripted = c.scripted-item.result in
+    let scripts = c.args.scripts.now in
+    let files = (F.contents c.args.folder.now).files in
+    let fault = c.in_err-push_script.field-0.0 in
+    let script : Path × List Statement = (scripted.project, scripted.script) in
+    let Bad : Fault → Type 0 = λ fault. IsOfMachine (F.failures c.args.folder.now) (F.failures c.push_script.new.folder) fault ⊎ IsUnread files (scripts_in scripts) fault in
+    handed Bad c.from_residual.result fault c.from_residual.ensures.1
+    (unread_one files (scripts_in scripts) script _ (F.failures c.loop-scripted.folder) _ fault
+    (contained (λ (s : Scripted). (s.project, s.script)) scripts c.loop-scripted.scripted-index scripted c.loop-scripted-test.true c.scripted-item.is)
+    c.loop-scripted.invariant.asks.count c.push_script.ensures.asks.count
+    (subst (λ (contents : Contents). IsOfMachine (F.failures c.loop-scripted.folder) (F.failures c.push_script.new.folder) fault ⊎ HasTextFault contents.files (script_of_project scripted.project) fault)
+    (c.loop-scripted.invariant.same tells) (c.in_err-push_script.ensures.err tells)))
+
+pub returns-clause-sites : goal.returns-clause-sites
+returns-clause-sites g c =
+    let F = g.F.Folder in
+    let scripts = c.args.scripts.now in
+    let files = (F.contents c.args.folder.now).files in
+    let sites = c.loop-scripted.sites.items in
+    let marks = c.loop-scripted.marks.items in
+    let all = drop_all c.loop-scripted.scripted-index scripts (omega (arith, c.loop-scripted-test.false)) in
+    subst (λ (s : List Site). AreSites F.tells files (scripts_in scripts) s marks) (append-nil sites)
+    (subst (λ (m : List Mark). AreSites F.tells files (scripts_in scripts) (sites ++ []) m) (append-nil marks)
+    (c.loop-scripted.invariant.sites [] [] (subst (λ (left : List Scripted). AreSites F.tells files (scripts_in left) [] []) (sym all) (refl, refl))))

@@ -3,10 +3,10 @@ use Rattle.std.specs.Prelude.{IsTrue}
 use Rattle.gb_plan.specs.Graph.{paths_of}
 use Rattle.gb_plan.specs.Task.{Path, has_path}
 use Rattle.gb_check.proofs.Rows.{is_there}
-use Rattle.gb_check.proofs.places.all_roots.Goals as goal
+use Rattle.gb_check.proofs.declared.declarations.Goals as goal
 
-pub push_roots_at-requires : goal.push_roots_at-requires
-push_roots_at-requires g c =
+pub push_declared-requires : goal.push_declared-requires
+push_declared-requires g c =
     let paths : List Path = c.args.names.now in
     subst (λ (paths : List Path). IsTrue (has_path paths c.path-item.result)) (c.requires ∙ ap paths_of (sym c.loop-path.invariant.kept))
     (is_there paths c.loop-path.path-index c.path-item.result c.loop-path-test.true c.path-item.is)

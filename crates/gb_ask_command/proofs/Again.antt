@@ -1,0 +1,70 @@
+-- Scripts that could be read can be read once more.
+use Rattle.std.proofs.Common.{ℕ, ◌≡◌, ◌∙◌, Bool, true, IsTrue, List, [], ◌∷◌, Option, Some, Result, Ok, Err, ap, inl, inr, subst, sym}
+use Rattle.std.specs.List.{AllByRecursion, list_all}
+use Rattle.std.specs.Prelude.{Contains, IfErr, IfOk, MatchResult, zip}
+use Rattle.std.specs.Result.{IsErrAnd}
+use Rattle.std.proofs.lemmas.Bool.{and_parts, false≢true}
+use Rattle.std.proofs.lemmas.List.Elements.{All-contains, All-from_recursion}
+use Rattle.gb_core.specs.Place.{is_place}
+use Rattle.gb_folder.specs.Files.{Bytes, Files, Place}
+use Rattle.gb_registry.specs.Projects.{Path, project_paths, projects_of, with_folders}
+use Rattle.gb_registry.specs.Read.{IsRead}
+use Rattle.gb_registry.specs.Source.{Source}
+use Rattle.gb_registry.specs.Tables.{Tables}
+use Rattle.gb_report.specs.declared.fault.Fault.{Fault}
+use Rattle.gb_script.proofs.Sources.{one_said}
+use Rattle.gb_script.proofs.StatementLaws.{Reads-script, script_ends_text}
+use Rattle.gb_script.specs.Script.{Says}
+use Rattle.gb_script.specs.declared.script.Statement.{Statement}
+use Rattle.gb_build.proofs.PlaceLemmas.{places_good}
+use Rattle.gb_build.specs.Scripts.{AreTexts, FolderSays, script_places}
+use Rattle.gb_build.specs.Texts.{FileSays, TextSays}
+use Rattle.gb_check.specs.Sites.{HasTextFault, IsUnread, blocked, no_place, no_script, script_of_project}
+
+module _ (files : Files) where
+  -- the place of the project's script is one, and what is there can be read
+  abbrev IsReadable : Path × List Statement → Type 0
+  IsReadable script = (is_place (script_of_project script.0) ≡ true) × ((text : List Statement) × TextSays Says files (script_of_project script.0) (Ok text))
+
+  each_readable : (paths : List Path) (texts others : List (List Statement)) → AreTexts files (script_places (with_folders paths)) texts
+      → list_all is_place (script_places (with_folders paths)) ≡ true → AllByRecursion IsReadable (zip paths others)
+  each_readable [] texts others are good = tt
+  each_readable (path ∷ paths) texts [] are good = tt
+  each_readable (path ∷ paths) [] (other ∷ others) are good = absurd are
+  each_readable (path ∷ paths) (text ∷ texts) (other ∷ others) are good =
+      let parts = and_parts (is_place (script_of_project path)) (list_all is_place (script_places (with_folders paths))) good in
+      ((parts.0, (text, are.0)), each_readable paths texts others are.1 parts.1)
+
+  no_fault : (place : Place) (text : List Statement) (fault : Fault) → is_place place ≡ true → TextSays Says files place (Ok text) → HasTextFault files place fault → ⊥
+  no_fault place text fault good says (no_place bad is) = false≢true (sym bad ∙ good)
+  no_fault place text fault good (inl (in_way, wrong)) (blocked stands is) = cc
+  no_fault place text fault good (inr (free, says)) (blocked stands is) = false≢true (sym free ∙ stands)
+  no_fault place text fault good (inl (in_way, wrong)) (no_script bytes of at bad is) = cc
+  no_fault place text fault good (inr (free, says)) (no_script bytes of at bad is) =
+      let here : FileSays Says place (Some bytes) (Ok text) = subst (λ (file : Option Bytes). FileSays Says place file (Ok text)) at says in
+      let two = one_said Reads-script script_ends_text bytes (Ok text) (Err of) here bad in
+      cc
+
+-- no script has a fault where the folder says something
+pub none_again : {M F Z S A : Type 0} (tables : Tables M F Z S A) (files : Files) (given : List (List ℕ × List ℕ)) (source : Source) (scripts : List (Path × List Statement)) (fault : Fault)
+    → FolderSays tables files given (Ok source) → IsRead source scripts → IsUnread files scripts fault → ⊥
+none_again tables files given source scripts fault (settings, (first, says_first, (none, same)), (texts, are, (_, is))) read unread =
+    let good : list_all is_place (script_places (projects_of settings)) ≡ true = subst (λ s. list_all is_place (script_places (projects_of s)) ≡ true) (sym same) (places_good first none) in
+    let paths : project_paths settings ≡ project_paths read.settings = ap (λ (s : Source). s.names.projects) (sym is ∙ read.said) in
+    let each = each_readable files (project_paths settings) texts read.texts are good in
+    let all = All-from_recursion (IsReadable files) (zip (project_paths settings) read.texts) each in
+    let there : Contains (zip (project_paths settings) read.texts) unread.script =
+    subst (λ (ps : List Path). Contains (zip ps read.texts) unread.script) (sym paths) (subst (λ ss. Contains ss unread.script) read.each unread.is_one) in
+    let readable = All-contains (IsReadable files) (zip (project_paths settings) read.texts) unread.script all there in
+    no_fault files (script_of_project unread.script.0) readable.1.0 fault readable.0 readable.1.1 unread.has
+
+-- what holds of a fault that is handed on holds of the result
+pub handed : {T : Type 0} (Good : T → Type 0) (Bad : Fault → Type 0) (result : Result T Fault) (fault : Fault) → IsErrAnd result (λ told. told ≡ fault) → Bad fault → MatchResult result Good Bad
+handed Good Bad (Ok x) fault is bad = absurd is
+handed Good Bad (Err told) fault is bad = subst Bad (sym is) bad
+
+-- what holds of a result and what holds of an error, as one
+pub match_of : {T : Type 0} (result : Result T Fault) (Good Better : T → Type 0) (tells : Bool) (Bad Worse : Fault → Type 0) → ((x : T) → Good x → Better x)
+    → ((fault : Fault) → IsTrue tells → Bad fault → Worse fault) → IfOk result Good → (IsTrue tells → IfErr result Bad) → MatchResult result Better (λ fault. IsTrue tells → Worse fault)
+match_of (Ok x) Good Better tells Bad Worse better worse good bad = better x good
+match_of (Err fault) Good Better tells Bad Worse better worse good bad = λ told. worse fault told (bad told)
