@@ -22,7 +22,7 @@ abbrev pub IsStatusText : Notation → Activity → List Entry → List ℕ → 
 IsStatusText notations.Lines activity found text = text ≡ status_text activity found
 IsStatusText notations.Json activity found text = IsJsonOf (status_data activity found) text
 
--- the text of some entries; where the folder tells, of exactly its own
+-- the text of some entries; where contents are known, exactly those of the folder's files
 abbrev pub IsStatusOf : Bool → Notation → Activity → Files → List Path → List ℕ → Type 0
 IsStatusOf tells notation activity files registered text =
     (found : List Entry) × (IsTrue tells → AreEntriesOf files registered found)

@@ -1,7 +1,8 @@
 //! The whole answer to a query.
-ghost use Rattle.std.specs.Prelude.{◌≡◌, IfOk, IsTrue, string_bytes};
+ghost use Rattle.std.specs.Prelude.{◌≡◌, IfErr, IfOk, IsTrue, string_bytes};
 ghost use Rattle.gb_folder.specs.Calls.{Asks, no_change};
 ghost use Rattle.gb_plan.specs.Graph.{paths_of};
+ghost use Rattle.gb_query.specs.Inventory.{IsUnlisted};
 ghost use Rattle.gb_query.specs.Notation.{IsFoundText, IsStatusOf};
 ghost use Rattle.gb_query.specs.Search.{found_in};
 
@@ -35,7 +36,9 @@ pub fn search_text<Ts: Tasks>(
     Ok(text?)
 }
 
-/// The text of what each file of `.gb` is, where these tasks are registered, behind whether a build runs.
+/// Whether a build runs, and what each file of `.gb` is, where these tasks are registered. An error is that
+/// memory ran out, that the device failed (`Device`), or that `.gb` has a file that no place names
+/// (`BadFileName`).
 pub fn inventory_text<F: Folder>(
     alloc: Global,
     notation: Notation,
@@ -47,6 +50,8 @@ pub fn inventory_text<F: Folder>(
     ensures same { IsTrue F.tells → F.contents folder.new ≡ F.contents folder.old }
     ensures text { IfOk result (λ text. IsStatusOf F.tells notation activity
         (F.contents folder.old).files registered.now (string_bytes text)) }
+    ensures refused { IsTrue F.tells → IfErr result
+        (IsUnlisted (F.contents folder.old) (F.failures folder.old) (F.failures folder.new)) }
 {
     let entries = inventory(alloc, folder, registered)?;
     let text = write_status(alloc, notation, activity, entries.as_slice());
