@@ -1,6 +1,7 @@
 mod Told
 pub mod Numbers
-pub mod Listed
 pub mod Writing
 pub mod Treating
 pub mod Quiet
+pub mod Replying
+pub mod WhyDepths

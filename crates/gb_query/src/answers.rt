@@ -3,11 +3,13 @@ ghost use Rattle.std.specs.Prelude.{◌≡◌, IfErr, IfOk, IsTrue, string_bytes
 ghost use Rattle.gb_folder.specs.Calls.{Asks, no_change};
 ghost use Rattle.gb_plan.specs.Graph.{paths_of};
 ghost use Rattle.gb_query.specs.Inventory.{IsUnlisted};
-ghost use Rattle.gb_query.specs.Notation.{IsFoundText, IsStatusOf};
+ghost use Rattle.gb_query.specs.Notation.{IsFoundText, IsStatusOf, IsTasksText};
 ghost use Rattle.gb_query.specs.Search.{found_in};
 
 use crate::inventory::inventory;
 use crate::lines::Activity;
+use crate::listing_lines::tasks_text;
+use crate::listing_objects::tasks_json;
 use crate::notation::{Notation, write_found, write_status};
 use crate::search::{Relation, search};
 use gb_core::path::TaskPath;
@@ -15,7 +17,24 @@ use gb_core::place::Place;
 use gb_folder::folder::Folder;
 use gb_graph::tasks::Tasks;
 use gb_report::fault::Fault;
-use std::alloc::Global;
+use std::alloc::{AllocError, Global};
+
+/// The text of all registered tasks, whose paths these are.
+pub fn list_text<Ts: Tasks>(
+    alloc: Global,
+    notation: Notation,
+    tasks: &mut Ts,
+    names: &[TaskPath],
+) -> Result<String, AllocError>
+    requires { names.now ≡ paths_of (Ts.registry tasks.old) }
+    ensures { IfOk result (λ text.
+        IsTasksText notation (Ts.registry tasks.old) (string_bytes text)) }
+{
+    match notation {
+        Notation::Lines => tasks_text(alloc, tasks, names),
+        Notation::Json => tasks_json(alloc, tasks, names),
+    }
+}
 
 /// The text of what is found of all registered tasks, whose paths these are.
 pub fn search_text<Ts: Tasks>(
@@ -25,7 +44,7 @@ pub fn search_text<Ts: Tasks>(
     tasks: &mut Ts,
     names: &[TaskPath],
     place: &Place,
-) -> Result<String, Fault>
+) -> Result<String, AllocError>
     requires { names.now ≡ paths_of (Ts.registry tasks.old) }
     ensures { IfOk result (λ text. IsFoundText notation relation
         (found_in relation place.now (Ts.registry tasks.old)) (string_bytes text)) }
@@ -33,7 +52,7 @@ pub fn search_text<Ts: Tasks>(
     let found = search(alloc, relation, tasks, names, place)?;
     let text = write_found(alloc, notation, relation, found.as_slice());
     drop(found);
-    Ok(text?)
+    text
 }
 
 /// Whether a build runs, and what each file of `.gb` is, where these tasks are registered. An error is that
