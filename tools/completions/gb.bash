@@ -15,10 +15,12 @@ _gb() {
         return ;;
     gb_ask:graph)
         [[ $COMP_CWORD == 2 && $word == --* ]] &&
-            COMPREPLY=($(compgen -W '--tree --mermaid --svg' -- "$word")) ;;
-    gb_ask:reads | gb_ask:makes | gb_ask:status)
+            COMPREPLY=($(compgen -W '--tree --mermaid --svg --json' -- "$word")) ;;
+    gb_ask:why | gb_ask:tasks | gb_ask:status)
+        [[ $COMP_CWORD == 2 && $word == --* ]] && COMPREPLY=($(compgen -W '--json' -- "$word")) ;;
+    gb_ask:reads | gb_ask:makes)
         [[ $COMP_CWORD == 2 && $word == --* ]] && COMPREPLY=($(compgen -W '--json' -- "$word"))
-        [[ ${COMP_WORDS[1]} != status ]] && COMPREPLY+=($(compgen -f -- "$word")) ;;
+        COMPREPLY+=($(compgen -f -- "$word")) ;;
     gb_ask:help) return ;;
     esac
     case " $before " in

@@ -83,8 +83,8 @@ fn asked<A: Actions, T: Transforms, W: Printer>(
     let mut folder = DiskFolder::new(rt, String::new(alloc));
     let (question, words) = parted(words);
     match question {
-        Question::Why => why::run(alloc, &mut folder, Ok(words), page, tables),
-        Question::Tasks => tasks::run(alloc, &mut folder, Ok(words), page, tables),
+        Question::Why => predicted(alloc, &mut folder, words, page, tables),
+        Question::Tasks => listed(alloc, &mut folder, words, page, tables),
         Question::Graph => drawn(alloc, &mut folder, words, page, tables),
         Question::Reads => related(alloc, &mut folder, Relation::Reads, words, page, tables),
         Question::Makes => related(alloc, &mut folder, Relation::Makes, words, page, tables),
@@ -106,6 +106,30 @@ fn noted(words: Vec<String>) -> (Notation, Vec<String>) {
         }
         None => (Notation::Lines, words),
     }
+}
+
+/// Prints the outcome of each task in a build.
+fn predicted<A: Actions, T: Transforms, F: Folder, W: Printer>(
+    alloc: Global,
+    folder: &mut F,
+    words: Vec<String>,
+    page: &mut W,
+    tables: &Tables<A, T>,
+) -> Option<u8> {
+    let (notation, words) = noted(words);
+    why::run(alloc, folder, notation, Ok(words), page, tables)
+}
+
+/// Prints the registered tasks.
+fn listed<A: Actions, T: Transforms, F: Folder, W: Printer>(
+    alloc: Global,
+    folder: &mut F,
+    words: Vec<String>,
+    page: &mut W,
+    tables: &Tables<A, T>,
+) -> Option<u8> {
+    let (notation, words) = noted(words);
+    tasks::run(alloc, folder, notation, Ok(words), page, tables)
 }
 
 /// Prints the tasks that a place is related to.

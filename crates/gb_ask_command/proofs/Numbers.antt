@@ -14,13 +14,13 @@ any_at p [] i y e h = absurd (cc)
 any_at p (x ∷ xs) zero y e h = let same : x ≡ y = cc in ap (λ b. b || list_any p xs) (ap p same ∙ h)
 any_at p (x ∷ xs) (suc i) y e h = or_right (p x) (list_any p xs) (any_at p xs i y e h)
 
--- what is found at an index is what stands there
+-- what is found at an index is the path there
 at_index : (paths : List Path) (i : ℕ) (path : Path) → i < length paths → slice_index_or paths i [] ≡ path → slice_get paths i ≡ Some path
 at_index [] i path lt is = absurd (omega arith)
 at_index (first ∷ paths) zero path lt is = ap Some is
 at_index (first ∷ paths) (suc i) path lt is = at_index paths i path (omega arith) is
 
--- a path of the list stands at some index
+-- a path of the list is at some index
 has_index : (paths : List Path) (path : Path) → has_path paths path ≡ true → (i : ℕ) × (i < length paths) × (slice_index_or paths i [] ≡ path)
 has_index [] path e = absurd (cc)
 has_index (first ∷ paths) path e = by (has_index paths path) (bytes_eq path first) refl e

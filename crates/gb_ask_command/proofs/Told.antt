@@ -1,4 +1,4 @@
--- What is told of a plan is told of what was asked for, and what is told later of the folder as it stood before.
+-- The report of a plan is that of what was asked for, and a later report is one of the folder as it was before.
 use Rattle.std.specs.Prelude.{ℕ, ◌≡◌, ◌≤◌, Bool, IsTrue, List, [], Option, Result, Ok, Err, IfErr, IfOk}
 use Rattle.std.specs.List.{AllZip, zip}
 use Rattle.std.proofs.Common.{subst, arith}
@@ -33,7 +33,7 @@ pub err_more : {T E : Type 0} (P Q : E → Type 0) → ((e : E) → P e → Q e)
 err_more P Q more (Ok x) is = tt
 err_more P Q more (Err e) is = more e is
 
--- ---- Since the folder stood so
+-- ---- Since the folder was so
 
 -- what a folder shows
 abbrev pub shows : Contents → ℕ → Shown

@@ -1,4 +1,4 @@
--- What the named files come to, one after another.
+-- The named files, treated one after another.
 use Rattle.std.proofs.Common.{ℕ, ◌≡◌, ◌<◌, ◌+◌, ◌++◌, ◌||◌, Bool, true, false, not, List, [], ◌∷◌, Option, Result, Ok, Err, length, get_or, take, refl, sym, ap, ◌∙◌, append-nil, subst, inl, inr}
 use Rattle.std.specs.Prelude.{◌⊎◌, string_bytes}
 use Rattle.std.specs.Global.{Global}

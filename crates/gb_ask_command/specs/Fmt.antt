@@ -80,7 +80,8 @@ Formats true text (Err fault) = SaysAsSettings text (Err fault) ⊎ IsLayoutFaul
 
 abbrev pub FormatsAt : Place → Bytes → Result Bytes Fault → Type 0
 FormatsAt place text out =
-    (answer : Result Bytes ScriptFault) × Formats (is_settings place) text answer × (out ≡ answer_in place answer)
+    (answer : Result Bytes ScriptFault) × Formats (is_settings place) text answer
+    × (out ≡ answer_in place answer)
 
 -- A file is written if it differs, with exactly its formatted text.
 abbrev pub Replaces : Bool → Place → Bytes → List Call → Result Bytes Fault → Type 0

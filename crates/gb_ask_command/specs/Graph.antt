@@ -10,6 +10,8 @@ use Rattle.gb_picture.specs.declared.graph.Node.{Node}
 use Rattle.gb_plan.specs.Graph.{Plan, Registry, is_scheduled_in, needs_in, order, orders_in}
 use Rattle.gb_plan.specs.Task.{Path, Text}
 use Rattle.gb_plan.specs.declared.plan.Planned.{Planned}
+use Rattle.gb_query.specs.Drawn.{graph_data}
+use Rattle.gb_query.specs.Objects.{IsJsonOf}
 use Rattle.gb_ask_command.specs.declared.words.Style.{Style}
 use Rattle.gb_ask_command.specs.declared.words.Style.TheVariants as styles
 
@@ -40,6 +42,7 @@ IsPicture styles.Dot nodes text = text ≡ dot_text nodes
 IsPicture styles.Tree nodes text = text ≡ outline_text nodes
 IsPicture styles.Mermaid nodes text = text ≡ mermaid_text nodes
 IsPicture styles.Svg nodes text = IsSvgOf nodes text
+IsPicture styles.Json nodes text = IsJsonOf (graph_data nodes) text
 
 -- the graph of the plan of what is asked of a registry
 abbrev pub IsDrawing : Style → Registry → List Text → List Text → List ℕ → Type 0

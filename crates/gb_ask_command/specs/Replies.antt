@@ -1,13 +1,16 @@
 -- The replies to the arguments of a question.
-use Rattle.std.specs.Prelude.{◌≡◌, ◌⊎◌, Bool, IsTrue, IfOk, Ok, Err, Result, string_bytes}
+use Rattle.std.specs.Prelude.{ℕ, ◌≡◌, ◌⊎◌, Bool, IsTrue, List, Ok, Err, Result, string_bytes}
 use Rattle.gb_build.specs.Scripts.{FolderSays}
 use Rattle.gb_command.specs.Answered.{AreRefused, AskFor, Given}
 use Rattle.gb_declare.specs.Registered.{registry_said}
-use Rattle.gb_folder.specs.Files.{Files, Place}
+use Rattle.gb_folder.specs.Files.{Place}
+use Rattle.gb_graph.specs.Answer.{IsRefusalOf}
+use Rattle.gb_meaning.specs.Edits.{Shown}
 use Rattle.gb_meaning.specs.declared.events.Invocation.{Invocation}
-use Rattle.gb_plan.specs.Graph.{paths_of}
+use Rattle.gb_plan.specs.Graph.{Registry, paths_of}
 use Rattle.gb_query.specs.Asked.{asked_place}
-use Rattle.gb_query.specs.Notation.{IsFoundText, IsStatusOf}
+use Rattle.gb_query.specs.Inventory.{IsUnlisted}
+use Rattle.gb_query.specs.Notation.{IsFoundText, IsStatusOf, IsTasksText}
 use Rattle.gb_query.specs.Search.{found_in}
 use Rattle.gb_query.specs.declared.lines.Activity.{Activity}
 use Rattle.gb_query.specs.declared.notation.Notation.{Notation}
@@ -16,72 +19,72 @@ use Rattle.gb_registry.specs.Source.{Source}
 use Rattle.gb_registry.specs.Tables.{Tables}
 use Rattle.gb_report.specs.declared.fault.Fault.{Fault}
 use Rattle.gb_report.specs.declared.fault.Fault.TheVariants as faults
+use Rattle.gb_store.specs.Faults.{IsOfMachine}
 use Rattle.gb_ask_command.specs.Graph.{IsDrawing}
-use Rattle.gb_ask_command.specs.Listing.{tasks_text}
 use Rattle.gb_ask_command.specs.Reply.{Reply}
 use Rattle.gb_ask_command.specs.declared.words.Style.{Style}
 
-module _ {M F Z S A : Type 0} (tables : Tables M F Z S A) (tells : Bool) where
-  -- A text lists the tasks that some scripts register. Where contents are known, these are the folder's own.
-  abbrev pub IsTasksReply : Invocation → Files → Reply → Type 0
-  IsTasksReply asked files reply =
-      IfOk reply (λ text. (source : Source)
-      × (IsTrue tells → FolderSays tables files asked.properties (Ok source))
-      × (string_bytes text ≡ tasks_text (registry_said tables source)))
+-- the arguments are refused, or they ask for something, and this is the reply to it
+abbrev pub Replies : {R : Type 0} → (Invocation → Result R Fault → Type 0) → Given → Result R Fault → Type 0
+Replies IsReplyTo given reply =
+    ((fault : Fault) × AreRefused given fault × (reply ≡ Err fault))
+    ⊎ ((asked : Invocation) × AskFor given asked × IsReplyTo asked reply)
 
-  -- the arguments are refused, or they ask for something, and this is the reply to it
-  abbrev pub RepliesTasks : Given → Files → Reply → Type 0
-  RepliesTasks given files reply =
-      ((fault : Fault) × AreRefused given fault × (reply ≡ Err fault))
-      ⊎ ((asked : Invocation) × AskFor given asked × IsTasksReply asked files reply)
+-- the folder is as `old` at first, and its device has failed `after` times at the end
+module _ {M F Z S A : Type 0} (tables : Tables M F Z S A) (tells : Bool) (old : Shown) (after : ℕ) where
+  -- ---- The scripts
 
-module _ {M F Z S A : Type 0} (tables : Tables M F Z S A) (tells : Bool) (style : Style) where
-  -- A text is the graph of the plan of what is asked of the tasks that some scripts register. Where contents
-  -- are known, these are the folder's own.
-  abbrev pub IsGraphReply : Invocation → Files → Reply → Type 0
-  IsGraphReply asked files reply =
-      IfOk reply (λ text. (source : Source)
-      × (IsTrue tells → FolderSays tables files asked.properties (Ok source))
-      × IsDrawing style (registry_said tables source) asked.requested asked.excluded (string_bytes text))
+  -- These are the scripts with the values that are given, or the fault for which they cannot be read. Where
+  -- contents are known, the folder's own scripts say it, or it is a fault of the machine.
+  abbrev pub AreRead : Invocation → Result Source Fault → Type 0
+  AreRead asked (Ok source) =
+      IsTrue tells → FolderSays tables old.contents.files asked.properties (Ok source)
+  AreRead asked (Err fault) =
+      IsTrue tells → IsOfMachine old.failures after fault
+      ⊎ FolderSays tables old.contents.files asked.properties (Err fault)
 
-  -- the arguments are refused, or they ask for something, and this is the reply to it
-  abbrev pub RepliesGraph : Given → Files → Reply → Type 0
-  RepliesGraph given files reply =
-      ((fault : Fault) × AreRefused given fault × (reply ≡ Err fault))
-      ⊎ ((asked : Invocation) × AskFor given asked × IsGraphReply asked files reply)
+  -- scripts are read, and this holds of what they register
+  abbrev pub IsOfScripts : Invocation → (Registry → Type 0) → Type 0
+  IsOfScripts asked Holds =
+      (source : Source) × AreRead asked (Ok source) × Holds (registry_said tables source)
 
-module _ {M F Z S A : Type 0} (tables : Tables M F Z S A) (tells : Bool) (notation : Notation) (relation : Relation) where
-  -- A text has what relates a task of some scripts to the place, and nothing else. Where the folder tells, the
-  -- scripts are its own.
-  abbrev pub IsFoundReply : Invocation → Files → Place → Reply → Type 0
-  IsFoundReply asked files place reply =
-      IfOk reply (λ text. (source : Source)
-      × (IsTrue tells → FolderSays tables files asked.properties (Ok source))
-      × IsFoundText notation relation (found_in relation place (registry_said tables source)) (string_bytes text))
+  -- a text of what the scripts register, or the fault for which they cannot be read
+  abbrev pub IsReplyOf : (Registry → List ℕ → Type 0) → Invocation → Reply → Type 0
+  IsReplyOf IsTextOf asked (Ok text) = IsOfScripts asked (λ registry. IsTextOf registry (string_bytes text))
+  IsReplyOf IsTextOf asked (Err fault) = AreRead asked (Err fault)
 
-  -- the reply about a place, or that none is asked about
-  abbrev pub IsReplyAbout : Invocation → Files → Reply → Result Place Fault → Type 0
-  IsReplyAbout asked files reply (Ok place) = IsFoundReply asked files place reply
-  IsReplyAbout asked files reply (Err fault) = (reply ≡ Err fault) ⊎ (reply ≡ Err faults.OutOfMemory)
+  -- ---- Each question
 
-  -- the words are refused, or they ask about a place, and this is the reply to it
-  abbrev pub RepliesPlace : Given → Files → Reply → Type 0
-  RepliesPlace given files reply =
-      ((fault : Fault) × AreRefused given fault × (reply ≡ Err fault))
-      ⊎ ((asked : Invocation) × AskFor given asked
-      × IsReplyAbout asked files reply (asked_place asked.requested))
+  -- all registered tasks, in the order of registration
+  abbrev pub IsTasksReply : Notation → Invocation → Reply → Type 0
+  IsTasksReply notation asked reply = IsReplyOf (IsTasksText notation) asked reply
 
-module _ {M F Z S A : Type 0} (tables : Tables M F Z S A) (tells : Bool) (notation : Notation) (activity : Activity) where
-  -- A text says whether a build runs, and what each file of `.gb` is. Where the folder tells, these are its
-  -- files, and the tasks are those that its scripts register.
-  abbrev pub IsStatusReply : Invocation → Files → Reply → Type 0
-  IsStatusReply asked files reply =
-      IfOk reply (λ text. (source : Source)
-      × (IsTrue tells → FolderSays tables files asked.properties (Ok source))
-      × IsStatusOf tells notation activity files (paths_of (registry_said tables source)) (string_bytes text))
+  -- the graph of the plan of what is asked for, or what a build of it is refused for
+  abbrev pub IsGraphReply : Style → Invocation → Reply → Type 0
+  IsGraphReply style asked (Ok text) =
+      IsOfScripts asked (λ registry.
+      IsDrawing style registry asked.requested asked.excluded (string_bytes text))
+  IsGraphReply style asked (Err fault) =
+      AreRead asked (Err fault)
+      ⊎ IsOfScripts asked (λ registry. IsRefusalOf registry asked.requested asked.excluded fault)
 
-  -- the words are refused, or they ask for something, and this is the reply to it
-  abbrev pub RepliesStatus : Given → Files → Reply → Type 0
-  RepliesStatus given files reply =
-      ((fault : Fault) × AreRefused given fault × (reply ≡ Err fault))
-      ⊎ ((asked : Invocation) × AskFor given asked × IsStatusReply asked files reply)
+  -- what relates a registered task to this place and nothing else, or that no place is asked about
+  abbrev pub IsReplyAbout : Notation → Relation → Result Place Fault → Invocation → Reply → Type 0
+  IsReplyAbout notation relation (Ok place) asked reply =
+      IsReplyOf (λ registry text. IsFoundText notation relation (found_in relation place registry) text)
+      asked reply
+  IsReplyAbout notation relation (Err fault) asked reply =
+      (reply ≡ Err fault) ⊎ (reply ≡ Err faults.OutOfMemory)
+
+  abbrev pub IsPlaceReply : Notation → Relation → Invocation → Reply → Type 0
+  IsPlaceReply notation relation asked reply =
+      IsReplyAbout notation relation (asked_place asked.requested) asked reply
+
+  -- Whether a build runs, and what each file of `.gb` is where the scripts register these tasks; or the fault
+  -- for which scripts or files cannot be read. Where contents are known, the files are the folder's own.
+  abbrev pub IsStatusReply : Notation → Activity → Invocation → Reply → Type 0
+  IsStatusReply notation activity asked (Ok text) =
+      IsOfScripts asked (λ registry.
+      IsStatusOf tells notation activity old.contents.files (paths_of registry) (string_bytes text))
+  IsStatusReply notation activity asked (Err fault) =
+      AreRead asked (Err fault) ⊎ (IsTrue tells → IsUnlisted old.contents old.failures after fault)

@@ -1,12 +1,12 @@
 -- What is reported of the tasks of a plan, and the answer to the arguments.
 use Rattle.std.specs.Prelude.{ℕ, ◌≡◌, ◌⊎◌, Bool, false, IsTrue, List, map, Option, Result, Ok, Err}
-use Rattle.std.specs.Prelude.{if◌then◌else◌, nat_eq}
+use Rattle.std.specs.Prelude.{string_bytes}
 use Rattle.std.specs.Global.{Global}
 use Rattle.std.specs.List.{AllByRecursion, AllZip, flat_map}
 use Rattle.std.specs.declared.vec.Vec.{Vec}
 use Rattle.gb_action.specs.Meanings.{Meanings}
 use Rattle.gb_answer.specs.Answer.{not_built_text}
-use Rattle.gb_command.specs.Answered.{AreRefused, AskFor, Given}
+use Rattle.gb_command.specs.Answered.{Given}
 use Rattle.gb_foretell.specs.Foretold.{AreForetold, IsReasoned}
 use Rattle.gb_foretell.specs.Marks.{AreMarked}
 use Rattle.gb_foretell.specs.declared.coming.Foretold.{Foretold}
@@ -23,12 +23,18 @@ use Rattle.gb_meaning.specs.declared.events.Invocation.{Invocation}
 use Rattle.gb_plan.specs.Graph.{IsRegistry, Plan, Registry, order}
 use Rattle.gb_plan.specs.Ready.{Rows}
 use Rattle.gb_plan.specs.Task.{Text}
+use Rattle.gb_query.specs.Objects.{IsJsonOf}
+use Rattle.gb_query.specs.declared.notation.Notation.{Notation}
+use Rattle.gb_query.specs.declared.notation.Notation.TheVariants as notations
 use Rattle.gb_records.specs.Said.{IsReadAt}
 use Rattle.gb_registry.specs.Tables.{Tables}
-use Rattle.gb_report.specs.Fault.{fault_number}
 use Rattle.gb_report.specs.declared.fault.Fault.{Fault}
+use Rattle.gb_report.specs.declared.fault.Fault.TheVariants as faults
 use Rattle.gb_report.specs.declared.report.Options.{Options}
 use Rattle.gb_ask_command.specs.Line.{line_text}
+use Rattle.gb_ask_command.specs.Replies.{Replies}
+use Rattle.gb_ask_command.specs.Reply.{Reply}
+use Rattle.gb_ask_command.specs.WhyJson.{why_data}
 
 -- the report of each task, or why a build would be refused
 abbrev pub Answer : Type 0
@@ -36,15 +42,21 @@ Answer = Result (Vec Foretold Global) Fault
 
 -- ---- What is printed
 
--- the lines of the tasks, or the refusal as builds print it
-abbrev pub why_text : Answer → List ℕ
-why_text (Ok told) = flat_map line_text told.items
-why_text (Err fault) = not_built_text fault
+-- a line for each task, or one value in JSON
+abbrev pub IsWhyText : Notation → List Foretold → List ℕ → Type 0
+IsWhyText notations.Lines told text = text ≡ flat_map line_text told
+IsWhyText notations.Json told text = IsJsonOf (why_data told) text
 
--- the status: 0 if tasks are reported, 2 for arguments that ask for no build that is known (96), else 1
-abbrev pub status_of : Answer → ℕ
-status_of (Ok told) = 0
-status_of (Err fault) = if nat_eq (fault_number fault) 96 then 2 else 1
+-- the text of the reports, or that memory ran out for it; a refusal stays one
+abbrev pub IsWritten : Notation → Answer → Reply → Type 0
+IsWritten notation (Ok told) (Ok text) = IsWhyText notation told.items (string_bytes text)
+IsWritten notation (Ok told) (Err fault) = fault ≡ faults.OutOfMemory
+IsWritten notation (Err fault) reply = reply ≡ Err fault
+
+-- the text, or the refusal as builds print it
+abbrev pub why_text : Reply → List ℕ
+why_text (Ok text) = string_bytes text
+why_text (Err fault) = not_built_text fault
 
 -- ---- What is reported
 
@@ -112,6 +124,4 @@ module _ {M F Z S A : Type 0} (tables : Tables M F Z S A) (tells : Bool) where
 
   -- the arguments are refused, or they ask for something, and this is the answer to it
   abbrev pub Answers : Given → Shown → Answer → ℕ → Type 0
-  Answers given old answer after =
-      ((fault : Fault) × AreRefused given fault × (answer ≡ Err fault))
-      ⊎ ((asked : Invocation) × AskFor given asked × IsAnswerTo asked old answer after)
+  Answers given old answer after = Replies (λ asked reply. IsAnswerTo asked old reply after) given answer

@@ -1,4 +1,4 @@
--- What the words behind the program's name ask.
+-- What the arguments of the program ask.
 use Rattle.std.specs.Prelude.{ℕ, ◌||◌, List, Option, Some, None, bytes_eq, codes, if◌then◌else◌}
 use Rattle.gb_query.specs.declared.notation.Notation.{Notation}
 use Rattle.gb_query.specs.declared.notation.Notation.TheVariants as notations
@@ -27,6 +27,7 @@ style_of word =
     if bytes_eq word (codes "--tree") then Some styles.Tree
     else if bytes_eq word (codes "--mermaid") then Some styles.Mermaid
     else if bytes_eq word (codes "--svg") then Some styles.Svg
+    else if bytes_eq word (codes "--json") then Some styles.Json
     else None
 
 abbrev pub notation_of : List ℕ → Option Notation

@@ -1,58 +1,97 @@
-//! What is printed of an answer, and its status.
-ghost use Rattle.std.specs.Prelude.{◌≡◌, IfOk};
+//! What is printed of an answer to `why`, and its status.
+ghost use Rattle.std.specs.Prelude.{◌≡◌, Err, IfOk, IfSome, Ok, string_bytes};
+ghost use Rattle.std.specs.Io.KnownBytes.{Appends};
 ghost use Rattle.std.specs.List.{flat_map};
 ghost use Rattle.gb_printer.specs.Printing.{Prints};
 ghost use Rattle.gb_ask_command.specs.Line.{line_text};
-ghost use Rattle.gb_ask_command.specs.Told.{status_of, why_text};
+ghost use Rattle.gb_ask_command.specs.Reply.{reply_status};
+ghost use Rattle.gb_ask_command.specs.Told.{IsWhyText, IsWritten, why_text};
 
 use crate::line::push_line;
+use crate::reply::{Reply, reply_status};
+use crate::why_json::why_json;
 use gb_answer::answer::not_built_text;
 use gb_foretell::coming::Foretold;
 use gb_printer::printer::Printer;
+use gb_query::notation::Notation;
 use gb_report::fault::Fault;
 use std::alloc::{AllocError, Global};
 
-/// What is told of each task, or why a build would be refused.
+/// The report of each task, or why a build would be refused.
 pub(crate) type Answer = Result<Vec<Foretold>, Fault>;
 
-/// Prints an answer.
-pub(crate) fn print_answer<P: Printer>(alloc: Global, printer: &mut P, answer: &Answer)
-    ensures { Prints P.contents P.whole (why_text answer.now) printer.old printer.new }
+/// The text of an answer, or the refusal; also for want of memory for the text.
+pub(crate) fn write_answer(alloc: Global, notation: Notation, answer: Answer) -> Reply
+    ensures { IsWritten notation answer result }
 {
-    match why_text(alloc, answer) {
-        Ok(text) => printer.print(text.as_slice()),
-        Err(_) => printer.give_up(),
+    match answer {
+        Ok(told) => write_told(alloc, notation, told),
+        Err(fault) => Err(fault),
     }
 }
 
-fn why_text(alloc: Global, answer: &Answer) -> Result<Vec<u8>, AllocError>
-    ensures { IfOk result (λ text. text.items ≡ why_text answer.now) }
+/// The text of reports, which are dropped.
+fn write_told(alloc: Global, notation: Notation, told: Vec<Foretold>) -> Reply
+    ensures { IsWritten notation (Ok told) result }
 {
-    match answer {
-        Ok(told) => lines(alloc, told.as_slice()),
-        Err(fault) => not_built_text(alloc, fault),
+    let text = told_text(alloc, notation, told.as_slice());
+    drop(told);
+    match text {
+        Ok(text) => Ok(text),
+        Err(_) => Err(Fault::OutOfMemory),
+    }
+}
+
+fn told_text(alloc: Global, notation: Notation, told: &[Foretold]) -> Result<String, AllocError>
+    ensures { IfOk result (λ text. IsWhyText notation told.now (string_bytes text)) }
+{
+    match notation {
+        Notation::Lines => lines(alloc, told),
+        Notation::Json => why_json(alloc, told),
     }
 }
 
 /// The lines of the tasks.
-fn lines(alloc: Global, told: &[Foretold]) -> Result<Vec<u8>, AllocError>
-    ensures { IfOk result (λ text. text.items ≡ flat_map line_text told.now) }
+fn lines(alloc: Global, told: &[Foretold]) -> Result<String, AllocError>
+    ensures { IfOk result (λ text. string_bytes text ≡ flat_map line_text told.now) }
 {
     let mut text = String::new(alloc);
     for one in told {
         push_line(&mut text, one)?;
     }
-    Ok(text.into_bytes())
+    Ok(text)
 }
 
-/// The status of an answer: 0 where tasks are told, 2 for words that ask for no build that is known, and
-/// else 1.
-pub(crate) fn status_of(answer: &Answer) -> u8
-    ensures { result ≡ status_of answer.now }
+/// Prints an answer, and returns its status. If not all can be printed there is none.
+pub(crate) fn print_answer<W: Printer>(alloc: Global, writer: &mut W, reply: &Reply) -> Option<u8>
+    ensures prints { Prints W.contents W.whole (why_text reply.now) writer.old writer.new }
+    ensures status { IfSome result (λ status.
+        Appends (W.contents writer.old) (W.contents writer.new) (why_text reply.now)
+        × (status ≡ reply_status reply.now)) }
 {
-    match answer {
-        Ok(_) => 0,
-        Err(Fault::Usage) => 2,
-        Err(_) => 1,
+    push_answer(alloc, writer, reply);
+    let status = reply_status(reply);
+    if writer.is_whole() {
+        Some(status)
+    } else {
+        None
+    }
+}
+
+fn push_answer<W: Printer>(alloc: Global, writer: &mut W, reply: &Reply)
+    ensures { Prints W.contents W.whole (why_text reply.now) writer.old writer.new }
+{
+    match reply {
+        Ok(text) => writer.print(text.as_bytes()),
+        Err(fault) => push_not_built(alloc, writer, fault),
+    }
+}
+
+fn push_not_built<W: Printer>(alloc: Global, writer: &mut W, fault: &Fault)
+    ensures { Prints W.contents W.whole (why_text (Err fault.now)) writer.old writer.new }
+{
+    match not_built_text(alloc, fault) {
+        Ok(text) => writer.print(text.as_slice()),
+        Err(_) => writer.give_up(),
     }
 }

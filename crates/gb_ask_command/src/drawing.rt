@@ -1,5 +1,6 @@
 //! The graph of a plan.
-ghost use Rattle.std.specs.Prelude.{IfOk, string_bytes};
+ghost use Rattle.std.specs.Prelude.{IfErr, IfOk, string_bytes};
+ghost use Rattle.gb_graph.specs.Answer.{IsRefusalOf};
 ghost use Rattle.gb_ask_command.specs.Graph.{IsDrawing, IsPicture};
 
 use crate::nodes::nodes_of;
@@ -13,9 +14,10 @@ use gb_picture::graph::Node;
 use gb_picture::mermaid::mermaid_of;
 use gb_picture::outline::outline_of;
 use gb_picture::svg::svg_of;
+use gb_query::drawn::graph_json;
 use std::alloc::{AllocError, Global};
 
-/// The graph of the plan of what is asked of registered tasks.
+/// The graph of the plan of what is asked of registered tasks, or why a build of it would be refused.
 pub(crate) fn draw_requested<Ts: Tasks>(
     alloc: Global,
     style: Style,
@@ -23,8 +25,9 @@ pub(crate) fn draw_requested<Ts: Tasks>(
     requested: &[Text],
     excluded: &[Text],
 ) -> Reply
-    ensures { IfOk result (λ text.
+    ensures drawing { IfOk result (λ text.
         IsDrawing style (Ts.registry tasks.old) requested.now excluded.now (string_bytes text)) }
+    ensures fault { IfErr result (IsRefusalOf (Ts.registry tasks.old) requested.now excluded.now) }
 {
     let plan = plan(alloc, tasks, requested, excluded)?;
     let nodes = nodes_of(alloc, plan.as_slice())?;
@@ -40,5 +43,6 @@ fn picture(alloc: Global, style: Style, nodes: &[Node]) -> Result<String, AllocE
         Style::Tree => outline_of(alloc, nodes),
         Style::Mermaid => mermaid_of(alloc, nodes),
         Style::Svg => svg_of(alloc, nodes),
+        Style::Json => graph_json(alloc, nodes),
     }
 }

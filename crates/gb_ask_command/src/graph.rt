@@ -1,20 +1,21 @@
 //! The plan of what is asked for, as a graph.
-ghost use Rattle.std.specs.Prelude.{◌≡◌, IfOk, IfSome, IsTrue, map, string_bytes};
+ghost use Rattle.std.specs.Prelude.{◌≡◌, IfErr, IfOk, IfSome, IsTrue, map, string_bytes};
 ghost use Rattle.std.specs.Io.KnownBytes.{Appends};
 ghost use Rattle.gb_command.specs.Answered.{given_of};
 ghost use Rattle.gb_declare.specs.Registered.{registry_said};
 ghost use Rattle.gb_folder.specs.Calls.{Asks, no_change};
+ghost use Rattle.gb_graph.specs.Answer.{IsRefusalOf};
 ghost use Rattle.gb_printer.specs.Printing.{Prints};
 ghost use Rattle.gb_registry.specs.Tables.{tables_of};
 ghost use Rattle.gb_ask_command.specs.Graph.{IsDrawing};
 ghost use Rattle.gb_ask_command.specs.Reply.{Reply as Replied, reply_status, reply_text};
-ghost use Rattle.gb_ask_command.specs.Replies.{IsGraphReply, RepliesGraph};
+ghost use Rattle.gb_ask_command.specs.Replies.{IsGraphReply, Replies};
 
 use crate::drawing::draw_requested;
 use crate::reply::{Reply, print_reply};
+use crate::scripts::read_asked;
 use crate::words::Style;
 use gb_action::actions::Actions;
-use gb_build::reading::read_registry;
 use gb_command::run::asked_by;
 use gb_folder::folder::Folder;
 use gb_meaning::events::Invocation;
@@ -40,9 +41,10 @@ pub fn run<A: Actions, T: Transforms, F: Folder, W: Printer>(
     ensures asks { Asks F.failures F.may_leave F.asked no_change folder.old folder.new }
     ensures same { IsTrue F.tells → F.contents folder.new ≡ F.contents folder.old }
     ensures told { (reply : Replied)
-        × RepliesGraph (tables_of T.meanings A.meanings tables.now) F.tells style
-        (given_of (λ words. map string_bytes words.items) words)
-        (F.contents folder.old).files reply
+        × Replies (IsGraphReply (tables_of T.meanings A.meanings tables.now) F.tells
+        (record { contents = F.contents folder.old; failures = F.failures folder.old })
+        (F.failures folder.new) style)
+        (given_of (λ words. map string_bytes words.items) words) reply
         × Prints W.contents W.whole (reply_text reply) writer.old writer.new
         × IfSome result (λ status.
         Appends (W.contents writer.old) (W.contents writer.new) (reply_text reply)
@@ -63,9 +65,10 @@ fn replied<A: Actions, T: Transforms, F: Folder>(
 ) -> Reply
     ensures asks { Asks F.failures F.may_leave F.asked no_change folder.old folder.new }
     ensures same { IsTrue F.tells → F.contents folder.new ≡ F.contents folder.old }
-    ensures replies { RepliesGraph (tables_of T.meanings A.meanings tables.now) F.tells style
-        (given_of (λ words. map string_bytes words.items) words)
-        (F.contents folder.old).files result }
+    ensures replies { Replies (IsGraphReply (tables_of T.meanings A.meanings tables.now) F.tells
+        (record { contents = F.contents folder.old; failures = F.failures folder.old })
+        (F.failures folder.new) style)
+        (given_of (λ words. map string_bytes words.items) words) result }
 {
     match asked_by(alloc, words) {
         Ok(asked) => draw(alloc, folder, style, tables, &asked),
@@ -83,13 +86,14 @@ fn draw<A: Actions, T: Transforms, F: Folder>(
 ) -> Reply
     ensures asks { Asks F.failures F.may_leave F.asked no_change folder.old folder.new }
     ensures same { IsTrue F.tells → F.contents folder.new ≡ F.contents folder.old }
-    ensures reply { IsGraphReply (tables_of T.meanings A.meanings tables.now) F.tells style asked.now
-        (F.contents folder.old).files result }
+    ensures reply { IsGraphReply (tables_of T.meanings A.meanings tables.now) F.tells
+        (record { contents = F.contents folder.old; failures = F.failures folder.old })
+        (F.failures folder.new) style asked.now result }
 {
-    let copied = asked.properties.copy(alloc)?;
-    let given = copied.into_vec();
-    let configured = read_registry(alloc, folder, tables, given)?;
-    draw_registered(alloc, style, &configured, asked)
+    match read_asked(alloc, folder, tables, asked) {
+        Ok(configured) => draw_registered(alloc, style, &configured, asked),
+        Err(fault) => Err(fault),
+    }
 }
 
 fn draw_registered<A: Actions, T: Transforms>(
@@ -98,9 +102,12 @@ fn draw_registered<A: Actions, T: Transforms>(
     configured: &Configured<'_, A, T>,
     asked: &Invocation,
 ) -> Reply
-    ensures { let tables = tables_of T.meanings A.meanings configured.now.tables.now in
+    ensures drawing { let tables = tables_of T.meanings A.meanings configured.now.tables.now in
         IfOk result (λ text. IsDrawing style (registry_said tables configured.now.registry)
         asked.now.requested asked.now.excluded (string_bytes text)) }
+    ensures fault { let tables = tables_of T.meanings A.meanings configured.now.tables.now in
+        IfErr result (IsRefusalOf (registry_said tables configured.now.registry)
+        asked.now.requested asked.now.excluded) }
 {
     let mut tasks = ScriptTasks::declare(alloc, configured)?;
     let requested = asked.requested.as_slice();

@@ -1,6 +1,6 @@
-//! What may be asked of a folder: what each task of a build would come to and why, which tasks there are,
-//! what is wrong with them,
-//! the plan as a picture, and the layout of scripts. Nothing is changed but by `fmt --write`.
+//! What may be asked of a folder: the outcome of each task in a build and why it would run, which tasks there
+//! are, what is wrong with them, the plan as a picture, and the layout of scripts. Only `fmt --write` changes
+//! files.
 #![tactic(auto)]
 
 mod answer;
@@ -9,13 +9,14 @@ mod drawing;
 pub mod fmt;
 pub mod graph;
 mod line;
-mod listing;
 mod nodes;
 pub mod places;
 mod reply;
+mod scripts;
 pub mod status;
 pub mod tasks;
 mod telling;
 mod unread;
 pub mod why;
+mod why_json;
 pub mod words;

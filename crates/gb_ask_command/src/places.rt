@@ -1,20 +1,19 @@
 //! The tasks that read a place, or those that make it.
-ghost use Rattle.std.specs.Prelude.{◌≡◌, IfOk, IfSome, IsTrue, map, string_bytes};
+ghost use Rattle.std.specs.Prelude.{◌≡◌, IfErr, IfOk, IfSome, IsTrue, Ok, map, string_bytes};
 ghost use Rattle.std.specs.Io.KnownBytes.{Appends};
 ghost use Rattle.gb_command.specs.Answered.{given_of};
 ghost use Rattle.gb_declare.specs.Registered.{registry_said};
 ghost use Rattle.gb_folder.specs.Calls.{Asks, no_change};
 ghost use Rattle.gb_printer.specs.Printing.{Prints};
-ghost use Rattle.gb_query.specs.Asked.{asked_place};
 ghost use Rattle.gb_query.specs.Notation.{IsFoundText};
 ghost use Rattle.gb_query.specs.Search.{found_in};
 ghost use Rattle.gb_registry.specs.Tables.{tables_of};
 ghost use Rattle.gb_ask_command.specs.Reply.{Reply as Replied, reply_status, reply_text};
-ghost use Rattle.gb_ask_command.specs.Replies.{IsFoundReply, IsReplyAbout, RepliesPlace};
+ghost use Rattle.gb_ask_command.specs.Replies.{IsPlaceReply, IsReplyAbout, Replies};
 
 use crate::reply::{Reply, print_reply};
+use crate::scripts::read_asked;
 use gb_action::actions::Actions;
-use gb_build::reading::read_registry;
 use gb_command::run::asked_by;
 use gb_core::place::Place;
 use gb_folder::folder::Folder;
@@ -33,7 +32,7 @@ use std::alloc::Global;
 
 /// Prints a line for each file property that takes the place in, or for each output at or above it, in the
 /// order of registration: the path of the task, and the name. A task that cannot be read has a line with its
-/// fault. Of the words the place and the values of properties count, and no other. The status is 0, or 1
+/// fault. Of the words only the place and the values of properties count. The status is 0, or 1
 /// where the place or the scripts are refused, and 2 where no place or more than one is named.
 pub fn run<A: Actions, T: Transforms, F: Folder, W: Printer>(
     alloc: Global,
@@ -48,9 +47,10 @@ pub fn run<A: Actions, T: Transforms, F: Folder, W: Printer>(
     ensures asks { Asks F.failures F.may_leave F.asked no_change folder.old folder.new }
     ensures same { IsTrue F.tells → F.contents folder.new ≡ F.contents folder.old }
     ensures told { (reply : Replied)
-        × RepliesPlace (tables_of T.meanings A.meanings tables.now) F.tells notation relation
-        (given_of (λ words. map string_bytes words.items) words)
-        (F.contents folder.old).files reply
+        × Replies (IsPlaceReply (tables_of T.meanings A.meanings tables.now) F.tells
+        (record { contents = F.contents folder.old; failures = F.failures folder.old })
+        (F.failures folder.new) notation relation)
+        (given_of (λ words. map string_bytes words.items) words) reply
         × Prints W.contents W.whole (reply_text reply) writer.old writer.new
         × IfSome result (λ status.
         Appends (W.contents writer.old) (W.contents writer.new) (reply_text reply)
@@ -72,9 +72,10 @@ fn replied<A: Actions, T: Transforms, F: Folder>(
 ) -> Reply
     ensures asks { Asks F.failures F.may_leave F.asked no_change folder.old folder.new }
     ensures same { IsTrue F.tells → F.contents folder.new ≡ F.contents folder.old }
-    ensures replies { RepliesPlace (tables_of T.meanings A.meanings tables.now) F.tells notation relation
-        (given_of (λ words. map string_bytes words.items) words)
-        (F.contents folder.old).files result }
+    ensures replies { Replies (IsPlaceReply (tables_of T.meanings A.meanings tables.now) F.tells
+        (record { contents = F.contents folder.old; failures = F.failures folder.old })
+        (F.failures folder.new) notation relation)
+        (given_of (λ words. map string_bytes words.items) words) result }
 {
     match asked_by(alloc, words) {
         Ok(asked) => answer(alloc, folder, notation, relation, tables, &asked),
@@ -93,8 +94,9 @@ fn answer<A: Actions, T: Transforms, F: Folder>(
 ) -> Reply
     ensures asks { Asks F.failures F.may_leave F.asked no_change folder.old folder.new }
     ensures same { IsTrue F.tells → F.contents folder.new ≡ F.contents folder.old }
-    ensures reply { IsReplyAbout (tables_of T.meanings A.meanings tables.now) F.tells notation relation asked.now
-        (F.contents folder.old).files result (asked_place asked.now.requested) }
+    ensures reply { IsPlaceReply (tables_of T.meanings A.meanings tables.now) F.tells
+        (record { contents = F.contents folder.old; failures = F.failures folder.old })
+        (F.failures folder.new) notation relation asked.now result }
 {
     match asked_place(alloc, asked.requested.as_slice()) {
         Ok(place) => search_folder(alloc, folder, notation, relation, tables, asked, &place),
@@ -114,13 +116,14 @@ fn search_folder<A: Actions, T: Transforms, F: Folder>(
 ) -> Reply
     ensures asks { Asks F.failures F.may_leave F.asked no_change folder.old folder.new }
     ensures same { IsTrue F.tells → F.contents folder.new ≡ F.contents folder.old }
-    ensures reply { IsFoundReply (tables_of T.meanings A.meanings tables.now) F.tells notation relation asked.now
-        (F.contents folder.old).files place.now result }
+    ensures reply { IsReplyAbout (tables_of T.meanings A.meanings tables.now) F.tells
+        (record { contents = F.contents folder.old; failures = F.failures folder.old })
+        (F.failures folder.new) notation relation (Ok place.now) asked.now result }
 {
-    let copied = asked.properties.copy(alloc)?;
-    let given = copied.into_vec();
-    let configured = read_registry(alloc, folder, tables, given)?;
-    search_registered(alloc, notation, relation, &configured, place)
+    match read_asked(alloc, folder, tables, asked) {
+        Ok(configured) => search_registered(alloc, notation, relation, &configured, place),
+        Err(fault) => Err(fault),
+    }
 }
 
 fn search_registered<A: Actions, T: Transforms>(
@@ -130,19 +133,15 @@ fn search_registered<A: Actions, T: Transforms>(
     configured: &Configured<'_, A, T>,
     place: &Place,
 ) -> Reply
-    ensures { let tables = tables_of T.meanings A.meanings configured.now.tables.now in
+    ensures text { let tables = tables_of T.meanings A.meanings configured.now.tables.now in
         IfOk result (λ text. IsFoundText notation relation
         (found_in relation place.now (registry_said tables configured.now.registry)) (string_bytes text)) }
+    ensures fault { IfErr result (λ fault. fault ≡ Fault.OutOfMemory) }
 {
     let _registered = configured.registry.tasks();
     let names = configured.registry.names(alloc)?;
     let mut tasks = ScriptTasks::declare(alloc, configured)?;
-    search_text(
-        alloc,
-        notation,
-        relation,
-        &mut tasks,
-        names.as_slice(),
-        place,
-    )
+    let paths = names.as_slice();
+    let text = search_text(alloc, notation, relation, &mut tasks, paths, place)?;
+    Ok(text)
 }

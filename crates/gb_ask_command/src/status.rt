@@ -1,19 +1,20 @@
 //! Whether a build runs, and what each file of `.gb` is.
-ghost use Rattle.std.specs.Prelude.{◌≡◌, IfOk, IfSome, IsTrue, map, string_bytes};
+ghost use Rattle.std.specs.Prelude.{◌≡◌, IfErr, IfOk, IfSome, IsTrue, map, string_bytes};
 ghost use Rattle.std.specs.Io.KnownBytes.{Appends};
 ghost use Rattle.gb_command.specs.Answered.{given_of};
 ghost use Rattle.gb_declare.specs.Registered.{registry_said};
 ghost use Rattle.gb_folder.specs.Calls.{Asks, no_change};
 ghost use Rattle.gb_printer.specs.Printing.{Prints};
 ghost use Rattle.gb_plan.specs.Graph.{paths_of};
+ghost use Rattle.gb_query.specs.Inventory.{IsUnlisted};
 ghost use Rattle.gb_query.specs.Notation.{IsStatusOf};
 ghost use Rattle.gb_registry.specs.Tables.{tables_of};
 ghost use Rattle.gb_ask_command.specs.Reply.{Reply as Replied, reply_status, reply_text};
-ghost use Rattle.gb_ask_command.specs.Replies.{IsStatusReply, RepliesStatus};
+ghost use Rattle.gb_ask_command.specs.Replies.{IsStatusReply, Replies};
 
 use crate::reply::{Reply, print_reply};
+use crate::scripts::read_asked;
 use gb_action::actions::Actions;
-use gb_build::reading::read_registry;
 use gb_command::run::asked_by;
 use gb_folder::folder::Folder;
 use gb_meaning::events::Invocation;
@@ -27,9 +28,10 @@ use gb_registry::tables::Tables;
 use gb_report::fault::Fault;
 use std::alloc::Global;
 
-/// Prints whether a build runs, and then what each file of `.gb` is, in the order of the places: the record of
-/// a task, a damaged one, that of a task that no script registers, or no record. Of the words the values of
-/// properties count, and no other. The status is 0, or 1 where the scripts are refused.
+/// Prints whether a build runs, and then what each file of `.gb` is, in the order of the places: the record
+/// of a task, a damaged one, that of a task that no script registers, or no record. Of the words only the
+/// values of properties count. The status is 0, or 1 where the scripts are refused or the files of `.gb`
+/// cannot be read.
 pub fn run<A: Actions, T: Transforms, F: Folder, W: Printer>(
     alloc: Global,
     folder: &mut F,
@@ -43,9 +45,10 @@ pub fn run<A: Actions, T: Transforms, F: Folder, W: Printer>(
     ensures asks { Asks F.failures F.may_leave F.asked no_change folder.old folder.new }
     ensures same { IsTrue F.tells → F.contents folder.new ≡ F.contents folder.old }
     ensures told { (reply : Replied)
-        × RepliesStatus (tables_of T.meanings A.meanings tables.now) F.tells notation activity
-        (given_of (λ words. map string_bytes words.items) words)
-        (F.contents folder.old).files reply
+        × Replies (IsStatusReply (tables_of T.meanings A.meanings tables.now) F.tells
+        (record { contents = F.contents folder.old; failures = F.failures folder.old })
+        (F.failures folder.new) notation activity)
+        (given_of (λ words. map string_bytes words.items) words) reply
         × Prints W.contents W.whole (reply_text reply) writer.old writer.new
         × IfSome result (λ status.
         Appends (W.contents writer.old) (W.contents writer.new) (reply_text reply)
@@ -67,9 +70,10 @@ fn replied<A: Actions, T: Transforms, F: Folder>(
 ) -> Reply
     ensures asks { Asks F.failures F.may_leave F.asked no_change folder.old folder.new }
     ensures same { IsTrue F.tells → F.contents folder.new ≡ F.contents folder.old }
-    ensures replies { RepliesStatus (tables_of T.meanings A.meanings tables.now) F.tells notation activity
-        (given_of (λ words. map string_bytes words.items) words)
-        (F.contents folder.old).files result }
+    ensures replies { Replies (IsStatusReply (tables_of T.meanings A.meanings tables.now) F.tells
+        (record { contents = F.contents folder.old; failures = F.failures folder.old })
+        (F.failures folder.new) notation activity)
+        (given_of (λ words. map string_bytes words.items) words) result }
 {
     match asked_by(alloc, words) {
         Ok(asked) => look(alloc, folder, notation, activity, tables, &asked),
@@ -77,7 +81,7 @@ fn replied<A: Actions, T: Transforms, F: Folder>(
     }
 }
 
-/// What is in `.gb`, beside the tasks that the scripts of a folder register with the values that are given.
+/// What is in `.gb`, where the scripts of a folder register tasks with the values of an invocation.
 fn look<A: Actions, T: Transforms, F: Folder>(
     alloc: Global,
     folder: &mut F,
@@ -88,16 +92,17 @@ fn look<A: Actions, T: Transforms, F: Folder>(
 ) -> Reply
     ensures asks { Asks F.failures F.may_leave F.asked no_change folder.old folder.new }
     ensures same { IsTrue F.tells → F.contents folder.new ≡ F.contents folder.old }
-    ensures reply { IsStatusReply (tables_of T.meanings A.meanings tables.now) F.tells notation activity asked.now
-        (F.contents folder.old).files result }
+    ensures reply { IsStatusReply (tables_of T.meanings A.meanings tables.now) F.tells
+        (record { contents = F.contents folder.old; failures = F.failures folder.old })
+        (F.failures folder.new) notation activity asked.now result }
 {
-    let copied = asked.properties.copy(alloc)?;
-    let given = copied.into_vec();
-    let configured = read_registry(alloc, folder, tables, given)?;
-    look_beside(alloc, folder, notation, activity, &configured)
+    match read_asked(alloc, folder, tables, asked) {
+        Ok(configured) => look_beside(alloc, folder, notation, activity, &configured),
+        Err(fault) => Err(fault),
+    }
 }
 
-/// What is in `.gb`, beside the tasks of these scripts.
+/// What is in `.gb`, where these scripts register the tasks.
 fn look_beside<A: Actions, T: Transforms, F: Folder>(
     alloc: Global,
     folder: &mut F,
@@ -110,6 +115,8 @@ fn look_beside<A: Actions, T: Transforms, F: Folder>(
     ensures text { let tables = tables_of T.meanings A.meanings configured.now.tables.now in
         IfOk result (λ text. IsStatusOf F.tells notation activity (F.contents folder.old).files
         (paths_of (registry_said tables configured.now.registry)) (string_bytes text)) }
+    ensures refused { IsTrue F.tells → IfErr result
+        (IsUnlisted (F.contents folder.old) (F.failures folder.old) (F.failures folder.new)) }
 {
     let _registered = configured.registry.tasks();
     let names = configured.registry.names(alloc)?;

@@ -1,36 +1,38 @@
 //! Every registered task: what it does, and what it makes.
-ghost use Rattle.std.specs.Prelude.{◌≡◌, IfOk, IfSome, IsTrue, map, string_bytes};
+ghost use Rattle.std.specs.Prelude.{◌≡◌, IfErr, IfOk, IfSome, IsTrue, map, string_bytes};
 ghost use Rattle.std.specs.Io.KnownBytes.{Appends};
 ghost use Rattle.gb_command.specs.Answered.{given_of};
 ghost use Rattle.gb_declare.specs.Registered.{registry_said};
 ghost use Rattle.gb_folder.specs.Calls.{Asks, no_change};
 ghost use Rattle.gb_printer.specs.Printing.{Prints};
+ghost use Rattle.gb_query.specs.Notation.{IsTasksText};
 ghost use Rattle.gb_registry.specs.Tables.{tables_of};
-ghost use Rattle.gb_ask_command.specs.Listing.{tasks_text};
 ghost use Rattle.gb_ask_command.specs.Reply.{Reply as Replied, reply_status, reply_text};
-ghost use Rattle.gb_ask_command.specs.Replies.{IsTasksReply, RepliesTasks};
+ghost use Rattle.gb_ask_command.specs.Replies.{IsTasksReply, Replies};
 
-use crate::listing::list_tasks;
 use crate::reply::{Reply, print_reply};
+use crate::scripts::read_asked;
 use gb_action::actions::Actions;
-use gb_build::reading::read_registry;
 use gb_command::run::asked_by;
 use gb_folder::folder::Folder;
 use gb_meaning::events::Invocation;
 use gb_printer::printer::Printer;
 use gb_project::script_tasks::ScriptTasks;
 use gb_provider::transforms::Transforms;
+use gb_query::answers::list_text;
+use gb_query::notation::Notation;
 use gb_registry::configured::Configured;
 use gb_registry::tables::Tables;
 use gb_report::fault::Fault;
 use std::alloc::Global;
 
-/// Prints a line for each registered task, in the order of registration: its path, whether it is a default
-/// task, the kinds of its actions, and the places that it makes; or its fault. Of the words the values of
-/// properties count, and no other. The status is 0, or 1 where the scripts are refused.
+/// Prints each registered task, in the order of registration, as a line or in JSON: its path, whether it is a
+/// default task, the kinds of its actions, and the places that it makes; or its fault. Of the words only the
+/// values of properties count. The status is 0, or 1 where the scripts are refused.
 pub fn run<A: Actions, T: Transforms, F: Folder, W: Printer>(
     alloc: Global,
     folder: &mut F,
+    notation: Notation,
     words: Result<Vec<String>, Fault>,
     writer: &mut W,
     tables: &Tables<A, T>,
@@ -39,15 +41,16 @@ pub fn run<A: Actions, T: Transforms, F: Folder, W: Printer>(
     ensures asks { Asks F.failures F.may_leave F.asked no_change folder.old folder.new }
     ensures same { IsTrue F.tells → F.contents folder.new ≡ F.contents folder.old }
     ensures told { (reply : Replied)
-        × RepliesTasks (tables_of T.meanings A.meanings tables.now) F.tells
-        (given_of (λ words. map string_bytes words.items) words)
-        (F.contents folder.old).files reply
+        × Replies (IsTasksReply (tables_of T.meanings A.meanings tables.now) F.tells
+        (record { contents = F.contents folder.old; failures = F.failures folder.old })
+        (F.failures folder.new) notation)
+        (given_of (λ words. map string_bytes words.items) words) reply
         × Prints W.contents W.whole (reply_text reply) writer.old writer.new
         × IfSome result (λ status.
         Appends (W.contents writer.old) (W.contents writer.new) (reply_text reply)
         × (status ≡ reply_status reply)) }
 {
-    let reply = replied(alloc, folder, words, tables);
+    let reply = replied(alloc, folder, notation, words, tables);
     let status = print_reply(alloc, writer, &reply);
     drop(reply);
     status
@@ -56,17 +59,19 @@ pub fn run<A: Actions, T: Transforms, F: Folder, W: Printer>(
 fn replied<A: Actions, T: Transforms, F: Folder>(
     alloc: Global,
     folder: &mut F,
+    notation: Notation,
     words: Result<Vec<String>, Fault>,
     tables: &Tables<A, T>,
 ) -> Reply
     ensures asks { Asks F.failures F.may_leave F.asked no_change folder.old folder.new }
     ensures same { IsTrue F.tells → F.contents folder.new ≡ F.contents folder.old }
-    ensures replies { RepliesTasks (tables_of T.meanings A.meanings tables.now) F.tells
-        (given_of (λ words. map string_bytes words.items) words)
-        (F.contents folder.old).files result }
+    ensures replies { Replies (IsTasksReply (tables_of T.meanings A.meanings tables.now) F.tells
+        (record { contents = F.contents folder.old; failures = F.failures folder.old })
+        (F.failures folder.new) notation)
+        (given_of (λ words. map string_bytes words.items) words) result }
 {
     match asked_by(alloc, words) {
-        Ok(asked) => list(alloc, folder, tables, &asked),
+        Ok(asked) => list(alloc, folder, notation, tables, &asked),
         Err(fault) => Err(fault),
     }
 }
@@ -75,29 +80,35 @@ fn replied<A: Actions, T: Transforms, F: Folder>(
 fn list<A: Actions, T: Transforms, F: Folder>(
     alloc: Global,
     folder: &mut F,
+    notation: Notation,
     tables: &Tables<A, T>,
     asked: &Invocation,
 ) -> Reply
     ensures asks { Asks F.failures F.may_leave F.asked no_change folder.old folder.new }
     ensures same { IsTrue F.tells → F.contents folder.new ≡ F.contents folder.old }
-    ensures reply { IsTasksReply (tables_of T.meanings A.meanings tables.now) F.tells asked.now
-        (F.contents folder.old).files result }
+    ensures reply { IsTasksReply (tables_of T.meanings A.meanings tables.now) F.tells
+        (record { contents = F.contents folder.old; failures = F.failures folder.old })
+        (F.failures folder.new) notation asked.now result }
 {
-    let copied = asked.properties.copy(alloc)?;
-    let given = copied.into_vec();
-    let configured = read_registry(alloc, folder, tables, given)?;
-    list_registered(alloc, &configured)
+    match read_asked(alloc, folder, tables, asked) {
+        Ok(configured) => list_registered(alloc, notation, &configured),
+        Err(fault) => Err(fault),
+    }
 }
 
 fn list_registered<A: Actions, T: Transforms>(
     alloc: Global,
+    notation: Notation,
     configured: &Configured<'_, A, T>,
 ) -> Reply
-    ensures { let tables = tables_of T.meanings A.meanings configured.now.tables.now in
-        IfOk result (λ text. string_bytes text ≡ tasks_text (registry_said tables configured.now.registry)) }
+    ensures text { let tables = tables_of T.meanings A.meanings configured.now.tables.now in
+        IfOk result (λ text. IsTasksText notation (registry_said tables configured.now.registry)
+        (string_bytes text)) }
+    ensures fault { IfErr result (λ fault. fault ≡ Fault.OutOfMemory) }
 {
     let _registered = configured.registry.tasks();
     let names = configured.registry.names(alloc)?;
     let mut tasks = ScriptTasks::declare(alloc, configured)?;
-    list_tasks(alloc, &mut tasks, names.as_slice())
+    let text = list_text(alloc, notation, &mut tasks, names.as_slice())?;
+    Ok(text)
 }

@@ -1,4 +1,4 @@
-//! The words behind the program's name.
+//! The arguments of the program.
 ghost use Rattle.std.specs.Prelude.{◌≡◌, string_bytes};
 ghost use Rattle.gb_ask_command.specs.Words.{mode_of, notation_of, question_of, style_of};
 
@@ -7,7 +7,7 @@ use gb_query::notation::Notation;
 /// What is asked.
 #[derive(Clone, Copy, Debug, PartialEq, Eq)]
 pub enum Question {
-    /// What each task would come to, and why.
+    /// The outcome of each task, and why it would run.
     Why,
     /// The layout of scripts.
     Fmt,
@@ -40,6 +40,8 @@ pub enum Style {
     Mermaid,
     /// As a picture.
     Svg,
+    /// In JSON.
+    Json,
 }
 
 /// What is done with formatted files.
@@ -79,6 +81,7 @@ pub fn style_of(word: &str) -> Option<Style>
         "--tree" => Some(Style::Tree),
         "--mermaid" => Some(Style::Mermaid),
         "--svg" => Some(Style::Svg),
+        "--json" => Some(Style::Json),
         _ => None,
     }
 }
@@ -106,9 +109,11 @@ pub fn mode_of(word: &str) -> Option<Mode>
 
 /// How to ask.
 pub const USAGE: &str = "\
-gb_ask why [WORD ..]       the outcome of each task if it ran now, and why it would run
-gb_ask tasks [WORD ..]     every registered task, what it does and what it makes
-gb_ask graph [--tree | --mermaid | --svg] [WORD ..]
+gb_ask why [--json] [WORD ..]
+                           the outcome of each task if it ran now, and why it would run
+gb_ask tasks [--json] [WORD ..]
+                           every registered task, what it does and what it makes
+gb_ask graph [--tree | --mermaid | --svg | --json] [WORD ..]
                            the plan as a graph: for Graphviz, where no form is named
 gb_ask reads [--json] PLACE [WORD ..]
                            every task that reads the place, with the property that takes it in

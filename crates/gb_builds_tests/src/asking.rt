@@ -22,6 +22,16 @@ const SCRIPT: &str =
 
 const TASKS: &str = ":a writeText -> build/a\n:b (default)\n:c\n";
 
+const TASKS_JSON: &str =
+    "[{\"actions\":[\"writeText\"],\"default\":false,\"outputs\":[\"build/a\"],\"task\":\":a\"},\
+     {\"actions\":[],\"default\":true,\"outputs\":[],\"task\":\":b\"},\
+     {\"actions\":[],\"default\":false,\"outputs\":[],\"task\":\":c\"}]\n";
+
+const GRAPH_JSON: &str = "{\"edges\":[{\"from\":\":a\",\"sort\":\"needs\",\"to\":\":b\"},\
+     {\"from\":\":b\",\"sort\":\"finalizedBy\",\"to\":\":c\"},\
+     {\"from\":\":a\",\"sort\":\"mustRunAfter\",\"to\":\":c\"}],\
+     \"tasks\":[\":a\",\":b\",\":c\"]}\n";
+
 const DOT: &str = "digraph tasks {\n  rankdir=LR;\n  node [shape=box];\n  t0 [label=\":a\"];\n  \
      t1 [label=\":b\"];\n  t0 -> t1;\n  t1 -> t2 [style=dotted];\n  t2 [label=\":c\"];\n  \
      t0 -> t2 [style=dashed];\n}\n";
@@ -62,19 +72,24 @@ fn folder(alloc: Global) -> Result<MemoryFolder, Fail> {
     Ok(folder)
 }
 
-/// Fails where something else than this is printed of the tasks.
-fn are_tasks<A: Actions, T: Transforms>(alloc: Global, tables: &Tables<A, T>) -> Result<(), Fail> {
+/// What is printed of the tasks.
+fn listed<A: Actions, T: Transforms>(
+    alloc: Global,
+    tables: &Tables<A, T>,
+    notation: Notation,
+) -> Result<String, Fail> {
     let mut folder = folder(alloc)?;
     let words = words_of(alloc, "")?;
     let mut out = Vec::new(alloc);
     tasks::run(
         alloc,
         &mut folder,
+        notation,
         Ok(words),
         &mut Page::new(&mut out),
         tables,
     );
-    is_told(TASKS, String::from_utf8(out)?.as_str())
+    Ok(String::from_utf8(out)?)
 }
 
 /// The plan in a style.
@@ -98,11 +113,13 @@ fn drawn<A: Actions, T: Transforms>(
 }
 
 fn all_hold<A: Actions, T: Transforms>(alloc: Global, tables: &Tables<A, T>) -> Result<(), Fail> {
-    are_tasks(alloc, tables)?;
+    is_told(TASKS, listed(alloc, tables, Notation::Lines)?.as_str())?;
+    is_told(TASKS_JSON, listed(alloc, tables, Notation::Json)?.as_str())?;
     for (style, text) in [
         (Style::Dot, DOT),
         (Style::Tree, TREE),
         (Style::Mermaid, MERMAID),
+        (Style::Json, GRAPH_JSON),
     ] {
         is_told(text, drawn(alloc, tables, style)?.as_str())?;
     }

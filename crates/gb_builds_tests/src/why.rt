@@ -8,6 +8,7 @@ use gb_folder::memory::MemoryFolder;
 use gb_kinds::builtin::Builtin;
 use gb_printer::page::Page;
 use gb_provider::transforms::Transforms;
+use gb_query::notation::Notation;
 use gb_registry::tables::Tables;
 use std::alloc::Global;
 use std::test::Fail;
@@ -23,11 +24,13 @@ fn answered<A: Actions, T: Transforms>(
     alloc: Global,
     folder: &mut MemoryFolder,
     tables: &Tables<A, T>,
+    notation: Notation,
     words: &str,
 ) -> Result<(String, u8), Fail> {
     let given = words_of(alloc, words)?;
     let mut out = Vec::new(alloc);
-    let status = run(alloc, folder, Ok(given), &mut Page::new(&mut out), tables);
+    let mut page = Page::new(&mut out);
+    let status = run(alloc, folder, notation, Ok(given), &mut page, tables);
     match status {
         Some(status) => Ok((String::from_utf8(out)?, status)),
         None => Err(Fail::new("not printed")),
@@ -42,7 +45,7 @@ fn is_why<A: Actions, T: Transforms>(
     words: &str,
     expected: &str,
 ) -> Result<(), Fail> {
-    let (text, _) = answered(alloc, folder, tables, words)?;
+    let (text, _) = answered(alloc, folder, tables, Notation::Lines, words)?;
     is_told(expected, text.as_str())
 }
 
@@ -56,20 +59,46 @@ fn built<A: Actions, T: Transforms>(
     Ok(folder)
 }
 
-/// Words over the folder after a build, what is told of them, and the status.
-type Row<'a> = (&'a str, &'a str, u8);
+/// Words over the folder after a build, how the answer is written, what is printed, and the status.
+type Row<'a> = (&'a str, Notation, &'a str, u8);
 
-const WORDS: [Row<'static>; 6] = [
-    ("gen", ":gen UP-TO-DATE\n", 0),
-    ("gen --rerun-tasks", ":gen runs: --rerun-tasks\n", 0),
-    ("-m gen", ":gen UP-TO-DATE\n", 0),
-    ("gen -x gen", "", 0),
+const WORDS: [Row<'static>; 9] = [
+    ("gen", Notation::Lines, ":gen UP-TO-DATE\n", 0),
+    (
+        "gen",
+        Notation::Json,
+        "[{\"after\":null,\"needs\":null,\"outcome\":\"UP-TO-DATE\",\"reasons\":[],\
+         \"task\":\":gen\"}]\n",
+        0,
+    ),
+    (
+        "gen --rerun-tasks",
+        Notation::Lines,
+        ":gen runs: --rerun-tasks\n",
+        0,
+    ),
+    (
+        "gen --rerun-tasks",
+        Notation::Json,
+        "[{\"after\":null,\"needs\":null,\"outcome\":\"runs\",\"reasons\":[\"--rerun-tasks\"],\
+         \"task\":\":gen\"}]\n",
+        0,
+    ),
+    ("-m gen", Notation::Lines, ":gen UP-TO-DATE\n", 0),
+    ("gen -x gen", Notation::Lines, "", 0),
+    ("gen -x gen", Notation::Json, "[]\n", 0),
     (
         "other",
+        Notation::Lines,
         "REFUSED 52 task not found other\nBUILD FAILED\n",
         1,
     ),
-    ("gen --why", "REFUSED 96 usage\nBUILD FAILED\n", 2),
+    (
+        "gen --why",
+        Notation::Json,
+        "REFUSED 96 usage\nBUILD FAILED\n",
+        2,
+    ),
 ];
 
 /// Fails where a row is answered otherwise.
@@ -79,9 +108,9 @@ fn holds<A: Actions, T: Transforms>(
     tables: &Tables<A, T>,
     row: &Row<'_>,
 ) -> Result<(), Fail> {
-    let (text, status) = answered(alloc, folder, tables, row.0)?;
-    is_told(row.1, text.as_str())?;
-    if status == row.2 {
+    let (text, status) = answered(alloc, folder, tables, row.1, row.0)?;
+    is_told(row.2, text.as_str())?;
+    if status == row.3 {
         Ok(())
     } else {
         Err(Fail::new(status))
@@ -218,7 +247,14 @@ fn unprinted<A: Actions, T: Transforms>(alloc: Global, tables: &Tables<A, T>) ->
     let mut folder = MemoryFolder::new(alloc);
     let words = Ok(Vec::new(alloc));
     let mut page = Page::new(FailingWriter);
-    match run(alloc, &mut folder, words, &mut page, tables) {
+    match run(
+        alloc,
+        &mut folder,
+        Notation::Lines,
+        words,
+        &mut page,
+        tables,
+    ) {
         None => Ok(()),
         Some(status) => Err(Fail::new(status)),
     }

@@ -1,4 +1,5 @@
 mod Segments
 mod Members
 mod Owners
-mod Depths
+pub mod Depths
+mod Listed

@@ -13,7 +13,7 @@ use Rattle.gb_tree.proofs.InOrder.{past_root}
 use Rattle.gb_tree.proofs.Rest.{rest_is_place}
 use Rattle.gb_tree.proofs.Under.{under_parts}
 
--- what is left behind the last slash
+-- what is left after the last slash
 pub last_is_place : (place front back : List ℕ) → SplitsAroundMatch (RFindsChar 47) place front back → is_place place ≡ true → is_place back ≡ true
 last_is_place place front back (i, j, finds, at_front, at_back, order, long_front, long_back) good =
     let ends : j ≡ i + 1 = finds.1.ends ∙ ap (λ n. i + n) (len_utf8_ascii 47 (omega arith)) in
@@ -22,7 +22,7 @@ last_is_place place front back (i, j, finds, at_front, at_back, order, long_fron
     ∙ ap (λ more. take i place ++ more) (drop-cons place i 0 (omega arith) ∙ ap (λ c. c ∷ drop (suc i) place) (finds.1.byte (omega arith)) ∙ ap (λ more. 47 ∷ more) (sym (at_back ∙ ap (λ n. drop n place) ends ∙ rw add-one refl))) in
     rest_is_place (take i place) back (sym (ap is_place whole) ∙ good)
 
--- what is left of a place beneath a root
+-- what is left of a place under a root
 pub rest_beneath : (root place : List ℕ) → is_under place root ≡ true → bytes_eq place root ≡ false → is_place place ≡ true → is_place (path_from root place) ≡ true
 rest_beneath root place under other good =
     elim (under_parts place root under) [

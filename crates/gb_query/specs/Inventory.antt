@@ -1,10 +1,13 @@
 -- What each file of `.gb` is.
-use Rattle.std.specs.Prelude.{◌≡◌, false, List, Some, None, IsTrue, codes}
+use Rattle.std.specs.Prelude.{ℕ, ◌≡◌, ◌⊎◌, false, List, Some, None, IsTrue, codes}
 use Rattle.std.specs.List.{AllZip}
-use Rattle.gb_folder.specs.Files.{Files, Place, places_under}
+use Rattle.gb_folder.specs.Files.{Contents, Files, Place, is_odd_under, places_under}
 use Rattle.gb_history.specs.Record.{Record}
 use Rattle.gb_plan.specs.Task.{Path, has_path}
 use Rattle.gb_records.specs.Said.{IsReadAt}
+use Rattle.gb_report.specs.declared.fault.Fault.{Fault}
+use Rattle.gb_report.specs.declared.fault.Fault.TheVariants as faults
+use Rattle.gb_store.specs.Faults.{IsOfMachine}
 use Rattle.gb_query.specs.Owner.{IsOwner}
 use Rattle.gb_query.specs.declared.inventory.Entry.{Entry}
 use Rattle.gb_query.specs.declared.inventory.Entry.TheVariants as entries
@@ -27,3 +30,10 @@ IsEntryOf files registered place (entries.Foreign at) = IsOwner place None × (a
 abbrev pub AreEntriesOf : Files → List Path → List Entry → Type 0
 AreEntriesOf files registered found =
     AllZip (IsEntryOf files registered) (places_under files (codes ".gb")) found
+
+-- Why the files of `.gb` cannot be listed or read: memory ran out, the device failed between these counts, or
+-- a file there has a name that no place has.
+abbrev pub IsUnlisted : Contents → ℕ → ℕ → Fault → Type 0
+IsUnlisted contents before after fault =
+    IsOfMachine before after fault
+    ⊎ (IsTrue (is_odd_under contents (codes ".gb")) × (fault ≡ faults.BadFileName (codes ".gb")))

@@ -6,4 +6,6 @@ pub mod Lines
 pub mod Asked
 pub mod Laws
 pub mod Objects
+pub mod Listing
+pub mod Drawn
 pub mod Notation

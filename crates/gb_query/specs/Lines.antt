@@ -33,4 +33,5 @@ entry_text (entries.Unregistered path) = path ++ codes " record of a task that n
 entry_text (entries.Foreign place) = shown_text place ++ codes " not a record"
 
 abbrev pub status_text : Activity → List Entry → List ℕ
-status_text activity found = line (activity_text activity) ++ flat_map (λ entry. line (entry_text entry)) found
+status_text activity found =
+    line (activity_text activity) ++ flat_map (λ entry. line (entry_text entry)) found

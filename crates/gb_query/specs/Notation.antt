@@ -1,9 +1,11 @@
 -- An answer as lines or as JSON.
 use Rattle.std.specs.Prelude.{ℕ, ◌≡◌, Bool, IsTrue, List}
 use Rattle.gb_folder.specs.Files.{Files}
+use Rattle.gb_plan.specs.Graph.{Registry}
 use Rattle.gb_plan.specs.Task.{Path}
 use Rattle.gb_query.specs.Inventory.{AreEntriesOf}
 use Rattle.gb_query.specs.Lines.{found_text, status_text}
+use Rattle.gb_query.specs.Listing.{tasks_data, tasks_text}
 use Rattle.gb_query.specs.Objects.{IsJsonOf, found_data, status_data}
 use Rattle.gb_query.specs.declared.inventory.Entry.{Entry}
 use Rattle.gb_query.specs.declared.lines.Activity.{Activity}
@@ -11,6 +13,11 @@ use Rattle.gb_query.specs.declared.notation.Notation.{Notation}
 use Rattle.gb_query.specs.declared.notation.Notation.TheVariants as notations
 use Rattle.gb_query.specs.declared.search.Found.{Found}
 use Rattle.gb_query.specs.declared.search.Relation.{Relation}
+
+-- the text of registered tasks
+abbrev pub IsTasksText : Notation → Registry → List ℕ → Type 0
+IsTasksText notations.Lines registry text = text ≡ tasks_text registry
+IsTasksText notations.Json registry text = IsJsonOf (tasks_data registry) text
 
 -- the text of what a search found
 abbrev pub IsFoundText : Notation → Relation → List Found → List ℕ → Type 0
@@ -22,7 +29,7 @@ abbrev pub IsStatusText : Notation → Activity → List Entry → List ℕ → 
 IsStatusText notations.Lines activity found text = text ≡ status_text activity found
 IsStatusText notations.Json activity found text = IsJsonOf (status_data activity found) text
 
--- the text of some entries; where the folder tells, of exactly its own
+-- the text of some entries; where contents are known, exactly those of the folder's files
 abbrev pub IsStatusOf : Bool → Notation → Activity → Files → List Path → List ℕ → Type 0
 IsStatusOf tells notation activity files registered text =
     (found : List Entry) × (IsTrue tells → AreEntriesOf files registered found)

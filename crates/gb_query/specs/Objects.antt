@@ -25,7 +25,7 @@ pair key text other_key other_text =
 
 -- ---- Of a search
 
--- under which key the name stands
+-- the key of the name
 abbrev pub relation_key : Relation → List ℕ
 relation_key relations.Reads = codes "property"
 relation_key relations.Makes = codes "output"
@@ -46,7 +46,7 @@ activity_word activities.Idle = codes "none"
 activity_word activities.Builds = codes "runs"
 activity_word activities.Unknown = codes "unknown"
 
--- what a file of `.gb` is, beside its task, or its place where it belongs to none
+-- what a file of `.gb` is, and its task, or its place where it belongs to none
 abbrev pub entry_object : Entry → Data
 entry_object (entries.Record path) = pair (codes "kind") (codes "record") (codes "task") path
 entry_object (entries.Damaged path) = pair (codes "kind") (codes "damaged") (codes "task") path

@@ -1,12 +1,15 @@
 //! The whole answer to a query.
-ghost use Rattle.std.specs.Prelude.{◌≡◌, IfOk, IsTrue, string_bytes};
+ghost use Rattle.std.specs.Prelude.{◌≡◌, IfErr, IfOk, IsTrue, string_bytes};
 ghost use Rattle.gb_folder.specs.Calls.{Asks, no_change};
 ghost use Rattle.gb_plan.specs.Graph.{paths_of};
-ghost use Rattle.gb_query.specs.Notation.{IsFoundText, IsStatusOf};
+ghost use Rattle.gb_query.specs.Inventory.{IsUnlisted};
+ghost use Rattle.gb_query.specs.Notation.{IsFoundText, IsStatusOf, IsTasksText};
 ghost use Rattle.gb_query.specs.Search.{found_in};
 
 use crate::inventory::inventory;
 use crate::lines::Activity;
+use crate::listing_lines::tasks_text;
+use crate::listing_objects::tasks_json;
 use crate::notation::{Notation, write_found, write_status};
 use crate::search::{Relation, search};
 use gb_core::path::TaskPath;
@@ -14,7 +17,24 @@ use gb_core::place::Place;
 use gb_folder::folder::Folder;
 use gb_graph::tasks::Tasks;
 use gb_report::fault::Fault;
-use std::alloc::Global;
+use std::alloc::{AllocError, Global};
+
+/// The text of all registered tasks, whose paths these are.
+pub fn list_text<Ts: Tasks>(
+    alloc: Global,
+    notation: Notation,
+    tasks: &mut Ts,
+    names: &[TaskPath],
+) -> Result<String, AllocError>
+    requires { names.now ≡ paths_of (Ts.registry tasks.old) }
+    ensures { IfOk result (λ text.
+        IsTasksText notation (Ts.registry tasks.old) (string_bytes text)) }
+{
+    match notation {
+        Notation::Lines => tasks_text(alloc, tasks, names),
+        Notation::Json => tasks_json(alloc, tasks, names),
+    }
+}
 
 /// The text of what is found of all registered tasks, whose paths these are.
 pub fn search_text<Ts: Tasks>(
@@ -24,7 +44,7 @@ pub fn search_text<Ts: Tasks>(
     tasks: &mut Ts,
     names: &[TaskPath],
     place: &Place,
-) -> Result<String, Fault>
+) -> Result<String, AllocError>
     requires { names.now ≡ paths_of (Ts.registry tasks.old) }
     ensures { IfOk result (λ text. IsFoundText notation relation
         (found_in relation place.now (Ts.registry tasks.old)) (string_bytes text)) }
@@ -32,10 +52,12 @@ pub fn search_text<Ts: Tasks>(
     let found = search(alloc, relation, tasks, names, place)?;
     let text = write_found(alloc, notation, relation, found.as_slice());
     drop(found);
-    Ok(text?)
+    text
 }
 
-/// The text of what each file of `.gb` is, where these tasks are registered, behind whether a build runs.
+/// Whether a build runs, and what each file of `.gb` is, where these tasks are registered. An error is that
+/// memory ran out, that the device failed (`Device`), or that `.gb` has a file that no place names
+/// (`BadFileName`).
 pub fn inventory_text<F: Folder>(
     alloc: Global,
     notation: Notation,
@@ -47,6 +69,8 @@ pub fn inventory_text<F: Folder>(
     ensures same { IsTrue F.tells → F.contents folder.new ≡ F.contents folder.old }
     ensures text { IfOk result (λ text. IsStatusOf F.tells notation activity
         (F.contents folder.old).files registered.now (string_bytes text)) }
+    ensures refused { IsTrue F.tells → IfErr result
+        (IsUnlisted (F.contents folder.old) (F.failures folder.old) (F.failures folder.new)) }
 {
     let entries = inventory(alloc, folder, registered)?;
     let text = write_status(alloc, notation, activity, entries.as_slice());

@@ -1,11 +1,13 @@
 //! What each file of `.gb` is.
-ghost use Rattle.std.specs.Prelude.{◌≡◌, Option, Some, IfOk, IsTrue, codes, if◌then◌else◌, is_some, not};
+ghost use Rattle.std.specs.Prelude.{◌≡◌, Option, Some, IfErr, IfOk, IsTrue, codes, if◌then◌else◌};
+ghost use Rattle.std.specs.Prelude.{is_some, not};
 ghost use Rattle.std.specs.List.{AllZip};
 ghost use Rattle.gb_folder.specs.Calls.{Asks, no_change};
 ghost use Rattle.gb_history.specs.Record.{Record};
 ghost use Rattle.gb_plan.specs.Task.{has_path};
 ghost use Rattle.gb_records.specs.Said.{IsReadAt};
-ghost use Rattle.gb_query.specs.Inventory.{AreEntriesOf, IsEntryOf};
+ghost use Rattle.gb_store.specs.Faults.{IsOfMachine};
+ghost use Rattle.gb_query.specs.Inventory.{AreEntriesOf, IsEntryOf, IsUnlisted};
 ghost use Rattle.gb_query.specs.Owner.{IsOwner};
 
 use crate::owner::owner_of;
@@ -30,7 +32,9 @@ pub enum Entry {
     Foreign(Place),
 }
 
-/// What the files of `.gb` are, in the order of their places, where these tasks are registered.
+/// What the files of `.gb` are, in the order of their places, where these tasks are registered. An error is
+/// that memory ran out, that the device failed (`Device`), or that `.gb` has a file that no place names
+/// (`BadFileName`).
 pub fn inventory<F: Folder>(
     alloc: Global,
     folder: &mut F,
@@ -40,6 +44,8 @@ pub fn inventory<F: Folder>(
     ensures same { IsTrue F.tells → F.contents folder.new ≡ F.contents folder.old }
     ensures entries { IsTrue F.tells → IfOk result
         (λ entries. AreEntriesOf (F.contents folder.old).files registered.now entries.items) }
+    ensures refused { IsTrue F.tells → IfErr result
+        (IsUnlisted (F.contents folder.old) (F.failures folder.old) (F.failures folder.new)) }
 {
     let own = own_folder(alloc)?;
     let places = listed_at(alloc, folder, &own)?;
@@ -68,6 +74,7 @@ fn entries_of<F: Folder>(
     ensures same { IsTrue F.tells → F.contents folder.new ≡ F.contents folder.old }
     ensures entries { IsTrue F.tells → IfOk result (λ entries.
         AllZip (IsEntryOf (F.contents folder.old).files registered.now) places.now entries.items) }
+    ensures err { IfErr result (IsOfMachine (F.failures folder.old) (F.failures folder.new)) }
 {
     let mut entries = Vec::new(alloc);
     for place in places {
@@ -87,6 +94,7 @@ fn entry_of<F: Folder>(
     ensures same { IsTrue F.tells → F.contents folder.new ≡ F.contents folder.old }
     ensures entry { IsTrue F.tells → IfOk result
         (IsEntryOf (F.contents folder.old).files registered.now place.now) }
+    ensures err { IfErr result (IsOfMachine (F.failures folder.old) (F.failures folder.new)) }
 {
     match owner_of(alloc, place)? {
         Some(path) => record_entry(alloc, folder, registered, place, path),
@@ -107,6 +115,7 @@ fn record_entry<F: Folder>(
     ensures same { IsTrue F.tells → F.contents folder.new ≡ F.contents folder.old }
     ensures entry { IsTrue F.tells → IfOk result
         (IsEntryOf (F.contents folder.old).files registered.now place.now) }
+    ensures err { IfErr result (IsOfMachine (F.failures folder.old) (F.failures folder.new)) }
 {
     let has_record = has_record(alloc, folder, &path)?;
     Ok(class_of(registered, path, has_record))
@@ -138,6 +147,7 @@ fn has_record<F: Folder>(alloc: Global, folder: &mut F, path: &TaskPath) -> Resu
     ensures same { IsTrue F.tells → F.contents folder.new ≡ F.contents folder.old }
     ensures read { IsTrue F.tells → IfOk result (λ has_record. (read : Option Record)
         × IsReadAt (F.contents folder.old).files path.now read × (has_record ≡ is_some read)) }
+    ensures err { IfErr result (IsOfMachine (F.failures folder.old) (F.failures folder.new)) }
 {
     let mut paths = Vec::new(alloc);
     paths.push(path.copy()?)?;

@@ -37,7 +37,7 @@ pub enum Activity {
     Idle,
     /// One runs.
     Builds,
-    /// The system gives no lock that would tell.
+    /// The system gives no lock, so it is not known.
     Unknown,
 }
 

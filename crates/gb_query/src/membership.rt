@@ -40,7 +40,7 @@ fn takes_in_from(
     is_in(alloc, include, exclude, root, place)
 }
 
-/// Whether a place is the root or lies beneath it.
+/// Whether a place is the root or lies under it.
 pub(crate) fn is_under(place: &Place, root: &Place) -> bool
     ensures { result ≡ is_under place.now root.now }
 {

@@ -11,7 +11,7 @@ use std::alloc::{AllocError, Global};
 /// How an answer is written.
 #[derive(Clone, Copy, Debug, PartialEq, Eq)]
 pub enum Notation {
-    /// A line for each part of it.
+    /// One line for each thing that is found.
     Lines,
     /// One value in JSON, on one line.
     Json,

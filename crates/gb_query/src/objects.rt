@@ -23,8 +23,8 @@ pub fn found_json(alloc: Global, relation: Relation, found: &[Found]) -> Result<
     json_line(alloc, Value::Array(values))
 }
 
-/// The line of a value.
-fn json_line(alloc: Global, value: Value) -> Result<String, AllocError>
+/// The line of a value that nests less deep than `serde_json` reads.
+pub fn json_line(alloc: Global, value: Value) -> Result<String, AllocError>
     requires { depth (view value) ≤ max_depth }
     ensures { IfOk result (λ text. IsJsonOf (view value) (string_bytes text)) }
 {
@@ -33,6 +33,13 @@ fn json_line(alloc: Global, value: Value) -> Result<String, AllocError>
     let mut text = written?;
     text.push('\n')?;
     Ok(text)
+}
+
+/// The value of a text.
+pub fn text_value(alloc: Global, text: &str) -> Result<Value, AllocError>
+    ensures { IfOk result (λ value. view value ≡ string text.now) }
+{
+    json!(in alloc; text)
 }
 
 fn found_objects(

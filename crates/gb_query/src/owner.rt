@@ -23,7 +23,8 @@ pub fn owner_of(alloc: Global, place: &Place) -> Result<Option<TaskPath>, AllocE
 
 /// The task, if its record belongs at the place.
 fn confirmed(alloc: Global, path: TaskPath, place: &Place) -> Result<Option<TaskPath>, AllocError>
-    requires { (other : List ℕ) → IsTrue (is_task_path other) → record_place other ≡ place.now → path ≡ other }
+    requires { (other : List ℕ) → IsTrue (is_task_path other) → record_place other ≡ place.now
+        → path ≡ other }
     ensures { IfOk result (IsOwner place.now) }
 {
     if belongs(alloc, &path, place.as_str())? {

@@ -32,14 +32,15 @@ pub enum Found {
     Unreadable(TaskPath, Fault),
 }
 
-/// What is found of all registered tasks, whose paths these are.
+/// What is found of all registered tasks, whose paths these are. A task at fault is found with its fault, so
+/// that the only error is that memory ran out.
 pub fn search<Ts: Tasks>(
     alloc: Global,
     relation: Relation,
     tasks: &mut Ts,
     names: &[TaskPath],
     place: &Place,
-) -> Result<Vec<Found>, Fault>
+) -> Result<Vec<Found>, AllocError>
     requires { names.now ≡ paths_of (Ts.registry tasks.old) }
     ensures { IfOk result (λ found. found.items ≡ found_in relation place.now (Ts.registry tasks.old)) }
 {
@@ -58,7 +59,7 @@ fn search_task<Ts: Tasks>(
     tasks: &mut Ts,
     path: &TaskPath,
     place: &Place,
-) -> Result<(), Fault>
+) -> Result<(), AllocError>
     requires { IsTrue (has_path (paths_of (Ts.registry tasks.old)) path.now) }
     ensures kept { Ts.registry tasks.new ≡ Ts.registry tasks.old }
     ensures found { OnOk result (found.new.items ≡ found.old.items
@@ -78,24 +79,32 @@ fn push_found(
     path: &TaskPath,
     task: TaskDeclaration,
     place: &Place,
-) -> Result<(), Fault>
+) -> Result<(), AllocError>
     ensures { OnOk result (found.new.items
         ≡ found.old.items ++ found_at relation place.now path.now (Some (Ok task))) }
 {
     let pushed = push_related(alloc, found, relation, path, &task, place);
     drop(task);
-    Ok(pushed?)
+    pushed
 }
 
 /// Adds that a task cannot be read. That memory ran out is handed on.
-fn push_unreadable(found: &mut Vec<Found>, path: &TaskPath, fault: Fault) -> Result<(), Fault>
+fn push_unreadable(found: &mut Vec<Found>, path: &TaskPath, fault: Fault) -> Result<(), AllocError>
     ensures fault { OnOk result (fault ≢ Fault.OutOfMemory) }
     ensures found { OnOk result (found.new.items
         ≡ found.old.items ++ Found.Unreadable path.now fault ∷ []) }
 {
     if is_out_of_memory(&fault) {
-        return Err(fault);
+        drop(fault);
+        return Err(AllocError);
     }
+    push_fault(found, path, fault)
+}
+
+fn push_fault(found: &mut Vec<Found>, path: &TaskPath, fault: Fault) -> Result<(), AllocError>
+    ensures { OnOk result (found.new.items
+        ≡ found.old.items ++ Found.Unreadable path.now fault ∷ []) }
+{
     found.push(Found::Unreadable(path.copy()?, fault))?;
     Ok(())
 }

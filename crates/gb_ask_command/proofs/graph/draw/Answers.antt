@@ -1,25 +1,25 @@
-use Rattle.std.proofs.Common.{Ok, subst, ◌∙◌}
-use Rattle.std.specs.Prelude.{string_bytes}
-use Rattle.std.proofs.lemmas.Result.{IfOk-weaker}
-use Rattle.gb_build.specs.Scripts.{FolderSays}
+use Rattle.std.proofs.Common.{subst}
+use Rattle.std.specs.Prelude.{IfErr, IfOk, string_bytes}
 use Rattle.gb_declare.specs.Registered.{registry_said}
+use Rattle.gb_graph.specs.Answer.{IsRefusalOf}
+use Rattle.gb_meaning.specs.Edits.{Shown}
 use Rattle.gb_registry.specs.Tables.{tables_of}
 use Rattle.gb_registry.specs.declared.tables.Tables as handed
 use Rattle.gb_ask_command.specs.Graph.{IsDrawing}
+use Rattle.gb_ask_command.proofs.Replying.{of_drawing}
+use Rattle.gb_ask_command.proofs.Told.{shows}
 use Rattle.gb_ask_command.proofs.graph.draw.Goals as goal
 
-pub returns-clause-reply : goal.returns-clause-reply
-returns-clause-reply g c =
+pub returns-in-Ok-clause-reply : goal.returns-in-Ok-clause-reply
+returns-in-Ok-clause-reply g c =
     let F = g.F.Folder in
     let M = g.A.Actions.meanings in
     let asked = c.args.asked.now in
-    let source = c.in_ok-configured.configured.registry in
-    let files = (F.contents c.args.folder.now).files in
-    let tables = tables_of g.T.Transforms.meanings M c.args.tables.now in
-    IfOk-weaker c.draw_registered.result _ _
-    (λ text is. (
-      source,
-      λ tells. subst (λ values. FolderSays tables files values (Ok source)) (c.into_vec-given.ensures ∙ c.in_ok-copied.ensures) (c.in_ok-configured.ensures.said tells),
-      subst (λ (given : handed.Tables _ _ _ _ _ _ _). IsDrawing c.args.style (registry_said (tables_of g.T.Transforms.meanings M given) source) asked.requested asked.excluded (string_bytes text)) c.in_ok-configured.ensures.tables is,
-    ))
-    c.draw_registered.ensures
+    let style = c.args.style in
+    let source = c.in-Ok.configured.registry in
+    let old : Shown = shows (F.contents c.args.folder.now) (F.failures c.args.folder.now) in
+    let result = c.draw_registered.result in
+    of_drawing (tables_of g.T.Transforms.meanings M c.args.tables.now) F.tells old (F.failures c.read_asked.new.folder) asked
+    style source c.in-Ok.ensures.read result
+    (subst (λ (given : handed.Tables _ _ _ _ _ _ _). IfOk result (λ text. IsDrawing style (registry_said (tables_of g.T.Transforms.meanings M given) source) asked.requested asked.excluded (string_bytes text))) c.in-Ok.ensures.tables c.draw_registered.ensures.drawing)
+    (subst (λ (given : handed.Tables _ _ _ _ _ _ _). IfErr result (IsRefusalOf (registry_said (tables_of g.T.Transforms.meanings M given) source) asked.requested asked.excluded)) c.in-Ok.ensures.tables c.draw_registered.ensures.fault)

@@ -1,5 +1,5 @@
 use Rattle.std.proofs.Common.{◌≡◌, ap, subst, sym, ◌∙◌}
-use Rattle.std.specs.Prelude.{IfOk, string_bytes}
+use Rattle.std.specs.Prelude.{string_bytes}
 use Rattle.gb_plan.specs.Graph.{Registry, paths_of}
 use Rattle.gb_query.specs.Notation.{IsFoundText}
 use Rattle.gb_query.specs.Search.{found_in}
@@ -16,13 +16,13 @@ search_text-requires g c =
     let source : Source = c.args.configured.now.registry in
     let tables = tables_of g.T.Transforms.meanings g.A.Actions.meanings c.args.configured.now.tables.now in
     let same : registry_in g.T.Transforms.meanings g.A.Actions.meanings tasks.workspace ≡ registry_said tables source = c.in_ok-tasks.ensures.registry in
-    c.as_slice.ensures.value ∙ c.in_ok-names.ensures ∙ sym c.tasks-registered.ensures.tasks ∙ c.tasks-registered.ensures.registered ∙ sym (paths_said tables source) ∙ ap paths_of (sym same)
+    c.as_slice-paths.ensures.value ∙ c.in_ok-names.ensures ∙ sym c.tasks-registered.ensures.tasks ∙ c.tasks-registered.ensures.registered ∙ sym (paths_said tables source) ∙ ap paths_of (sym same)
 
-pub returns : goal.returns
-returns g c =
+pub returns-clause-text : goal.returns-clause-text
+returns-clause-text g c =
     let notation = c.args.notation in
     let relation = c.args.relation in
     let place = c.args.place.now in
     let tables = tables_of g.T.Transforms.meanings g.A.Actions.meanings c.args.configured.now.tables.now in
     let same : registry_in g.T.Transforms.meanings g.A.Actions.meanings c.in_ok-tasks.tasks.workspace ≡ registry_said tables c.args.configured.now.registry = c.in_ok-tasks.ensures.registry in
-    subst (λ (registry : Registry). IfOk c.search_text.result (λ text. IsFoundText notation relation (found_in relation place registry) (string_bytes text))) same c.search_text.ensures
+    subst (λ (registry : Registry). IsFoundText notation relation (found_in relation place registry) (string_bytes c.in_ok-text.text)) same c.in_ok-text.ensures

@@ -1,24 +1,24 @@
 use Rattle.std.proofs.Common.{◌≡◌, ap, subst, sym, ◌∙◌}
-use Rattle.std.specs.Prelude.{IfOk, string_bytes}
+use Rattle.std.specs.Prelude.{string_bytes}
 use Rattle.gb_plan.specs.Graph.{Registry, paths_of}
+use Rattle.gb_query.specs.Notation.{IsTasksText}
 use Rattle.gb_registry.specs.Source.{Source}
 use Rattle.gb_registry.specs.Tables.{tables_of}
 use Rattle.gb_declare.specs.Registered.{registry_said}
 use Rattle.gb_project.proofs.SoundLemmas.{paths_said}
 use Rattle.gb_project.specs.Scripts.{registry_in}
-use Rattle.gb_ask_command.specs.Listing.{tasks_text}
 use Rattle.gb_ask_command.proofs.tasks.list_registered.Goals as goal
 
-pub list_tasks-requires : goal.list_tasks-requires
-list_tasks-requires g c =
+pub list_text-requires : goal.list_text-requires
+list_text-requires g c =
     let tasks = c.in_ok-tasks.tasks in
     let source : Source = c.args.configured.now.registry in
     let tables = tables_of g.T.Transforms.meanings g.A.Actions.meanings c.args.configured.now.tables.now in
     let same : registry_in g.T.Transforms.meanings g.A.Actions.meanings tasks.workspace ≡ registry_said tables source = c.in_ok-tasks.ensures.registry in
     c.as_slice.ensures.value ∙ c.in_ok-names.ensures ∙ sym c.tasks-registered.ensures.tasks ∙ c.tasks-registered.ensures.registered ∙ sym (paths_said tables source) ∙ ap paths_of (sym same)
 
-pub returns : goal.returns
-returns g c =
+pub returns-clause-text : goal.returns-clause-text
+returns-clause-text g c =
     let tables = tables_of g.T.Transforms.meanings g.A.Actions.meanings c.args.configured.now.tables.now in
     let same : registry_in g.T.Transforms.meanings g.A.Actions.meanings c.in_ok-tasks.tasks.workspace ≡ registry_said tables c.args.configured.now.registry = c.in_ok-tasks.ensures.registry in
-    subst (λ (registry : Registry). IfOk c.list_tasks.result (λ text. string_bytes text ≡ tasks_text registry)) same c.list_tasks.ensures
+    subst (λ (registry : Registry). IsTasksText c.args.notation registry (string_bytes c.in_ok-text.text)) same c.in_ok-text.ensures

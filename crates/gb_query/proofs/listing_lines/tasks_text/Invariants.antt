@@ -1,7 +1,7 @@
 use Rattle.std.proofs.Common.{◌≡◌, string_bytes, take}
 use Rattle.std.specs.List.{flat_map}
-use Rattle.gb_ask_command.specs.Listing.{task_line}
-use Rattle.gb_ask_command.proofs.listing.list_tasks.Given as goal
+use Rattle.gb_query.specs.Listing.{task_line}
+use Rattle.gb_query.proofs.listing_lines.tasks_text.Given as goal
 
 abbrev pub invariant-loop-path : goal.invariant-loop-path
 invariant-loop-path g l = record {

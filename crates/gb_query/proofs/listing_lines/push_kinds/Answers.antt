@@ -2,9 +2,9 @@ use Rattle.std.proofs.Common.{◌++◌, List, append-nil, string_bytes, sym, ap,
 use Rattle.std.specs.List.{flat_map}
 use Rattle.std.specs.VecDeque.Iter.{deque_iter_rest}
 use Rattle.gb_plan.specs.declared.task.Action.{Action}
-use Rattle.gb_ask_command.specs.Listing.{kind_text}
-use Rattle.gb_ask_command.proofs.Listed.{none_left, step}
-use Rattle.gb_ask_command.proofs.listing.push_kinds.Goals as goal
+use Rattle.gb_query.specs.Listing.{kind_text}
+use Rattle.gb_query.proofs.Listed.{none_left, step}
+use Rattle.gb_query.proofs.listing_lines.push_kinds.Goals as goal
 
 pub loop-action-preserved : goal.loop-action-preserved
 loop-action-preserved c =

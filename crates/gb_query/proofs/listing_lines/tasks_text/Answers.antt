@@ -1,9 +1,9 @@
 use Rattle.std.proofs.Common.{List, ap, subst, sym, ◌∙◌}
 use Rattle.std.specs.Prelude.{IsTrue}
-use Rattle.gb_plan.specs.Graph.{Registry, paths_of}
+use Rattle.gb_plan.specs.Graph.{paths_of}
 use Rattle.gb_plan.specs.Task.{Path, has_path}
-use Rattle.gb_ask_command.proofs.Listed.{is_there}
-use Rattle.gb_ask_command.proofs.listing.list_tasks.Goals as goal
+use Rattle.gb_query.proofs.Listed.{is_there}
+use Rattle.gb_query.proofs.listing_lines.tasks_text.Goals as goal
 
 pub push_task-requires : goal.push_task-requires
 push_task-requires g c =

@@ -1,13 +1,12 @@
 //! The lines of registered tasks.
-ghost use Rattle.std.specs.Prelude.{◌≡◌, ◌≢◌, ◌++◌, Err, IfOk, IsTrue, Ok, OnOk, Some, bytes_eq, codes};
-ghost use Rattle.std.specs.Prelude.{false, string_bytes};
+ghost use Rattle.std.specs.Prelude.{◌≡◌, ◌≢◌, ◌++◌, Err, IfOk, IsTrue, Ok, OnOk, Some, false, string_bytes};
 ghost use Rattle.std.specs.List.{flat_map};
 ghost use Rattle.gb_plan.specs.Graph.{declaration_at, paths_of};
 ghost use Rattle.gb_plan.specs.Task.{has_path};
-ghost use Rattle.gb_ask_command.specs.Listing.{default_text, is_default, kind_text, made_text, output_text};
-ghost use Rattle.gb_ask_command.specs.Listing.{has_colon, is_path_of, selects, task_line, tasks_text};
+ghost use Rattle.gb_query.specs.Listing.{default_text, kind_text, made_text, output_text, task_line};
+ghost use Rattle.gb_query.specs.Listing.{tasks_text};
 
-use crate::reply::Reply;
+use crate::listing::is_default;
 use gb_core::path::TaskPath;
 use gb_core::text::Text;
 use gb_graph::tasks::Tasks;
@@ -17,8 +16,13 @@ use gb_report::fault::Fault;
 use std::alloc::{AllocError, Global};
 use std::fmt::Write;
 
-/// The lines of all registered tasks, whose paths these are.
-pub(crate) fn list_tasks<Ts: Tasks>(alloc: Global, tasks: &mut Ts, names: &[TaskPath]) -> Reply
+/// One line for each registered task; these are their paths. A task at fault has a line with its fault, so
+/// that the only error is that memory ran out.
+pub fn tasks_text<Ts: Tasks>(
+    alloc: Global,
+    tasks: &mut Ts,
+    names: &[TaskPath],
+) -> Result<String, AllocError>
     requires { names.now ≡ paths_of (Ts.registry tasks.old) }
     ensures { IfOk result (λ text. string_bytes text ≡ tasks_text (Ts.registry tasks.old)) }
 {
@@ -35,7 +39,7 @@ fn push_task<Ts: Tasks>(
     text: &mut String,
     tasks: &mut Ts,
     path: &TaskPath,
-) -> Result<(), Fault>
+) -> Result<(), AllocError>
     requires { IsTrue (has_path (paths_of (Ts.registry tasks.old)) path.now) }
     ensures kept { Ts.registry tasks.new ≡ Ts.registry tasks.old }
     ensures line { OnOk result
@@ -43,8 +47,7 @@ fn push_task<Ts: Tasks>(
 {
     push_heading(text, tasks.default_tasks(), path)?;
     push_made(alloc, text, tasks, path)?;
-    text.push('\n')?;
-    Ok(())
+    text.push('\n')
 }
 
 /// Adds the path of a task, and whether it is a default task.
@@ -59,53 +62,13 @@ fn push_heading(text: &mut String, defaults: &[Text], path: &TaskPath) -> Result
     Ok(())
 }
 
-/// Whether one of these words selects the task.
-fn is_default(words: &[Text], path: &TaskPath) -> bool
-    ensures { result ≡ is_default words.now path.now }
-{
-    words.iter().any(|word| selects(word.as_str(), path))
-}
-
-/// Whether a word selects the task: by its path where it has a colon, and else by its name.
-fn selects(word: &str, path: &TaskPath) -> bool
-    ensures { result ≡ selects word.now path.now }
-{
-    if has_colon(word) {
-        is_path_of(word, path.as_str())
-    } else {
-        word == path.name()
-    }
-}
-
-fn has_colon(word: &str) -> bool
-    ensures { result ≡ has_colon word.now }
-{
-    word.as_bytes().iter().any(|byte| *byte == b':')
-}
-
-/// Whether a word is this path, with its first colon or without it.
-fn is_path_of(word: &str, path: &str) -> bool
-    ensures { result ≡ is_path_of word.now path.now }
-{
-    word == path || is_behind_colon(word, path.as_bytes())
-}
-
-fn is_behind_colon(word: &str, path: &[u8]) -> bool
-    ensures { result ≡ bytes_eq path.now (codes ":" ++ word.now) }
-{
-    match path {
-        [b':', rest @ ..] => rest == word.as_bytes(),
-        _ => false,
-    }
-}
-
 /// Adds what a task does and makes, or its fault.
 fn push_made<Ts: Tasks>(
     alloc: Global,
     text: &mut String,
     tasks: &mut Ts,
     path: &TaskPath,
-) -> Result<(), Fault>
+) -> Result<(), AllocError>
     requires { IsTrue (has_path (paths_of (Ts.registry tasks.old)) path.now) }
     ensures kept { Ts.registry tasks.new ≡ Ts.registry tasks.old }
     ensures made { OnOk result (string_bytes text.new
@@ -118,26 +81,26 @@ fn push_made<Ts: Tasks>(
 }
 
 /// Adds what a task does and makes, and drops it.
-fn push_task_made(alloc: Global, text: &mut String, task: TaskDeclaration) -> Result<(), Fault>
+fn push_task_made(alloc: Global, text: &mut String, task: TaskDeclaration) -> Result<(), AllocError>
     ensures { OnOk result (string_bytes text.new ≡ string_bytes text.old ++ made_text (Some (Ok task))) }
 {
     let pushed = push_declared(alloc, text, &task);
     drop(task);
-    Ok(pushed?)
+    pushed
 }
 
 /// Adds the fault of a task, but that memory ran out: that is handed on.
-fn push_fault(text: &mut String, fault: Fault) -> Result<(), Fault>
+fn push_fault(text: &mut String, fault: Fault) -> Result<(), AllocError>
     ensures fault { OnOk result (fault ≢ Fault.OutOfMemory) }
     ensures made { OnOk result
         (string_bytes text.new ≡ string_bytes text.old ++ made_text (Some (Err fault))) }
 {
     if is_out_of_memory(&fault) {
-        return Err(fault);
+        return Err(AllocError);
     }
     let pushed = write_fault(text, &fault);
     drop(fault);
-    Ok(pushed?)
+    pushed
 }
 
 fn is_out_of_memory(fault: &Fault) -> bool

@@ -1,7 +1,9 @@
--- What is printed of registered tasks.
+-- What is printed of registered tasks, as lines and as JSON.
 use Rattle.std.specs.Prelude.{ℕ, ◌==◌, ◌||◌, Bool, List, [], ◌++◌, Option, Some, None, Result, Ok, Err}
-use Rattle.std.specs.Prelude.{bytes_eq, codes, if◌then◌else◌}
+use Rattle.std.specs.Prelude.{bytes_eq, codes, if◌then◌else◌, map}
 use Rattle.std.specs.List.{flat_map, list_any}
+use Rattle.serde_json.specs.Data.{Data, array, boolean, member, no_members, object, string}
+use Rattle.serde_json.specs.View.{items_of}
 use Rattle.gb_core.specs.Path.{task_name}
 use Rattle.gb_picture.specs.Shown.{shown_text}
 use Rattle.gb_plan.specs.Graph.{Registry, declaration_at, paths_of}
@@ -49,3 +51,41 @@ task_line registry path =
 -- exactly the registered tasks, in the order of registration
 abbrev pub tasks_text : Registry → List ℕ
 tasks_text registry = flat_map (task_line registry) (paths_of registry)
+
+-- ---- As JSON
+
+abbrev pub kinds_data : List Action → Data
+kinds_data actions = array (items_of (map (λ action. string action.kind) actions))
+
+abbrev pub places_data : List Output → Data
+places_data outputs = array (items_of (map (λ output. string output.place) outputs))
+
+-- of a task that has these actions and outputs
+abbrev pub made_object : Path → Bool → Data → Data → Data
+made_object path default actions outputs =
+    object (member (codes "actions") actions
+    (member (codes "default") (boolean default)
+    (member (codes "outputs") outputs
+    (member (codes "task") (string path) no_members))))
+
+-- of a task that cannot be read
+abbrev pub fault_object : Path → Bool → List ℕ → Data
+fault_object path default text =
+    object (member (codes "default") (boolean default)
+    (member (codes "fault") (string text)
+    (member (codes "task") (string path) no_members)))
+
+-- of a task: the kinds of its actions and the places that it makes, or its fault
+abbrev pub declared_object : Path → Bool → Option (Result TaskDeclaration Fault) → Data
+declared_object path default (Some (Ok task)) =
+    made_object path default (kinds_data task.actions) (places_data task.outputs)
+declared_object path default (Some (Err fault)) = fault_object path default (fault_text fault)
+declared_object path default None = made_object path default (kinds_data []) (places_data [])
+
+abbrev pub task_object : Registry → Path → Data
+task_object registry path =
+    declared_object path (is_default registry.default_tasks path) (declaration_at registry path)
+
+-- exactly the registered tasks, in the order of registration
+abbrev pub tasks_data : Registry → Data
+tasks_data registry = array (items_of (map (task_object registry) (paths_of registry)))

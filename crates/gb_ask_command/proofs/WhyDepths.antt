@@ -1,0 +1,34 @@
+-- The outcomes of tasks as JSON are shallow, so that they read back.
+use Rattle.std.proofs.Common.{ℕ, ◌≤◌, List, [], ◌∷◌, Option, Some, None, map, arith}
+use Rattle.serde_json.specs.Data.{Data, array, depth, items_depth}
+use Rattle.serde_json.specs.Read.{max_depth}
+use Rattle.serde_json.specs.View.{items_of}
+use Rattle.gb_foretell.specs.declared.coming.Coming.{Coming}
+use Rattle.gb_foretell.specs.declared.coming.Coming.TheVariants as comings
+use Rattle.gb_foretell.specs.declared.coming.Foretold.{Foretold}
+use Rattle.gb_plan.specs.Task.{Path}
+use Rattle.gb_query.proofs.Depths.{items_low}
+use Rattle.gb_ask_command.specs.WhyJson.{reason_data, reasons_data, task_data, why_data, why_object}
+
+reasons_low : (coming : Coming) → items_depth (items_of (reasons_data coming)) ≤ 0
+reasons_low comings.Skips = omega arith
+reasons_low comings.HasNoActions = omega arith
+reasons_low (comings.HasNoSource removes) = omega arith
+reasons_low (comings.CannotRead fault) = omega arith
+reasons_low comings.UpToDate = omega arith
+reasons_low comings.HasGrown = omega arith
+reasons_low (comings.Runs by_changes reasons) = items_low reason_data 0 (λ reason. omega arith) reasons.items
+
+task_low : (task : Option Path) → depth (task_data task) ≤ 0
+task_low (Some path) = omega arith
+task_low None = omega arith
+
+object_low : (told : Foretold) → depth (why_object told) ≤ 2
+object_low told =
+    let reasons = reasons_low told.coming in
+    let needs = task_low told.needs in
+    let after = task_low told.after in
+    omega arith
+
+pub why_shallow : (told : List Foretold) → depth (why_data told) ≤ max_depth
+why_shallow told = let low = items_low why_object 2 object_low told in omega arith

@@ -1,0 +1,20 @@
+use Rattle.std.proofs.Common.{◌⊎◌, List, Ok, Err, inl, refl, subst, ◌∙◌}
+use Rattle.std.specs.Prelude.{IsTrue, MatchResult}
+use Rattle.gb_build.specs.Scripts.{FolderSays}
+use Rattle.gb_plan.specs.Task.{Text}
+use Rattle.gb_registry.specs.Tables.{tables_of}
+use Rattle.gb_store.specs.Faults.{IsOfMachine}
+use Rattle.gb_ask_command.proofs.Replying.{where_known}
+use Rattle.gb_ask_command.proofs.scripts.read_asked.Goals as goal
+
+pub returns-in-Ok-clause-read : goal.returns-in-Ok-clause-read
+returns-in-Ok-clause-read g c =
+    let F = g.F.Folder in
+    let tables = tables_of g.T.Transforms.meanings g.A.Actions.meanings c.args.tables.now in
+    let files = (F.contents c.args.folder.now).files in
+    let before = F.failures c.args.folder.now in
+    let after = F.failures c.read_registry.new.folder in
+    let given = c.args.asked.now.properties in
+    where_known (IsTrue F.tells) (λ configured. FolderSays tables files given (Ok configured.registry)) (λ fault. IsOfMachine before after fault ⊎ FolderSays tables files given (Err fault)) c.read_registry.result
+    (λ tells. subst (λ (values : List (Text × Text)). MatchResult c.read_registry.result (λ configured. FolderSays tables files values (Ok configured.registry)) (λ fault. IsOfMachine before after fault ⊎ FolderSays tables files values (Err fault)))
+    (c.into_vec-given.ensures ∙ c.in-Ok.ensures) (c.read_registry.ensures.said tells))

@@ -1,0 +1,43 @@
+//! The scripts of a folder, read with the values that an invocation gives.
+ghost use Rattle.std.specs.Prelude.{◌≡◌, IfOk, IsTrue, Err, MatchResult, Ok};
+ghost use Rattle.gb_folder.specs.Calls.{Asks, no_change};
+ghost use Rattle.gb_registry.specs.Tables.{tables_of};
+ghost use Rattle.gb_ask_command.specs.Replies.{AreRead};
+
+use gb_action::actions::Actions;
+use gb_build::reading::read_registry;
+use gb_folder::folder::Folder;
+use gb_meaning::events::Invocation;
+use gb_provider::transforms::Transforms;
+use gb_registry::configured::Configured;
+use gb_registry::tables::Tables;
+use gb_report::fault::Fault;
+use std::alloc::Global;
+
+/// The scripts of a folder with the values of an invocation, over these tables. An error is the first fault
+/// of the scripts, or one of the machine.
+pub(crate) fn read_asked<'a, A: Actions, T: Transforms, F: Folder>(
+    alloc: Global,
+    folder: &mut F,
+    tables: &'a Tables<A, T>,
+    asked: &Invocation,
+) -> Result<Configured<'a, A, T>, Fault>
+    ensures asks { Asks F.failures F.may_leave F.asked no_change folder.old folder.new }
+    ensures same { IsTrue F.tells → F.contents folder.new ≡ F.contents folder.old }
+    ensures tables { IfOk result (λ configured. configured.tables.now ≡ tables.now) }
+    ensures read { let handed = tables_of T.meanings A.meanings tables.now in MatchResult result
+        (λ configured. AreRead handed F.tells
+        (record { contents = F.contents folder.old; failures = F.failures folder.old })
+        (F.failures folder.new) asked.now (Ok configured.registry))
+        (λ fault. AreRead handed F.tells
+        (record { contents = F.contents folder.old; failures = F.failures folder.old })
+        (F.failures folder.new) asked.now (Err fault)) }
+{
+    match asked.properties.copy(alloc) {
+        Ok(copied) => {
+            let given = copied.into_vec();
+            read_registry(alloc, folder, tables, given)
+        }
+        Err(_) => Err(Fault::OutOfMemory),
+    }
+}

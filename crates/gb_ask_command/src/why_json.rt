@@ -1,0 +1,164 @@
+//! The outcome of each task and why it would run, as JSON.
+ghost use Rattle.std.specs.Prelude.{◌≡◌, [], ◌∷◌, IfOk, map, string_bytes};
+ghost use Rattle.serde_json.specs.Data.{array, string};
+ghost use Rattle.serde_json.specs.View.{items_of, view};
+ghost use Rattle.gb_query.specs.Objects.{IsJsonOf};
+ghost use Rattle.gb_report.specs.Fault.{fault_text};
+ghost use Rattle.gb_ask_command.specs.WhyJson.{outcome_object, outcome_word, reason_data, reasons_data};
+ghost use Rattle.gb_ask_command.specs.WhyJson.{task_data, why_data, why_object};
+
+use gb_core::path::TaskPath;
+use gb_foretell::coming::{Coming, Foretold};
+use gb_query::objects::{json_line, text_value};
+use gb_reason::reason::Reason;
+use gb_reason::text::push_reason;
+use gb_report::fault::Fault;
+use serde_json::{Value, json};
+use std::alloc::{AllocError, Global};
+use std::fmt::Write;
+
+/// A line of JSON: an array with an object for each task.
+pub(crate) fn why_json(alloc: Global, told: &[Foretold]) -> Result<String, AllocError>
+    ensures { IfOk result (λ text. IsJsonOf (why_data told.now) (string_bytes text)) }
+{
+    let values = objects(alloc, told)?;
+    json_line(alloc, Value::Array(values))
+}
+
+fn objects(alloc: Global, told: &[Foretold]) -> Result<Vec<Value>, AllocError>
+    ensures { IfOk result (λ values. map view values.items ≡ map why_object told.now) }
+{
+    let mut values = Vec::new(alloc);
+    for one in told {
+        values.push(why_object(alloc, one)?)?;
+    }
+    Ok(values)
+}
+
+fn why_object(alloc: Global, told: &Foretold) -> Result<Value, AllocError>
+    ensures { IfOk result (λ value. view value ≡ why_object told.now) }
+{
+    let reasons = Value::Array(reasons(alloc, &told.coming)?);
+    let value = with_reasons(alloc, told, &reasons);
+    drop(reasons);
+    value
+}
+
+fn with_reasons(alloc: Global, told: &Foretold, reasons: &Value) -> Result<Value, AllocError>
+    ensures { IfOk result (λ value. view value ≡ outcome_object told.now.path
+        (outcome_word told.now.coming) (view reasons.now)
+        (task_data told.now.needs) (task_data told.now.after)) }
+{
+    let needs = task_value(alloc, &told.needs)?;
+    let value = with_needs(alloc, told, reasons, &needs);
+    drop(needs);
+    value
+}
+
+fn with_needs(
+    alloc: Global,
+    told: &Foretold,
+    reasons: &Value,
+    needs: &Value,
+) -> Result<Value, AllocError>
+    ensures { IfOk result (λ value. view value ≡ outcome_object told.now.path
+        (outcome_word told.now.coming) (view reasons.now) (view needs.now) (task_data told.now.after)) }
+{
+    let after = task_value(alloc, &told.after)?;
+    let outcome = outcome_word(&told.coming);
+    let value = outcome_object(alloc, told.path.as_str(), outcome, reasons, needs, &after);
+    drop(after);
+    value
+}
+
+fn outcome_object(
+    alloc: Global,
+    task: &str,
+    outcome: &str,
+    reasons: &Value,
+    needs: &Value,
+    after: &Value,
+) -> Result<Value, AllocError>
+    ensures { IfOk result (λ value. view value
+        ≡ outcome_object task.now outcome.now (view reasons.now) (view needs.now) (view after.now)) }
+{
+    json!(in alloc; {
+        "after": after,
+        "needs": needs,
+        "outcome": outcome,
+        "reasons": reasons,
+        "task": task,
+    })
+}
+
+/// The path of a task, or null.
+fn task_value(alloc: Global, task: &Option<TaskPath>) -> Result<Value, AllocError>
+    ensures { IfOk result (λ value. view value ≡ task_data task.now) }
+{
+    match task {
+        Some(path) => text_value(alloc, path.as_str()),
+        None => Ok(Value::Null),
+    }
+}
+
+fn outcome_word(coming: &Coming) -> &'static str
+    ensures { result.now ≡ outcome_word coming.now }
+{
+    match coming {
+        Coming::Skips => "SKIPPED",
+        Coming::HasNoActions => "has no actions",
+        Coming::HasNoSource(_) => "NO-SOURCE",
+        Coming::CannotRead(_) => "cannot be read",
+        Coming::UpToDate => "UP-TO-DATE",
+        Coming::HasGrown => "runs",
+        Coming::Runs(true, _) => "runs by changes",
+        Coming::Runs(false, _) => "runs",
+    }
+}
+
+/// All reasons for an outcome.
+fn reasons(alloc: Global, coming: &Coming) -> Result<Vec<Value>, AllocError>
+    ensures { IfOk result (λ values. map view values.items ≡ reasons_data coming.now) }
+{
+    match coming {
+        Coming::Skips => one_text(alloc, "onlyIf is false"),
+        Coming::CannotRead(fault) => fault_reason(alloc, fault),
+        Coming::HasGrown => one_text(alloc, "outputs are too large or too many"),
+        Coming::Runs(_, reasons) => reason_values(alloc, reasons.as_slice()),
+        Coming::HasNoActions | Coming::HasNoSource(_) | Coming::UpToDate => Ok(Vec::new(alloc)),
+    }
+}
+
+fn one_text(alloc: Global, text: &str) -> Result<Vec<Value>, AllocError>
+    ensures { IfOk result (λ values. map view values.items ≡ string text.now ∷ []) }
+{
+    let mut values = Vec::new(alloc);
+    values.push(text_value(alloc, text)?)?;
+    Ok(values)
+}
+
+fn fault_reason(alloc: Global, fault: &Fault) -> Result<Vec<Value>, AllocError>
+    ensures { IfOk result (λ values. map view values.items ≡ string (fault_text fault.now) ∷ []) }
+{
+    let mut text = String::new(alloc);
+    write!(text, "{fault}")?;
+    one_text(alloc, text.as_str())
+}
+
+fn reason_values(alloc: Global, reasons: &[Reason]) -> Result<Vec<Value>, AllocError>
+    ensures { IfOk result (λ values. map view values.items ≡ map reason_data reasons.now) }
+{
+    let mut values = Vec::new(alloc);
+    for reason in reasons {
+        values.push(reason_value(alloc, reason)?)?;
+    }
+    Ok(values)
+}
+
+fn reason_value(alloc: Global, reason: &Reason) -> Result<Value, AllocError>
+    ensures { IfOk result (λ value. view value ≡ reason_data reason.now) }
+{
+    let mut text = String::new(alloc);
+    push_reason(&mut text, reason)?;
+    text_value(alloc, text.as_str())
+}
