@@ -1,13 +1,14 @@
 -- The blocks of a page.
 use Rattle.std.specs.Prelude.{ℕ, zero, suc, ◌==◌, nat_le, nat_lt, Bool, true, false, not}
 use Rattle.std.specs.Prelude.{◌&&◌, ◌||◌, List, [], ◌∷◌, ◌++◌, if◌then◌else◌, codes, bytes_eq}
-use Rattle.std.specs.Prelude.{drop, Option, None, Some}
+use Rattle.std.specs.Prelude.{drop, length, count_by, decimal, Option, None, Some}
 use Rattle.std.specs.List.{flat_map}
 use Rattle.std.specs.Char.{is_ascii_alphanumeric, to_ascii_lowercase}
 use Rattle.gb_markdown.specs.Runs.{run, is_blank, trimmed}
 use Rattle.gb_markdown.specs.Pieces.{Piece, Open, Close, Listing, Coded, Named, Text, written}
 use Rattle.gb_markdown.specs.Lines.{Said, Nothing, Code, Heading, Rule, Quote, Item, Indented, Words}
 use Rattle.gb_markdown.specs.Lines.{has, said, words_of}
+use Rattle.gb_markdown.specs.References.{Refs, defined}
 use Rattle.gb_markdown.specs.Tables.{inline_of, is_divider, line_end, lines_in, rows_of, table}
 use Rattle.gb_markdown.specs.declared.page.Element.{Element}
 use Rattle.gb_markdown.specs.declared.page.Element.TheVariants as elements
@@ -181,8 +182,22 @@ slug_byte b =
 abbrev pub slug : List ℕ → List ℕ
 slug words = flat_map slug_byte words
 
-abbrev pub heading : Element → List ℕ → List Piece
-heading element words = Named element (slug words) ∷ inline_of words ++ Close element ∷ line_end ∷ []
+-- the names of the headings of a page so far, of which at most so many count
+abbrev pub Names : Type 0
+Names = List (List ℕ)
+
+-- a heading whose name others have has their number behind it
+abbrev pub id_by : ℕ → List ℕ → List ℕ
+id_by seen name = if seen == 0 then name else name ++ 45 ∷ decimal seen
+
+abbrev pub id_of : Names → List ℕ → List ℕ
+id_of names name = id_by (count_by (bytes_eq name) names) name
+
+abbrev pub with_name : Names → List ℕ → Names
+with_name names name = if nat_lt (length names) 512 then names ++ name ∷ [] else names
+
+abbrev pub heading : Refs → Names → Element → List ℕ → List Piece
+heading refs names element words = Named element (id_of names (slug words)) ∷ inline_of refs words ++ Close element ∷ line_end ∷ []
 
 abbrev pub list_of : ℕ → Element
 list_of sign = if sign == 46 || sign == 41 then elements.Numbered else elements.Items
@@ -203,16 +218,26 @@ is_code blocks.Indented = false
 is_code (blocks.Quote more) = false
 is_code (blocks.Items list) = false
 
-abbrev pub begun_pieces : Bool → Said → List Piece
-begun_pieces ended Nothing = []
-begun_pieces ended (Code fence language) =
+abbrev pub begun_pieces : Refs → Names → Bool → Said → List Piece
+begun_pieces refs names ended Nothing = []
+begun_pieces refs names ended (Code fence language) =
     if ended then [] else Open elements.Block ∷ Coded language ∷ []
-begun_pieces ended (Heading element words) = heading element words
-begun_pieces ended Rule = Open elements.Rule ∷ line_end ∷ []
-begun_pieces ended (Quote text) = []
-begun_pieces ended (Item marker first text) = listing marker.sign first
-begun_pieces ended (Indented text) = []
-begun_pieces ended (Words text) = []
+begun_pieces refs names ended (Heading element words) = heading refs names element words
+begun_pieces refs names ended Rule = Open elements.Rule ∷ line_end ∷ []
+begun_pieces refs names ended (Quote text) = []
+begun_pieces refs names ended (Item marker first text) = listing marker.sign first
+begun_pieces refs names ended (Indented text) = []
+begun_pieces refs names ended (Words text) = []
+
+abbrev pub begun_names : Names → Said → Names
+begun_names names (Heading element words) = with_name names (slug words)
+begun_names names Nothing = names
+begun_names names (Code fence language) = names
+begun_names names Rule = names
+begun_names names (Quote text) = names
+begun_names names (Item marker first text) = names
+begun_names names (Indented text) = names
+begun_names names (Words text) = names
 
 abbrev pub begun_text : List ℕ → Said → List ℕ
 begun_text line Nothing = []
@@ -238,15 +263,16 @@ begun_block ended (Words text) = blocks.Paragraph
 -- ---- Blocks that end
 
 -- in a list without empty lines paragraphs have no tags
-abbrev pub paragraph : Bool → List ℕ → List Piece
-paragraph true text = inline_of (trimmed text) ++ line_end ∷ []
-paragraph false text =
-    Open elements.Paragraph ∷ inline_of (trimmed text) ++ Close elements.Paragraph ∷ line_end ∷ []
+abbrev pub paragraph : Refs → Bool → List ℕ → List Piece
+paragraph refs true text = inline_of refs (trimmed text) ++ line_end ∷ []
+paragraph refs false text =
+    Open elements.Paragraph ∷ inline_of refs (trimmed text) ++ Close elements.Paragraph ∷ line_end ∷ []
 
-abbrev pub table_or : Bool → List ℕ → Option (List ℕ × List ℕ × List ℕ) → List Piece
-table_or tight text None = paragraph tight text
-table_or tight text (Some rows) =
-    if is_divider false false rows.1 && has 124 rows.0 then table rows.0 rows.2 else paragraph tight text
+abbrev pub table_or : Refs → Bool → List ℕ → Option (List ℕ × List ℕ × List ℕ) → List Piece
+table_or refs tight text None = paragraph refs tight text
+table_or refs tight text (Some rows) =
+    if is_divider false false rows.1 && has 124 rows.0 then table refs rows.0 rows.2
+    else paragraph refs tight text
 
 -- an item begins, behind one of this width
 abbrev pub is_item : Said → Bool
@@ -282,19 +308,30 @@ item_words line (Quote text) = line
 item_words line (Indented text) = line
 item_words line (Words text) = line
 
--- an item of this width is written, if one has begun
-abbrev pub item_of : (Bool → List ℕ → List Piece) → Bool → ℕ → List ℕ → List Piece
-item_of inner tight width taken =
-    if width == 0 then []
-    else Open elements.Item ∷ inner tight taken ++ Close elements.Item ∷ line_end ∷ []
+-- pieces, and the names behind them
+abbrev pub Inner : Type 0
+Inner = Names → Bool → List ℕ → List Piece × Names
 
-abbrev pub items : (Bool → List ℕ → List Piece) → Bool → ℕ → List ℕ → List (List ℕ) → List Piece
-items inner tight width taken [] = item_of inner tight width taken
-items inner tight width taken (line ∷ others) =
+-- pieces before and behind others
+abbrev pub between : List Piece → List Piece × Names → List Piece → List Piece × Names
+between front made back = (front ++ (made.0 ++ back), made.1)
+
+abbrev pub then_more : List Piece × Names → (Names → List Piece × Names) → List Piece × Names
+then_more made more = (made.0 ++ (more made.1).0, (more made.1).1)
+
+-- an item of this width is written, if one has begun
+abbrev pub item_of : Inner → Names → Bool → ℕ → List ℕ → List Piece × Names
+item_of inner names tight width taken =
+    if width == 0 then ([], names)
+    else between (Open elements.Item ∷ []) (inner names tight taken) (Close elements.Item ∷ line_end ∷ [])
+
+abbrev pub items : Inner → Names → Bool → ℕ → List ℕ → List (List ℕ) → List Piece × Names
+items inner names tight width taken [] = item_of inner names tight width taken
+items inner names tight width taken (line ∷ others) =
     if starts width line
-    then item_of inner tight width taken
-    ++ items inner tight (item_width (said line)) (item_words line (said line) ++ 10 ∷ []) others
-    else items inner tight width (taken ++ (inside width line ++ 10 ∷ [])) others
+    then then_more (item_of inner names tight width taken) (λ more. items inner more tight
+    (item_width (said line)) (item_words line (said line) ++ 10 ∷ []) others)
+    else items inner names tight width (taken ++ (inside width line ++ 10 ∷ [])) others
 
 unfoldable pub code_ended : List Piece
 code_ended = Close elements.Code ∷ Close elements.Block ∷ line_end ∷ []
@@ -309,41 +346,75 @@ quote_begun = Open elements.Quote ∷ []
 unfoldable pub quote_ended : List Piece
 quote_ended = Close elements.Quote ∷ line_end ∷ []
 
-abbrev pub finished : (Bool → List ℕ → List Piece) → Bool → Block → List ℕ → List Piece
-finished inner tight blocks.Nothing taken = []
-finished inner tight blocks.Paragraph taken = table_or tight taken (rows_of taken)
-finished inner tight (blocks.Code fence) taken = code_ended
-finished inner tight blocks.Indented taken = indented taken
-finished inner tight (blocks.Quote more) taken =
-    quote_begun ++ (inner false taken ++ quote_ended)
-finished inner tight (blocks.Items list) taken =
-    items inner (not list.spaced) 0 [] (lines_in taken)
-    ++ Close (list_of list.marker.sign) ∷ line_end ∷ []
+abbrev pub finished : Inner → Refs → Names → Bool → Block → List ℕ → List Piece × Names
+finished inner refs names tight blocks.Nothing taken = ([], names)
+finished inner refs names tight blocks.Paragraph taken = (table_or refs tight taken (rows_of taken), names)
+finished inner refs names tight (blocks.Code fence) taken = (code_ended, names)
+finished inner refs names tight blocks.Indented taken = (indented taken, names)
+finished inner refs names tight (blocks.Quote more) taken =
+    between quote_begun (inner names false taken) quote_ended
+finished inner refs names tight (blocks.Items list) taken =
+    between [] (items inner names (not list.spaced) 0 [] (lines_in taken))
+    (Close (list_of list.marker.sign) ∷ line_end ∷ [])
 
--- ---- Pages
+-- ---- Texts
 
 -- each line goes on with the block that is open, or ends it and begins another
-abbrev pub read : (Bool → List ℕ → List Piece) → Bool → Block → List ℕ → List (List ℕ) → List Piece
-read inner tight block taken [] = finished inner tight block taken
-read inner tight block taken (line ∷ others) =
+abbrev pub read : Inner → Refs → Names → Bool → Block → List ℕ → List (List ℕ) → List Piece × Names
+read inner refs names tight block taken [] = finished inner refs names tight block taken
+read inner refs names tight block taken (line ∷ others) =
     if goes_on block line
-    then kept_pieces block line
-    ++ read inner tight (kept_block block line) (taken ++ kept_text block line) others
-    else finished inner tight block taken ++ (begun_pieces (is_code block) (said line)
-    ++ read inner tight (begun_block (is_code block) (said line)) (begun_text line (said line)) others)
+    then then_more (kept_pieces block line, names) (λ more. read inner refs more tight (kept_block block line)
+    (taken ++ kept_text block line) others)
+    else then_more (finished inner refs names tight block taken)
+    (λ ended. then_more (begun_pieces refs ended (is_code block) (said line), begun_names ended (said line))
+    (λ more. read inner refs more tight (begun_block (is_code block) (said line))
+    (begun_text line (said line)) others))
 
 -- the blocks of a text, in which quotes and items are so deep in one another; deeper is a paragraph
-unfoldable pub blocks_of : ℕ → Bool → List ℕ → List Piece
-blocks_of zero tight text = paragraph tight text
-blocks_of (suc depth) tight text = read (blocks_of depth) tight blocks.Nothing [] (lines_in text)
+unfoldable pub blocks_of : ℕ → Refs → Inner
+blocks_of zero refs names tight text = (paragraph refs tight text, names)
+blocks_of (suc depth) refs names tight text =
+    read (blocks_of depth refs) refs names tight blocks.Nothing [] (lines_in text)
 
 -- how deep these may be in one another
 unfoldable pub blocks_depth : ℕ
 blocks_depth = 16
 
+-- ---- References
+
+-- a page has at most so many references
+abbrev pub with_reference : Refs → List ℕ × List ℕ × List ℕ → Refs
+with_reference refs reference = if nat_lt (length refs) 512 then refs ++ reference ∷ [] else refs
+
+-- what a page defines, and its other lines
+abbrev pub begun_with : (Refs → Block → List ℕ → Refs × List ℕ) → Refs → Block → List ℕ → List ℕ
+    → Option (List ℕ × List ℕ × List ℕ) → Refs × List ℕ
+begun_with others refs block text line None =
+    others refs (begun_block (is_code block) (said line)) (text ++ (line ++ 10 ∷ []))
+begun_with others refs block text line (Some reference) =
+    others (with_reference refs reference) blocks.Nothing text
+
+-- a line that begins a block may define a label, but for one that ends code
+abbrev pub defined_behind : Block → List ℕ → Option (List ℕ × List ℕ × List ℕ)
+defined_behind block line = if is_code block then None else defined line
+
+abbrev pub taken_apart : Refs → Block → List ℕ → List (List ℕ) → Refs × List ℕ
+taken_apart refs block text [] = (refs, text)
+taken_apart refs block text (line ∷ others) =
+    if goes_on block line
+    then taken_apart refs (kept_block block line) (text ++ (line ++ 10 ∷ [])) others
+    else begun_with (λ more next kept. taken_apart more next kept others) refs block text line
+    (defined_behind block line)
+
+-- ---- Pages
+
 -- the page of a text, as pieces, and as it is written
+abbrev pub page_by : Refs × List ℕ → List Piece
+page_by found = (blocks_of blocks_depth found.0 [] false found.1).0
+
 abbrev pub page_of : List ℕ → List Piece
-page_of text = blocks_of blocks_depth false text
+page_of text = page_by (taken_apart [] blocks.Nothing [] (lines_in text))
 
 abbrev pub html : List ℕ → List ℕ
 html text = written (page_of text)

@@ -4,10 +4,12 @@ use Rattle.std.specs.Prelude.{◌||◌}
 use Rattle.std.specs.Prelude.{List, [], ◌∷◌, ◌++◌, if◌then◌else◌, length, take, drop, slice_index}
 use Rattle.std.specs.Prelude.{Option, None, Some}
 use Rattle.std.specs.List.{prefix_len}
+use Rattle.std.specs.Option.{option_map}
 use Rattle.std.specs.Char.{is_ascii_punctuation}
 use Rattle.gb_markdown.specs.Runs.{run, is_space, is_blank}
-use Rattle.gb_markdown.specs.Addresses.{has_scheme, is_safe}
-use Rattle.gb_markdown.specs.Targets.{angle_end, target, unescaped}
+use Rattle.gb_markdown.specs.Addresses.{has_scheme, is_safe, link_address, page_address}
+use Rattle.gb_markdown.specs.References.{Refs, referred}
+use Rattle.gb_markdown.specs.Targets.{angle_end, quote_end, target, unescaped}
 use Rattle.gb_markdown.specs.Pieces.{Piece, Open, Close, Link, Picture, Text}
 use Rattle.gb_markdown.specs.declared.page.Element.{Element}
 use Rattle.gb_markdown.specs.declared.page.Element.TheVariants as elements
@@ -139,38 +141,61 @@ label_end inside skip before at (b ∷ rest) =
     else if is_no_label inside b rest then None
     else label_end (brackets inside before b) (hidden (b ∷ rest)) b (at + 1) rest
 
--- the label, the address and the title of `label](target)`, and what is behind it
-abbrev pub aimed_at : List ℕ → Option (List ℕ × List ℕ × List ℕ) → Option (List ℕ × List ℕ × List ℕ × List ℕ)
-aimed_at label None = None
-aimed_at label (Some target) = Some (label, target.0, target.1, target.2)
+-- a label, the address and the title that it leads to, and what is behind these
+abbrev pub Aimed : Type 0
+Aimed = List ℕ × List ℕ × List ℕ × List ℕ
 
-abbrev pub behind_label : List ℕ → List ℕ → Option (List ℕ × List ℕ × List ℕ × List ℕ)
-behind_label label [] = None
-behind_label label (b ∷ rest) = if b == 40 then aimed_at label (target rest) else None
+-- the label itself is a reference
+abbrev pub referring : Refs → List ℕ → List ℕ → List ℕ → Option Aimed
+referring refs name label rest =
+    option_map (λ target. (label, target.0, target.1, rest)) (referred name refs)
 
-abbrev pub labelled : List ℕ → Option ℕ → Option (List ℕ × List ℕ × List ℕ × List ℕ)
-labelled rest None = None
-labelled rest (Some end) = behind_label (take end rest) (drop (end + 1) rest)
+-- `(target)`, or else the label itself
+abbrev pub aimed_at : Refs → List ℕ → List ℕ → Option (List ℕ × List ℕ × List ℕ) → Option Aimed
+aimed_at refs label rest None = referring refs label label rest
+aimed_at refs label rest (Some target) = Some (label, target.0, target.1, target.2)
 
-abbrev pub aimed : List ℕ → Option (List ℕ × List ℕ × List ℕ × List ℕ)
-aimed rest = labelled rest (label_end nested.Nothing 0 91 0 rest)
+-- `[name]`, where no name means that of the label
+abbrev pub named_by : List ℕ → List ℕ → List ℕ
+named_by label name = if is_blank name then label else name
+
+abbrev pub referring_to : Refs → List ℕ → List ℕ → List ℕ → Option ℕ → Option Aimed
+referring_to refs label rest inside None = referring refs label label rest
+referring_to refs label rest inside (Some end) =
+    referring refs (named_by label (take end inside)) label (drop (end + 1) inside)
+
+abbrev pub behind_label : Refs → List ℕ → List ℕ → Option Aimed
+behind_label refs label [] = referring refs label label []
+behind_label refs label (b ∷ rest) =
+    if b == 40 then aimed_at refs label (b ∷ rest) (target rest)
+    else if b == 91 then referring_to refs label (b ∷ rest) rest (quote_end 93 false 0 rest)
+    else referring refs label label (b ∷ rest)
+
+abbrev pub labelled : Refs → List ℕ → Option ℕ → Option Aimed
+labelled refs rest None = None
+labelled refs rest (Some end) = behind_label refs (take end rest) (drop (end + 1) rest)
+
+-- `label](target)`, `label][name]`, `label][]` or `label]`
+abbrev pub aimed : Refs → List ℕ → Option Aimed
+aimed refs rest = labelled refs rest (label_end nested.Nothing 0 91 0 rest)
 
 -- a link behind its bracket, or that itself
-abbrev pub link_of : List ℕ → Option (List ℕ × List ℕ × List ℕ × List ℕ) → Meant × ℕ
+abbrev pub link_of : List ℕ → Option Aimed → Meant × ℕ
 link_of rest None = (Words (91 ∷ []), 0)
 link_of rest (Some link) = (Linked link.0 link.1 link.2, length rest - length link.3)
 
-abbrev pub linked : List ℕ → Meant × ℕ
-linked rest = link_of rest (aimed rest)
+abbrev pub linked : Refs → List ℕ → Meant × ℕ
+linked refs rest = link_of rest (aimed refs rest)
 
 -- a picture behind its `!`, or that itself
-abbrev pub picture_of : List ℕ → Option (List ℕ × List ℕ × List ℕ × List ℕ) → Meant × ℕ
+abbrev pub picture_of : List ℕ → Option Aimed → Meant × ℕ
 picture_of rest None = (Words (33 ∷ []), 0)
 picture_of rest (Some picture) = (Pictured picture.0 picture.1 picture.2, length rest - length picture.3)
 
-abbrev pub pictured : List ℕ → Meant × ℕ
-pictured [] = (Words (33 ∷ []), 0)
-pictured (b ∷ rest) = if b == 91 then picture_of (b ∷ rest) (aimed rest) else (Words (33 ∷ []), 0)
+abbrev pub pictured : Refs → List ℕ → Meant × ℕ
+pictured refs [] = (Words (33 ∷ []), 0)
+pictured refs (b ∷ rest) =
+    if b == 91 then picture_of (b ∷ rest) (aimed refs rest) else (Words (33 ∷ []), 0)
 
 -- an address in `<` and `>` is a link, if it is safe and has a scheme
 abbrev pub led : List ℕ → ℕ → Meant × ℕ
@@ -231,20 +256,21 @@ deeper sides.Right deep = deep - 1
 deeper sides.Neither deep = deep
 
 -- how many bytes behind the first are passed over: those of the same sign, a link, or what hides others
-abbrev pub passed : ℕ → List ℕ → ℕ
-passed sign [] = 0
-passed sign (b ∷ rest) =
-    if b == sign then run sign (b ∷ rest) - 1 else if b == 91 then (linked rest).1 else hidden (b ∷ rest)
+abbrev pub passed : Refs → ℕ → List ℕ → ℕ
+passed refs sign [] = 0
+passed refs sign (b ∷ rest) =
+    if b == sign then run sign (b ∷ rest) - 1 else if b == 91 then (linked refs rest).1
+    else hidden (b ∷ rest)
 
 -- where the signs begin that end stressed words, and how many they are
-abbrev pub closer : ℕ → ℕ → ℕ → ℕ → ℕ → ℕ → List ℕ → Option (ℕ × ℕ)
-closer sign wide deep skip before at [] = None
-closer sign wide deep skip before at (b ∷ rest) =
-    if not (skip == 0) then closer sign wide deep (skip - 1) b (at + 1) rest
+abbrev pub closer : Refs → ℕ → ℕ → ℕ → ℕ → ℕ → ℕ → List ℕ → Option (ℕ × ℕ)
+closer refs sign wide deep skip before at [] = None
+closer refs sign wide deep skip before at (b ∷ rest) =
+    if not (skip == 0) then closer refs sign wide deep (skip - 1) b (at + 1) rest
     else let side = side_of sign wide before (b ∷ rest) in
     if ends_words side deep then Some (at, run sign (b ∷ rest))
     else if is_too_deep side deep then None
-    else closer sign wide (deeper side deep) (passed sign (b ∷ rest)) b (at + 1) rest
+    else closer refs sign wide (deeper side deep) (passed refs sign (b ∷ rest)) b (at + 1) rest
 
 -- two signs are `strong`; one is `em`, and so is the first of three
 abbrev pub wide_of : ℕ → ℕ
@@ -260,12 +286,12 @@ stressed_to length line (Some end) =
     let behind = length + end.0 + end.1 in
     (Stressed (stress_of wide) (drop wide (take (behind - wide) line)), behind - 1)
 
-abbrev pub stressed : ℕ → ℕ → List ℕ → Meant × ℕ
-stressed sign before line =
+abbrev pub stressed : Refs → ℕ → ℕ → List ℕ → Meant × ℕ
+stressed refs sign before line =
     let length = run sign line in
     let rest = drop length line in
     if length == 0 || nat_lt 3 length || not (opens sign before (byte_behind rest)) then plain length line
-    else stressed_to length line (closer sign (wide_of length) 0 0 sign 0 rest)
+    else stressed_to length line (closer refs sign (wide_of length) 0 0 sign 0 rest)
 
 -- ---- Texts
 
@@ -275,39 +301,40 @@ is_plain b =
     not (b == 92 || b == 96 || b == 42 || b == 95 || b == 91 || b == 33 || b == 32 || b == 60)
 
 -- the token at the begin of a text, behind a byte
-unfoldable pub token : ℕ → List ℕ → Meant × ℕ
-token before [] = (Words [], 0)
-token before (b ∷ rest) =
+unfoldable pub token : Refs → ℕ → List ℕ → Meant × ℕ
+token refs before [] = (Words [], 0)
+token refs before (b ∷ rest) =
     if b == 92 then escaped_in rest
     else if b == 96 then coded (b ∷ rest)
-    else if b == 42 || b == 95 then stressed b before (b ∷ rest)
-    else if b == 91 then linked rest
-    else if b == 33 then pictured rest
+    else if b == 42 || b == 95 then stressed refs b before (b ∷ rest)
+    else if b == 91 then linked refs rest
+    else if b == 33 then pictured refs rest
     else if b == 32 then spaced (b ∷ rest)
     else if b == 60 then angled rest
     else plain (prefix_len is_plain (b ∷ rest)) (b ∷ rest)
 
--- the pieces of a token, by those of the texts in it
-abbrev pub shown : (List ℕ → List Piece) → Meant → List Piece
-shown inner (Words text) = Text text ∷ []
-shown inner Break = Open elements.Break ∷ Text (10 ∷ []) ∷ []
-shown inner (Code text) = Open elements.Code ∷ Text text ∷ Close elements.Code ∷ []
-shown inner (Stressed element text) = Open element ∷ inner text ++ Close element ∷ []
-shown inner (Linked label address title) =
-    Link (unescaped false address) (unescaped false title) ∷ inner label ++ Close elements.Anchor ∷ []
-shown inner (Pictured label address title) =
-    Picture (unescaped false address) label (unescaped false title) ∷ []
-shown inner (Led address) = Link address [] ∷ Text address ∷ Close elements.Anchor ∷ []
+-- the pieces of a token, by those of the texts in it; in the label of a link nothing refers
+abbrev pub shown : (Refs → List ℕ → List Piece) → Refs → Meant → List Piece
+shown inner refs (Words text) = Text text ∷ []
+shown inner refs Break = Open elements.Break ∷ Text (10 ∷ []) ∷ []
+shown inner refs (Code text) = Open elements.Code ∷ Text text ∷ Close elements.Code ∷ []
+shown inner refs (Stressed element text) = Open element ∷ inner refs text ++ Close element ∷ []
+shown inner refs (Linked label address title) =
+    Link (link_address (page_address (unescaped false address))) (unescaped false title) ∷ inner [] label ++ Close elements.Anchor ∷ []
+shown inner refs (Pictured label address title) =
+    Picture (link_address (unescaped false address)) label (unescaped false title) ∷ []
+shown inner refs (Led address) = Link address [] ∷ Text address ∷ Close elements.Anchor ∷ []
 
 -- one token behind the other
-abbrev pub tokens_of : (List ℕ → List Piece) → ℕ → ℕ → List ℕ → List Piece
-tokens_of inner skip before [] = []
-tokens_of inner skip before (b ∷ rest) =
+abbrev pub tokens_of : (Refs → List ℕ → List Piece) → Refs → ℕ → ℕ → List ℕ → List Piece
+tokens_of inner refs skip before [] = []
+tokens_of inner refs skip before (b ∷ rest) =
     if skip == 0
-    then shown inner (token before (b ∷ rest)).0 ++ tokens_of inner (token before (b ∷ rest)).1 b rest
-    else tokens_of inner (skip - 1) b rest
+    then shown inner refs (token refs before (b ∷ rest)).0
+    ++ tokens_of inner refs (token refs before (b ∷ rest)).1 b rest
+    else tokens_of inner refs (skip - 1) b rest
 
 -- a text whose stressed words and labels are so deep in one another, as pieces; deeper is text
-unfoldable pub inline : ℕ → List ℕ → List Piece
-inline zero text = Text text ∷ []
-inline (suc depth) text = tokens_of (inline depth) 0 10 text
+unfoldable pub inline : ℕ → Refs → List ℕ → List Piece
+inline zero refs text = Text text ∷ []
+inline (suc depth) refs text = tokens_of (inline depth) refs 0 10 text

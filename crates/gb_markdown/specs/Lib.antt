@@ -1,5 +1,6 @@
 pub mod Addresses
 pub mod Pieces
+pub mod References
 pub mod Runs
 pub mod Lines
 pub mod Targets

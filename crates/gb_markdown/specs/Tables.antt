@@ -8,6 +8,7 @@ use Rattle.bstr.specs.Text.{lines_of, without_terminator}
 use Rattle.gb_markdown.specs.Runs.{is_space, trimmed}
 use Rattle.gb_markdown.specs.Lines.{without_signs, words_of}
 use Rattle.gb_markdown.specs.Targets.{is_hidden}
+use Rattle.gb_markdown.specs.References.{Refs}
 use Rattle.gb_markdown.specs.Inline.{inline}
 use Rattle.gb_markdown.specs.Pieces.{Piece, Open, Close, Text}
 use Rattle.gb_markdown.specs.declared.page.Element.{Element}
@@ -20,8 +21,8 @@ line_end = Text (10 ∷ [])
 unfoldable pub words_depth : ℕ
 words_depth = 6
 
-abbrev pub inline_of : List ℕ → List Piece
-inline_of text = inline words_depth text
+abbrev pub inline_of : Refs → List ℕ → List Piece
+inline_of refs text = inline words_depth refs text
 
 abbrev pub lines_in : List ℕ → List (List ℕ)
 lines_in text = map without_terminator (lines_of text)
@@ -45,15 +46,15 @@ is_divider dash bar (b ∷ rest) =
 
 -- ---- Rows
 
-abbrev pub cell : Element → List ℕ → List Piece
-cell element text = Open element ∷ inline_of (trimmed (words_of text)) ++ Close element ∷ []
+abbrev pub cell : Refs → Element → List ℕ → List Piece
+cell refs element text = Open element ∷ inline_of refs (trimmed (words_of text)) ++ Close element ∷ []
 
 -- a `|` ends a cell, unless a backslash hides it
-abbrev pub cells : Element → Bool → List ℕ → List ℕ → List Piece
-cells element hidden taken [] = cell element taken
-cells element hidden taken (b ∷ rest) =
-    if not hidden && b == 124 then cell element taken ++ cells element false [] rest
-    else cells element (is_hidden hidden b) (taken ++ b ∷ []) rest
+abbrev pub cells : Refs → Element → Bool → List ℕ → List ℕ → List Piece
+cells refs element hidden taken [] = cell refs element taken
+cells refs element hidden taken (b ∷ rest) =
+    if not hidden && b == 124 then cell refs element taken ++ cells refs element false [] rest
+    else cells refs element (is_hidden hidden b) (taken ++ b ∷ []) rest
 
 abbrev pub without_bar : List ℕ → List ℕ
 without_bar [] = []
@@ -63,12 +64,12 @@ without_bar (b ∷ rest) = if b == 124 then rest else b ∷ rest
 abbrev pub within_bars : List ℕ → List ℕ
 within_bars line = without_signs 124 (without_bar (trimmed (words_of line)))
 
-unfoldable pub row : Element → List ℕ → List Piece
-row element line =
-    Open elements.Row ∷ cells element false [] (within_bars line) ++ Close elements.Row ∷ line_end ∷ []
+unfoldable pub row : Refs → Element → List ℕ → List Piece
+row refs element line =
+    Open elements.Row ∷ cells refs element false [] (within_bars line) ++ Close elements.Row ∷ line_end ∷ []
 
-abbrev pub rows : List (List ℕ) → List Piece
-rows lines = flat_map (row elements.Cell) lines
+abbrev pub rows : Refs → List (List ℕ) → List Piece
+rows refs lines = flat_map (row refs elements.Cell) lines
 
 unfoldable pub table_begun : List Piece
 table_begun = Open elements.Table ∷ Open elements.Head ∷ []
@@ -79,6 +80,7 @@ head_ended = Close elements.Head ∷ Open elements.Body ∷ []
 unfoldable pub table_ended : List Piece
 table_ended = Close elements.Body ∷ Close elements.Table ∷ line_end ∷ []
 
-abbrev pub table : List ℕ → List ℕ → List Piece
-table head others =
-    table_begun ++ (row elements.HeadCell head ++ (head_ended ++ (rows (lines_in others) ++ table_ended)))
+abbrev pub table : Refs → List ℕ → List ℕ → List Piece
+table refs head others =
+    table_begun ++ (row refs elements.HeadCell head ++ (head_ended
+    ++ (rows refs (lines_in others) ++ table_ended)))

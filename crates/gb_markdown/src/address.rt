@@ -1,7 +1,9 @@
 //! Addresses: which may be those of links, and how a path is written as one.
-ghost use Rattle.std.specs.Prelude.{◌≡◌, ◌++◌, IfOk, OnOk};
+ghost use Rattle.std.specs.Prelude.{◌≡◌, ◌≤◌, ◌++◌, length, IfOk, OnOk};
+ghost use Rattle.std.specs.List.{prefix_len};
 ghost use Rattle.gb_markdown.specs.Addresses.{is_safe, is_visible, has_scheme, has_safe_scheme, begins};
-ghost use Rattle.gb_markdown.specs.Addresses.{address_of, encoded_byte, is_plain};
+ghost use Rattle.gb_markdown.specs.Addresses.{address_of, as_page, encoded_byte, is_in_path, is_plain};
+ghost use Rattle.gb_markdown.specs.Addresses.{is_meant, leads_within, link_address, link_byte, page_address};
 
 use percent_encoding::percent_encode_byte;
 use std::alloc::{AllocError, Global};
@@ -37,7 +39,7 @@ fn has_safe_scheme(address: &[u8]) -> bool
 }
 
 /// Whether a `:` comes before each `/`, `?` and `#`.
-pub(crate) fn has_scheme(address: &[u8]) -> bool
+pub fn has_scheme(address: &[u8]) -> bool
     ensures { result ≡ has_scheme address.now }
 {
     for byte in address {
@@ -65,6 +67,87 @@ fn begins(address: &[u8], scheme: &[u8]) -> bool
         rest = others;
     }
     true
+}
+
+/// The address of the page of a text, where the address is that of the text: `.html` is in place of `.md`.
+pub(crate) fn page_address(alloc: Global, address: &[u8]) -> Result<Vec<u8>, AllocError>
+    ensures { IfOk result (λ made. made.items ≡ page_address address.now) }
+{
+    if leads_within(address) {
+        let end = path_length(address);
+        as_page(alloc, &address[..end], &address[end..])
+    } else {
+        address.to_vec(alloc)
+    }
+}
+
+/// Whether an address leads to a file of the site: it has neither a scheme nor a host.
+fn leads_within(address: &[u8]) -> bool
+    ensures { result ≡ leads_within address.now }
+{
+    !(has_scheme(address) || begins(address, b"//"))
+}
+
+/// How long the path of an address is.
+fn path_length(address: &[u8]) -> usize
+    ensures value { result ≡ prefix_len is_in_path address.now }
+    ensures within { result ≤ length address.now }
+{
+    address.iter().take_while(|byte| is_in_path(**byte)).count()
+}
+
+fn is_in_path(byte: u8) -> bool
+    ensures { result ≡ is_in_path byte }
+{
+    !(byte == b'?' || byte == b'#')
+}
+
+/// A path with `.html` in place of `.md` at its end, and what is behind it.
+fn as_page(alloc: Global, path: &[u8], rest: &[u8]) -> Result<Vec<u8>, AllocError>
+    ensures { IfOk result (λ made. made.items ≡ as_page path.now rest.now) }
+{
+    let mut made = Vec::new(alloc);
+    match path.strip_suffix(b".md") {
+        Some(front) => {
+            made.extend_from_slice(front)?;
+            made.extend_from_slice(b".html")?;
+        }
+        None => made.extend_from_slice(path)?,
+    }
+    made.extend_from_slice(rest)?;
+    Ok(made)
+}
+
+/// An address as it is in a link: each byte but letters, digits and the signs of addresses as `%XX`.
+pub(crate) fn link_address(alloc: Global, address: &[u8]) -> Result<Vec<u8>, AllocError>
+    ensures { IfOk result (λ made. made.items ≡ link_address address.now) }
+{
+    let mut made = Vec::new(alloc);
+    for byte in address {
+        link_byte(&mut made, *byte)?;
+    }
+    Ok(made)
+}
+
+/// Writes a byte of an address.
+fn link_byte(made: &mut Vec<u8>, byte: u8) -> Result<(), AllocError>
+    ensures { OnOk result (made.new.items ≡ made.old.items ++ link_byte byte) }
+{
+    if is_meant(byte) {
+        made.push(byte)?;
+    } else {
+        made.extend_from_slice(percent_encode_byte(byte).as_bytes())?;
+    }
+    Ok(())
+}
+
+/// Whether a byte is a letter, a digit, or a sign that has a meaning in an address.
+fn is_meant(byte: u8) -> bool
+    ensures { result ≡ is_meant byte }
+{
+    byte.is_ascii_alphanumeric()
+        || (b'#' <= byte && byte <= b'/')
+        || matches!(byte, b'!' | b':' | b';' | b'=' | b'?' | b'@' | b'_' | b'~')
 }
 
 /// The address of the file at a path: each byte but letters, digits and `-._~/` as `%XX`.

@@ -1,5 +1,5 @@
 //! Blocks of a page.
-ghost use Rattle.std.specs.Prelude.{◌≡◌, ◌++◌, ◌∷◌, [], OnOk, IfOk};
+ghost use Rattle.std.specs.Prelude.{◌≡◌, ◌++◌, ◌∷◌, [], map, OnOk, IfOk};
 ghost use Rattle.gb_markdown.specs.Pieces.{written, piece_text, Named};
 ghost use Rattle.gb_markdown.specs.Lines.{said, said_by, words_of};
 ghost use Rattle.gb_markdown.specs.Blocks.{is_words, ends_code, is_indented, is_quoted, is_listed};
@@ -9,15 +9,18 @@ ghost use Rattle.gb_markdown.specs.Blocks.{is_open, with_item, with_words, after
 ghost use Rattle.gb_markdown.specs.Blocks.{list_of};
 ghost use Rattle.gb_markdown.specs.Blocks.{listing, listing_of, is_code, begun_pieces, begun_text};
 ghost use Rattle.gb_markdown.specs.Blocks.{begun_block, paragraph};
+ghost use Rattle.gb_markdown.specs.References.{meanings};
 ghost use Rattle.gb_markdown.specs.Tables.{lines_in, rows_of};
 ghost use Rattle.gb_markdown.specs.Blocks.{starts, is_item, item_width, item_words, item_of};
 ghost use Rattle.gb_markdown.specs.Blocks.{items, indented, code_ended, quote_begun, quote_ended, table_or};
-ghost use Rattle.gb_markdown.specs.Blocks.{finished, slug, blocks_of, html};
+ghost use Rattle.gb_markdown.specs.Blocks.{begun_names, finished, id_of, slug, blocks_of, html, with_name};
 
+use crate::gathered::taken_apart;
 use crate::line::{Fence, Line, Marker, has, read_line, words_of};
 use crate::page::{Element, close, code, named, numbered, open, text};
+use crate::references::Reference;
 use crate::runs::{is_blank, run, trimmed};
-use crate::slug::slug;
+use crate::slug::{Names, add_name, id_of, slug};
 use crate::tables::{is_divider, rows_of, table, words};
 use bstr::ByteSlice;
 use std::alloc::{AllocError, Global};
@@ -59,7 +62,17 @@ pub fn html(alloc: Global, source: &[u8]) -> Result<Vec<u8>, AllocError>
     ensures { IfOk result (λ page. page.items ≡ html source.now) }
 {
     let mut page = Vec::new(alloc);
-    blocks(alloc, &mut page, BLOCKS, false, source)?;
+    let (references, text) = taken_apart(alloc, source)?;
+    let mut names = Vec::new(alloc);
+    blocks(
+        alloc,
+        &mut page,
+        BLOCKS,
+        references.as_slice(),
+        &mut names,
+        false,
+        text.as_slice(),
+    )?;
     Ok(page)
 }
 
@@ -70,13 +83,19 @@ fn blocks(
     alloc: Global,
     page: &mut Vec<u8>,
     depth: u8,
+    refs: &[Reference<'_>],
+    names: &mut Names,
     tight: bool,
     source: &[u8],
 ) -> Result<(), AllocError>
-    ensures { OnOk result (page.new.items ≡ page.old.items ++ written (blocks_of depth tight source.now)) }
+    ensures { let made = blocks_of depth (meanings refs.now) (map (λ name. name.items) names.old.items) tight
+        source.now in
+        OnOk result ((page.new.items ≡ page.old.items ++ written made.0)
+        × (map (λ name. name.items) names.new.items ≡ made.1)) }
 {
     if depth == 0 {
-        return paragraph(alloc, page, tight, source);
+        paragraph(alloc, page, refs, tight, source)?;
+        return Ok(());
     }
     let mut block = Block::Nothing;
     let mut taken = Vec::new(alloc);
@@ -84,16 +103,34 @@ fn blocks(
         if goes_on(block, line) {
             block = keep(page, &mut taken, block, line)?;
         } else {
-            finish(alloc, page, depth - 1, tight, block, taken.as_slice())?;
+            finish(
+                alloc,
+                page,
+                depth - 1,
+                refs,
+                names,
+                tight,
+                block,
+                taken.as_slice(),
+            )?;
             taken.clear();
-            block = begin(alloc, page, &mut taken, is_code(block), line)?;
+            block = begin(alloc, page, refs, names, &mut taken, is_code(block), line)?;
         }
     }
-    finish(alloc, page, depth - 1, tight, block, taken.as_slice())
+    finish(
+        alloc,
+        page,
+        depth - 1,
+        refs,
+        names,
+        tight,
+        block,
+        taken.as_slice(),
+    )
 }
 
 /// Whether a line belongs to the block that is open.
-fn goes_on(block: Block, line: &[u8]) -> bool
+pub(crate) fn goes_on(block: Block, line: &[u8]) -> bool
     ensures { result ≡ goes_on block line.now }
 {
     match block {
@@ -220,7 +257,7 @@ fn keep(
 }
 
 /// Adds a line.
-fn add(taken: &mut Vec<u8>, line: &[u8]) -> Result<(), AllocError>
+pub(crate) fn add(taken: &mut Vec<u8>, line: &[u8]) -> Result<(), AllocError>
     ensures { OnOk result (taken.new.items ≡ taken.old.items ++ (line.now ++ 10 ∷ [])) }
 {
     taken.extend_from_slice(line)?;
@@ -241,7 +278,7 @@ fn without_indent(count: usize, line: &[u8]) -> &[u8]
 }
 
 /// The line without the sign of a quote.
-fn unquoted(line: &[u8]) -> &[u8]
+pub(crate) fn unquoted(line: &[u8]) -> &[u8]
     ensures { result.now ≡ unquoted line.now }
 {
     match read_line(line) {
@@ -257,7 +294,7 @@ fn unquoted(line: &[u8]) -> &[u8]
 }
 
 /// Whether words go on with a quote whose last line says this.
-fn is_open(says: Line<'_>) -> bool
+pub(crate) fn is_open(says: Line<'_>) -> bool
     ensures { result ≡ is_open (said_by says.entry) }
 {
     match says {
@@ -268,7 +305,7 @@ fn is_open(says: Line<'_>) -> bool
 }
 
 /// A list behind a line of it.
-fn after(list: OpenList, line: &[u8]) -> OpenList
+pub(crate) fn after(list: OpenList, line: &[u8]) -> OpenList
     ensures { result ≡ after list line.now }
 {
     let outer = is_outside(list.marker.width, line);
@@ -322,7 +359,7 @@ fn inside(width: usize, line: &[u8]) -> &[u8]
     }
 }
 
-fn is_code(block: Block) -> bool
+pub(crate) fn is_code(block: Block) -> bool
     ensures { result ≡ is_code block }
 {
     match block {
@@ -336,12 +373,17 @@ fn is_code(block: Block) -> bool
 fn begin(
     alloc: Global,
     page: &mut Vec<u8>,
+    refs: &[Reference<'_>],
+    names: &mut Names,
     taken: &mut Vec<u8>,
     ended: bool,
     line: &[u8],
 ) -> Result<Block, AllocError>
     ensures { let says = said line.now in IfOk result (λ after.
-        (page.new.items ≡ page.old.items ++ written (begun_pieces ended says))
+        (page.new.items ≡ page.old.items ++ written (begun_pieces (meanings refs.now)
+        (map (λ name. name.items) names.old.items) ended says))
+        × (map (λ name. name.items) names.new.items ≡ begun_names
+        (map (λ name. name.items) names.old.items) says)
         × (taken.new.items ≡ taken.old.items ++ begun_text line.now says)
         × (after ≡ begun_block ended says)) }
 {
@@ -356,7 +398,7 @@ fn begin(
             Ok(Block::Code(fence))
         }
         Line::Heading(element, words) => {
-            heading(alloc, page, element, words)?;
+            heading(alloc, page, refs, names, element, words)?;
             Ok(Block::Nothing)
         }
         Line::Rule => {
@@ -415,27 +457,38 @@ fn begin_numbered(page: &mut Vec<u8>, first: &[u8]) -> Result<(), AllocError>
 fn heading(
     alloc: Global,
     page: &mut Vec<u8>,
+    refs: &[Reference<'_>],
+    names: &mut Names,
     element: Element,
     line: &[u8],
 ) -> Result<(), AllocError>
-    ensures { OnOk result (page.new.items ≡ page.old.items ++ written (heading element line.now)) }
+    ensures { let known = map (λ name. name.items) names.old.items in
+        OnOk result ((page.new.items ≡ page.old.items
+        ++ written (heading (meanings refs.now) known element line.now))
+        × (map (λ name. name.items) names.new.items ≡ with_name known (slug line.now))) }
 {
-    begin_heading(alloc, page, element, line)?;
-    words(alloc, page, line)?;
+    let name = slug(alloc, line)?;
+    begin_heading(alloc, page, names.as_slice(), element, name.as_slice())?;
+    add_name(names, name)?;
+    words(alloc, page, refs, line)?;
     close(page, element)?;
-    text(page, b"\n")
+    text(page, b"\n")?;
+    Ok(())
 }
 
+/// Begins a heading with a name.
 fn begin_heading(
     alloc: Global,
     page: &mut Vec<u8>,
+    names: &[Vec<u8>],
     element: Element,
-    line: &[u8],
+    name: &[u8],
 ) -> Result<(), AllocError>
-    ensures { OnOk result (page.new.items ≡ page.old.items ++ piece_text (Named element (slug line.now))) }
+    ensures { OnOk result (page.new.items ≡ page.old.items
+        ++ piece_text (Named element (id_of (map (λ other. other.items) names.now) name.now))) }
 {
-    let name = slug(alloc, line)?;
-    named(page, element, name.as_slice())
+    let id = id_of(alloc, names, name)?;
+    named(page, element, id.as_slice())
 }
 
 /// Writes the block that is open, and ends it.
@@ -444,29 +497,34 @@ fn finish(
     alloc: Global,
     page: &mut Vec<u8>,
     depth: u8,
+    refs: &[Reference<'_>],
+    names: &mut Names,
     tight: bool,
     block: Block,
     taken: &[u8],
 ) -> Result<(), AllocError>
-    ensures { OnOk result (page.new.items ≡ page.old.items ++ written
-        (finished (blocks_of depth) tight block taken.now)) }
+    ensures { let made = finished (blocks_of depth (meanings refs.now)) (meanings refs.now)
+        (map (λ name. name.items) names.old.items) tight block taken.now in
+        OnOk result ((page.new.items ≡ page.old.items ++ written made.0)
+        × (map (λ name. name.items) names.new.items ≡ made.1)) }
 {
     match block {
-        Block::Nothing => Ok(()),
-        Block::Paragraph => table_or(alloc, page, tight, taken),
-        Block::Code(_) => { end_code(page) }
-        Block::Indented => indented(page, taken),
+        Block::Nothing => {}
+        Block::Paragraph => table_or(alloc, page, refs, tight, taken)?,
+        Block::Code(_) => end_code(page)?,
+        Block::Indented => indented(page, taken)?,
         Block::Quote(_) => {
             begin_quote(page)?;
-            blocks(alloc, page, depth, false, taken)?;
-            end_quote(page)
+            blocks(alloc, page, depth, refs, names, false, taken)?;
+            end_quote(page)?;
         }
         Block::Items(list) => {
-            items(alloc, page, depth, !list.spaced, taken)?;
+            items(alloc, page, depth, refs, names, !list.spaced, taken)?;
             close(page, list_of(list.marker.sign))?;
-            text(page, b"\n")
+            text(page, b"\n")?;
         }
     }
+    Ok(())
 }
 
 /// Writes code whose lines began with four spaces.
@@ -508,17 +566,23 @@ fn end_code(page: &mut Vec<u8>) -> Result<(), AllocError>
 }
 
 /// Writes a table, or a paragraph.
-fn table_or(alloc: Global, page: &mut Vec<u8>, tight: bool, taken: &[u8]) -> Result<(), AllocError>
+fn table_or(
+    alloc: Global,
+    page: &mut Vec<u8>,
+    refs: &[Reference<'_>],
+    tight: bool,
+    taken: &[u8],
+) -> Result<(), AllocError>
     ensures { OnOk result (page.new.items ≡ page.old.items ++ written
-        (table_or tight taken.now (rows_of taken.now))) }
+        (table_or (meanings refs.now) tight taken.now (rows_of taken.now))) }
 {
     let Some((head, second, others)) = rows_of(taken) else {
-        return paragraph(alloc, page, tight, taken);
+        return paragraph(alloc, page, refs, tight, taken);
     };
     if is_divider(second) && has(b'|', head) {
-        table(alloc, page, head, others)
+        table(alloc, page, refs, head, others)
     } else {
-        paragraph(alloc, page, tight, taken)
+        paragraph(alloc, page, refs, tight, taken)
     }
 }
 
@@ -534,15 +598,22 @@ fn list_of(sign: u8) -> Element
 }
 
 /// Writes a paragraph.
-fn paragraph(alloc: Global, page: &mut Vec<u8>, tight: bool, line: &[u8]) -> Result<(), AllocError>
-    ensures { OnOk result (page.new.items ≡ page.old.items ++ written (paragraph tight line.now)) }
+fn paragraph(
+    alloc: Global,
+    page: &mut Vec<u8>,
+    refs: &[Reference<'_>],
+    tight: bool,
+    line: &[u8],
+) -> Result<(), AllocError>
+    ensures { OnOk result (page.new.items ≡ page.old.items
+        ++ written (paragraph (meanings refs.now) tight line.now)) }
 {
     if tight {
-        words(alloc, page, trimmed(line))?;
+        words(alloc, page, refs, trimmed(line))?;
         return text(page, b"\n");
     }
     open(page, Element::Paragraph)?;
-    words(alloc, page, trimmed(line))?;
+    words(alloc, page, refs, trimmed(line))?;
     close(page, Element::Paragraph)?;
     text(page, b"\n")
 }
@@ -553,17 +624,30 @@ fn items(
     alloc: Global,
     page: &mut Vec<u8>,
     depth: u8,
+    refs: &[Reference<'_>],
+    names: &mut Names,
     tight: bool,
     source: &[u8],
 ) -> Result<(), AllocError>
-    ensures { OnOk result (page.new.items ≡ page.old.items ++ written
-        (items (blocks_of depth) tight 0 [] (lines_in source.now))) }
+    ensures { let made = items (blocks_of depth (meanings refs.now)) (map (λ name. name.items) names.old.items)
+        tight 0 [] (lines_in source.now) in
+        OnOk result ((page.new.items ≡ page.old.items ++ written made.0)
+        × (map (λ name. name.items) names.new.items ≡ made.1)) }
 {
     let mut width = 0;
     let mut taken = Vec::new(alloc);
     for line in source.lines() {
         if starts(width, line) {
-            item(alloc, page, depth, tight, width, taken.as_slice())?;
+            item(
+                alloc,
+                page,
+                depth,
+                refs,
+                names,
+                tight,
+                width,
+                taken.as_slice(),
+            )?;
             taken.clear();
             add(&mut taken, item_words(line))?;
             width = item_width(read_line(line));
@@ -571,7 +655,16 @@ fn items(
             add(&mut taken, inside(width, line))?;
         }
     }
-    item(alloc, page, depth, tight, width, taken.as_slice())
+    item(
+        alloc,
+        page,
+        depth,
+        refs,
+        names,
+        tight,
+        width,
+        taken.as_slice(),
+    )
 }
 
 /// Writes an item of this width, if one has begun.
@@ -580,20 +673,25 @@ fn item(
     alloc: Global,
     page: &mut Vec<u8>,
     depth: u8,
+    refs: &[Reference<'_>],
+    names: &mut Names,
     tight: bool,
     width: usize,
     taken: &[u8],
 ) -> Result<(), AllocError>
-    ensures { OnOk result (page.new.items ≡ page.old.items ++ written
-        (item_of (blocks_of depth) tight width taken.now)) }
+    ensures { let made = item_of (blocks_of depth (meanings refs.now)) (map (λ name. name.items) names.old.items)
+        tight width taken.now in
+        OnOk result ((page.new.items ≡ page.old.items ++ written made.0)
+        × (map (λ name. name.items) names.new.items ≡ made.1)) }
 {
     if width == 0 {
         return Ok(());
     }
     open(page, Element::Item)?;
-    blocks(alloc, page, depth, tight, taken)?;
+    blocks(alloc, page, depth, refs, names, tight, taken)?;
     close(page, Element::Item)?;
-    text(page, b"\n")
+    text(page, b"\n")?;
+    Ok(())
 }
 
 /// Whether a line begins an item, behind one of a width.

@@ -2,22 +2,26 @@
 ghost use Rattle.std.specs.Prelude.{◌≡◌, ◌++◌, ◌+◌, ◌<◌, ◌≤◌, OnOk, IfSome, length, drop, false};
 ghost use Rattle.std.specs.List.{prefix_len};
 ghost use Rattle.std.specs.Option.{option_map};
+ghost use Rattle.gb_markdown.specs.Addresses.{link_address, page_address};
 ghost use Rattle.gb_markdown.specs.Pieces.{written, piece_text, Link, Picture};
+ghost use Rattle.gb_markdown.specs.References.{meanings};
 ghost use Rattle.gb_markdown.specs.Targets.{unescaped};
 ghost use Rattle.gb_markdown.specs.Inline.{meant_by, first_is, byte_behind, plain, escaped_in, spaced};
 ghost use Rattle.gb_markdown.specs.Inline.{code_end};
 ghost use Rattle.gb_markdown.specs.Inline.{is_edge, stripped, code_of, coded, hidden, label_end};
-ghost use Rattle.gb_markdown.specs.Inline.{ends_label, is_no_label, brackets, aimed, linked, pictured};
+ghost use Rattle.gb_markdown.specs.Inline.{ends_label, is_no_label, brackets, aimed, linked};
+ghost use Rattle.gb_markdown.specs.Inline.{named_by, pictured, referring};
 ghost use Rattle.gb_markdown.specs.Inline.{is_left, opens, closes, side_at, side_of, ends_words, is_too_deep};
 ghost use Rattle.gb_markdown.specs.Inline.{deeper, passed, closer, wide_of, stress_of, stressed};
 ghost use Rattle.gb_markdown.specs.Inline.{token, tokens_of, shown, inline, behind_label, is_plain};
 ghost use Rattle.gb_markdown.specs.Inline.{angled, led};
 ghost use Rattle.gb_markdown.specs.declared.inline.Nested.TheVariants as nested;
 
-use crate::address::{has_scheme, is_safe};
+use crate::address::{has_scheme, is_safe, link_address, page_address};
 use crate::page::{Element, close, link, open, picture, text};
+use crate::references::{Reference, referred};
 use crate::runs::{is_blank, is_space, run};
-use crate::target::{Target, angle_end, read_target, unescaped};
+use crate::target::{Target, angle_end, quote_end, read_target, unescaped};
 use std::alloc::{AllocError, Global};
 
 /// What is at the begin of a text.
@@ -63,27 +67,40 @@ pub enum Side {
 
 /// Writes a text, in which stressed words and labels are at most so deep in one another.
 #[cycle(texts)]
-pub fn inline(alloc: Global, page: &mut Vec<u8>, depth: u8, line: &[u8]) -> Result<(), AllocError>
-    ensures { OnOk result (page.new.items ≡ page.old.items ++ written (inline depth line.now)) }
+pub fn inline<'a>(
+    alloc: Global,
+    page: &mut Vec<u8>,
+    depth: u8,
+    refs: &'a [Reference<'a>],
+    line: &'a [u8],
+) -> Result<(), AllocError>
+    ensures { OnOk result (page.new.items ≡ page.old.items
+        ++ written (inline depth (meanings refs.now) line.now)) }
 {
     if depth == 0 {
         return text(page, line);
     }
-    tokens(alloc, page, depth - 1, line)
+    tokens(alloc, page, depth - 1, refs, line)
 }
 
 /// Writes one token behind the other.
 #[cycle(texts)]
-fn tokens(alloc: Global, page: &mut Vec<u8>, depth: u8, line: &[u8]) -> Result<(), AllocError>
+fn tokens<'a>(
+    alloc: Global,
+    page: &mut Vec<u8>,
+    depth: u8,
+    refs: &'a [Reference<'a>],
+    line: &'a [u8],
+) -> Result<(), AllocError>
     ensures { OnOk result (page.new.items ≡ page.old.items ++ written
-        (tokens_of (inline depth) 0 10 line.now)) }
+        (tokens_of (inline depth) (meanings refs.now) 0 10 line.now)) }
 {
     let mut before = b'\n';
     let mut skip: usize = 0;
     for (index, byte) in line.iter().enumerate() {
         if skip == 0 {
-            let (token, more) = first_token(before, &line[index..]);
-            write(alloc, page, depth, token)?;
+            let (token, more) = first_token(refs, before, &line[index..]);
+            write(alloc, page, depth, refs, token)?;
             skip = more;
         } else {
             skip -= 1;
@@ -95,9 +112,15 @@ fn tokens(alloc: Global, page: &mut Vec<u8>, depth: u8, line: &[u8]) -> Result<(
 
 /// Writes a token.
 #[cycle(texts)]
-fn write(alloc: Global, page: &mut Vec<u8>, depth: u8, token: Token<'_>) -> Result<(), AllocError>
+fn write<'a>(
+    alloc: Global,
+    page: &mut Vec<u8>,
+    depth: u8,
+    refs: &'a [Reference<'a>],
+    token: Token<'a>,
+) -> Result<(), AllocError>
     ensures { OnOk result (page.new.items ≡ page.old.items ++ written (shown (inline depth)
-        (meant_by token.entry))) }
+        (meanings refs.now) (meant_by token.entry))) }
 {
     match token {
         Token::Words(words) => text(page, words),
@@ -112,12 +135,12 @@ fn write(alloc: Global, page: &mut Vec<u8>, depth: u8, token: Token<'_>) -> Resu
         }
         Token::Stressed(element, words) => {
             open(page, element)?;
-            inline(alloc, page, depth, words)?;
+            inline(alloc, page, depth, refs, words)?;
             close(page, element)
         }
         Token::Linked(label, target) => {
             link_to(alloc, page, target.address, target.title)?;
-            inline(alloc, page, depth, label)?;
+            inline(alloc, page, depth, &[], label)?;
             close(page, Element::Anchor)
         }
         Token::Led(address) => {
@@ -139,9 +162,11 @@ fn link_to(
     title: &[u8],
 ) -> Result<(), AllocError>
     ensures { OnOk result (page.new.items ≡ page.old.items ++ piece_text (Link
-        (unescaped false address.now) (unescaped false title.now))) }
+        (link_address (page_address (unescaped false address.now))) (unescaped false title.now))) }
 {
     let address = unescaped(alloc, address)?;
+    let address = page_address(alloc, address.as_slice())?;
+    let address = link_address(alloc, address.as_slice())?;
     let title = unescaped(alloc, title)?;
     link(page, address.as_slice(), title.as_slice())
 }
@@ -155,17 +180,18 @@ fn picture_of(
     title: &[u8],
 ) -> Result<(), AllocError>
     ensures { OnOk result (page.new.items ≡ page.old.items ++ piece_text (Picture
-        (unescaped false address.now) label.now (unescaped false title.now))) }
+        (link_address (unescaped false address.now)) label.now (unescaped false title.now))) }
 {
     let address = unescaped(alloc, address)?;
+    let address = link_address(alloc, address.as_slice())?;
     let title = unescaped(alloc, title)?;
     picture(page, address.as_slice(), label, title.as_slice())
 }
 
 /// The token at the begin of a text behind a byte, and how many bytes behind its first belong to it.
 #[tactic(auto, unfolding(crate::specs::Inline::token))]
-fn first_token(before: u8, line: &[u8]) -> (Token<'_>, usize)
-    ensures { (meant_by result.0, result.1) ≡ token before line.now }
+fn first_token<'a>(refs: &'a [Reference<'a>], before: u8, line: &'a [u8]) -> (Token<'a>, usize)
+    ensures { (meant_by result.0, result.1) ≡ token (meanings refs.now) before line.now }
 {
     let Some((first, rest)) = line.split_first() else {
         return (Token::Words(b""), 0);
@@ -173,9 +199,9 @@ fn first_token(before: u8, line: &[u8]) -> (Token<'_>, usize)
     match first {
         b'\\' => escaped_in(rest),
         b'`' => coded(line),
-        b'*' | b'_' => stressed(*first, before, line),
-        b'[' => linked(rest),
-        b'!' => pictured(rest),
+        b'*' | b'_' => stressed(refs, *first, before, line),
+        b'[' => linked(refs, rest),
+        b'!' => pictured(refs, rest),
         b' ' => spaced(line),
         b'<' => angled(rest),
         _ => plain(plain_length(line), line),
@@ -339,10 +365,10 @@ fn hidden(line: &[u8]) -> usize
 }
 
 /// A link behind its bracket, or that itself.
-fn linked(rest: &[u8]) -> (Token<'_>, usize)
-    ensures { (meant_by result.0, result.1) ≡ linked rest.now }
+fn linked<'a>(refs: &'a [Reference<'a>], rest: &'a [u8]) -> (Token<'a>, usize)
+    ensures { (meant_by result.0, result.1) ≡ linked (meanings refs.now) rest.now }
 {
-    match aimed(rest) {
+    match aimed(refs, rest) {
         None => (Token::Words(b"["), 0),
         Some((label, target, behind)) => {
             (
@@ -354,8 +380,8 @@ fn linked(rest: &[u8]) -> (Token<'_>, usize)
 }
 
 /// A picture behind its `!`, or that itself.
-fn pictured(rest: &[u8]) -> (Token<'_>, usize)
-    ensures { (meant_by result.0, result.1) ≡ pictured rest.now }
+fn pictured<'a>(refs: &'a [Reference<'a>], rest: &'a [u8]) -> (Token<'a>, usize)
+    ensures { (meant_by result.0, result.1) ≡ pictured (meanings refs.now) rest.now }
 {
     let Some((first, inside)) = rest.split_first() else {
         return (Token::Words(b"!"), 0);
@@ -363,7 +389,7 @@ fn pictured(rest: &[u8]) -> (Token<'_>, usize)
     if *first != b'[' {
         return (Token::Words(b"!"), 0);
     }
-    match aimed(inside) {
+    match aimed(refs, inside) {
         None => (Token::Words(b"!"), 0),
         Some((label, target, behind)) => {
             (
@@ -374,26 +400,65 @@ fn pictured(rest: &[u8]) -> (Token<'_>, usize)
     }
 }
 
-/// The label and the target of `label](target)`, and what is behind it.
-fn aimed(rest: &[u8]) -> Option<(&[u8], Target<'_>, &[u8])>
+/// A label, where it leads, and what is behind these.
+type Aimed<'a> = (&'a [u8], Target<'a>, &'a [u8]);
+
+/// The label of `label](target)`, `label][name]`, `label][]` or `label]`.
+fn aimed<'a>(refs: &'a [Reference<'a>], rest: &'a [u8]) -> Option<Aimed<'a>>
     ensures { option_map (λ found. (found.0.now, found.1.address.now, found.1.title.now, found.2.now)) result
-        ≡ aimed rest.now }
+        ≡ aimed (meanings refs.now) rest.now }
 {
     let end = label_end(rest)?;
-    behind_label(&rest[..end], &rest[end + 1..])
+    behind_label(refs, &rest[..end], &rest[end + 1..])
 }
 
-/// A label and the target behind it.
-fn behind_label<'a>(label: &'a [u8], rest: &'a [u8]) -> Option<(&'a [u8], Target<'a>, &'a [u8])>
+/// A label and what is behind it.
+fn behind_label<'a>(refs: &'a [Reference<'a>], label: &'a [u8], rest: &'a [u8]) -> Option<Aimed<'a>>
     ensures { option_map (λ found. (found.0.now, found.1.address.now, found.1.title.now, found.2.now)) result
-        ≡ behind_label label.now rest.now }
+        ≡ behind_label (meanings refs.now) label.now rest.now }
 {
-    let (first, inside) = rest.split_first()?;
-    if *first != b'(' {
-        return None;
+    let Some((first, inside)) = rest.split_first() else {
+        return referring(refs, label, label, rest);
+    };
+    match first {
+        b'(' => match read_target(inside) {
+            Some((target, behind)) => Some((label, target, behind)),
+            None => referring(refs, label, label, rest),
+        },
+        b'[' => match quote_end(b']', inside) {
+            Some(end) => referring(
+                refs,
+                named_by(label, &inside[..end]),
+                label,
+                &inside[end + 1..],
+            ),
+            None => referring(refs, label, label, rest),
+        },
+        _ => referring(refs, label, label, rest),
     }
-    let (target, behind) = read_target(inside)?;
-    Some((label, target, behind))
+}
+
+/// A name in brackets, where no name means that of the label.
+fn named_by<'a>(label: &'a [u8], name: &'a [u8]) -> &'a [u8]
+    ensures { result.now ≡ named_by label.now name.now }
+{
+    if is_blank(name) { label } else { name }
+}
+
+/// A label that leads where the name refers to.
+fn referring<'a>(
+    refs: &'a [Reference<'a>],
+    name: &[u8],
+    label: &'a [u8],
+    rest: &'a [u8],
+) -> Option<Aimed<'a>>
+    ensures { option_map (λ found. (found.0.now, found.1.address.now, found.1.title.now, found.2.now)) result
+        ≡ referring (meanings refs.now) name.now label.now rest.now }
+{
+    match referred(name, refs) {
+        Some(target) => Some((label, target, rest)),
+        None => None,
+    }
 }
 
 /// Where a label ends.
@@ -472,8 +537,8 @@ fn led(address: &[u8], more: usize) -> (Token<'_>, usize)
 }
 
 /// Words between stars or underscores.
-fn stressed(sign: u8, before: u8, line: &[u8]) -> (Token<'_>, usize)
-    ensures { (meant_by result.0, result.1) ≡ stressed sign before line.now }
+fn stressed<'a>(refs: &[Reference<'_>], sign: u8, before: u8, line: &'a [u8]) -> (Token<'a>, usize)
+    ensures { (meant_by result.0, result.1) ≡ stressed (meanings refs.now) sign before line.now }
 {
     let length = run(sign, line);
     let rest = &line[length..];
@@ -481,7 +546,7 @@ fn stressed(sign: u8, before: u8, line: &[u8]) -> (Token<'_>, usize)
         return plain(length, line);
     }
     let wide = wide_of(length);
-    match closer(sign, wide, rest) {
+    match closer(refs, sign, wide, rest) {
         None => plain(length, line),
         Some((end, others)) => {
             let behind = length + end + others;
@@ -534,9 +599,9 @@ fn is_left(before: u8, after: u8) -> bool
 }
 
 /// Where the signs begin that end stressed words, and how many they are.
-fn closer(sign: u8, wide: usize, rest: &[u8]) -> Option<(usize, usize)>
+fn closer(refs: &[Reference<'_>], sign: u8, wide: usize, rest: &[u8]) -> Option<(usize, usize)>
     requires { wide ≤ 3 }
-    ensures value { result ≡ closer sign wide 0 0 sign 0 rest.now }
+    ensures value { result ≡ closer (meanings refs.now) sign wide 0 0 sign 0 rest.now }
     ensures within { IfSome result (λ end. end.0 + end.1 ≤ length rest.now) }
     ensures long { IfSome result (λ end. wide ≤ end.1) }
 {
@@ -556,7 +621,7 @@ fn closer(sign: u8, wide: usize, rest: &[u8]) -> Option<(usize, usize)>
                 return None;
             }
             deep = deeper(side, deep);
-            skip = passed(sign, line);
+            skip = passed(refs, sign, line);
         }
         before = *byte;
     }
@@ -623,8 +688,8 @@ fn deeper(side: Side, deep: usize) -> usize
 }
 
 /// How many bytes behind the first are passed over.
-fn passed(sign: u8, line: &[u8]) -> usize
-    ensures { result ≡ passed sign line.now }
+fn passed(refs: &[Reference<'_>], sign: u8, line: &[u8]) -> usize
+    ensures { result ≡ passed (meanings refs.now) sign line.now }
 {
     let Some((first, rest)) = line.split_first() else {
         return 0;
@@ -632,7 +697,7 @@ fn passed(sign: u8, line: &[u8]) -> usize
     if *first == sign {
         run(sign, line).saturating_sub(1)
     } else if *first == b'[' {
-        linked(rest).1
+        linked(refs, rest).1
     } else {
         hidden(line)
     }

@@ -1,8 +1,57 @@
 //! Names of headings.
-ghost use Rattle.std.specs.Prelude.{◌≡◌, ◌++◌, IfOk, OnOk};
-ghost use Rattle.gb_markdown.specs.Blocks.{slug, slug_byte};
+ghost use Rattle.std.specs.Prelude.{◌≡◌, ◌++◌, ◌≤◌, bytes_eq, count_by, length, map, IfOk, OnOk};
+ghost use Rattle.gb_markdown.specs.Blocks.{id_by, id_of, slug, slug_byte, with_name};
 
 use std::alloc::{AllocError, Global};
+
+/// The names of the headings of a page so far.
+pub(crate) type Names = Vec<Vec<u8>>;
+
+/// How many names of headings count.
+const MOST: usize = 512;
+
+/// The id of a heading with a name: one whose name others have has their number behind it.
+pub(crate) fn id_of(alloc: Global, names: &[Vec<u8>], name: &[u8]) -> Result<Vec<u8>, AllocError>
+    ensures { IfOk result (λ id. id.items ≡ id_of (map (λ other. other.items) names.now) name.now) }
+{
+    id_by(alloc, count(names, name), name)
+}
+
+/// How many names are this one.
+fn count(names: &[Vec<u8>], name: &[u8]) -> usize
+    ensures { result ≡ count_by (bytes_eq name.now) (map (λ other. other.items) names.now) }
+{
+    let mut seen: usize = 0;
+    for other in names {
+        if name == other.as_slice() {
+            seen += 1;
+        }
+    }
+    seen
+}
+
+/// A name with a number behind it, if that is not 0.
+fn id_by(alloc: Global, seen: usize, name: &[u8]) -> Result<Vec<u8>, AllocError>
+    ensures { IfOk result (λ id. id.items ≡ id_by seen name.now) }
+{
+    let mut id = name.to_vec(alloc)?;
+    if seen != 0 {
+        let number = format!(in alloc; "-{seen}")?;
+        id.extend_from_slice(number.as_bytes())?;
+    }
+    Ok(id)
+}
+
+/// Adds a name, up to so many.
+pub(crate) fn add_name(names: &mut Names, name: Vec<u8>) -> Result<(), AllocError>
+    ensures { OnOk result (map (λ other. other.items) names.new.items
+        ≡ with_name (map (λ other. other.items) names.old.items) name.items) }
+{
+    if names.len() < MOST {
+        names.push(name)?;
+    }
+    Ok(())
+}
 
 /// The name of a heading: letters and digits as small letters, `-` and `_`, and `-` for each space.
 pub(crate) fn slug(alloc: Global, words: &[u8]) -> Result<Vec<u8>, AllocError>

@@ -2,6 +2,7 @@
 ghost use Rattle.std.specs.Prelude.{◌≡◌, ◌++◌, ◌∷◌, [], OnOk, false};
 ghost use Rattle.std.specs.Option.{option_map};
 ghost use Rattle.gb_markdown.specs.Pieces.{written};
+ghost use Rattle.gb_markdown.specs.References.{meanings};
 ghost use Rattle.gb_markdown.specs.Tables.{rows_of, is_divider, cell, cells, without_bar, within_bars, row};
 ghost use Rattle.gb_markdown.specs.Tables.{rows};
 ghost use Rattle.gb_markdown.specs.Tables.{lines_in, table, table_begun, head_ended, table_ended, inline_of};
@@ -9,6 +10,7 @@ ghost use Rattle.gb_markdown.specs.Tables.{lines_in, table, table_begun, head_en
 use crate::inline::inline;
 use crate::line::{without_signs, words_of};
 use crate::page::{Element, close, open, text};
+use crate::references::Reference;
 use crate::runs::{is_space, trimmed};
 use crate::target::is_hidden;
 use bstr::ByteSlice;
@@ -19,10 +21,16 @@ const WORDS: u8 = 6;
 
 /// Writes a text within a block.
 #[tactic(auto, using(crate::proofs::Opened::words_depth_is))]
-pub(crate) fn words(alloc: Global, page: &mut Vec<u8>, line: &[u8]) -> Result<(), AllocError>
-    ensures { OnOk result (page.new.items ≡ page.old.items ++ written (inline_of line.now)) }
+pub(crate) fn words(
+    alloc: Global,
+    page: &mut Vec<u8>,
+    refs: &[Reference<'_>],
+    line: &[u8],
+) -> Result<(), AllocError>
+    ensures { OnOk result (page.new.items ≡ page.old.items
+        ++ written (inline_of (meanings refs.now) line.now)) }
 {
-    inline(alloc, page, WORDS, line)
+    inline(alloc, page, WORDS, refs, line)
 }
 
 /// The first line of a text, the second, and the others.
@@ -54,15 +62,17 @@ pub(crate) fn is_divider(line: &[u8]) -> bool
 pub(crate) fn table(
     alloc: Global,
     page: &mut Vec<u8>,
+    refs: &[Reference<'_>],
     head: &[u8],
     others: &[u8],
 ) -> Result<(), AllocError>
-    ensures { OnOk result (page.new.items ≡ page.old.items ++ written (table head.now others.now)) }
+    ensures { OnOk result (page.new.items ≡ page.old.items
+        ++ written (table (meanings refs.now) head.now others.now)) }
 {
     begin_table(page)?;
-    row(alloc, page, Element::HeadCell, head)?;
+    row(alloc, page, refs, Element::HeadCell, head)?;
     end_head(page)?;
-    rows(alloc, page, others)?;
+    rows(alloc, page, refs, others)?;
     end_table(page)
 }
 
@@ -95,22 +105,35 @@ fn end_table(page: &mut Vec<u8>) -> Result<(), AllocError>
 }
 
 /// Writes the rows of a table.
-fn rows(alloc: Global, page: &mut Vec<u8>, others: &[u8]) -> Result<(), AllocError>
-    ensures { OnOk result (page.new.items ≡ page.old.items ++ written (rows (lines_in others.now))) }
+fn rows(
+    alloc: Global,
+    page: &mut Vec<u8>,
+    refs: &[Reference<'_>],
+    others: &[u8],
+) -> Result<(), AllocError>
+    ensures { OnOk result (page.new.items ≡ page.old.items
+        ++ written (rows (meanings refs.now) (lines_in others.now))) }
 {
     for line in others.lines() {
-        row(alloc, page, Element::Cell, line)?;
+        row(alloc, page, refs, Element::Cell, line)?;
     }
     Ok(())
 }
 
 /// Writes a row.
 #[tactic(auto, unfolding(crate::specs::Tables::row))]
-fn row(alloc: Global, page: &mut Vec<u8>, element: Element, line: &[u8]) -> Result<(), AllocError>
-    ensures { OnOk result (page.new.items ≡ page.old.items ++ written (row element line.now)) }
+fn row(
+    alloc: Global,
+    page: &mut Vec<u8>,
+    refs: &[Reference<'_>],
+    element: Element,
+    line: &[u8],
+) -> Result<(), AllocError>
+    ensures { OnOk result (page.new.items ≡ page.old.items
+        ++ written (row (meanings refs.now) element line.now)) }
 {
     open(page, Element::Row)?;
-    cells(alloc, page, element, within_bars(line))?;
+    cells(alloc, page, refs, element, within_bars(line))?;
     close(page, Element::Row)?;
     text(page, b"\n")
 }
@@ -132,14 +155,21 @@ fn without_bar(line: &[u8]) -> &[u8]
 }
 
 /// Writes the cells of a row.
-fn cells(alloc: Global, page: &mut Vec<u8>, element: Element, line: &[u8]) -> Result<(), AllocError>
-    ensures { OnOk result (page.new.items ≡ page.old.items ++ written (cells element false [] line.now)) }
+fn cells(
+    alloc: Global,
+    page: &mut Vec<u8>,
+    refs: &[Reference<'_>],
+    element: Element,
+    line: &[u8],
+) -> Result<(), AllocError>
+    ensures { OnOk result (page.new.items ≡ page.old.items
+        ++ written (cells (meanings refs.now) element false [] line.now)) }
 {
     let mut hidden = false;
     let mut taken = Vec::new(alloc);
     for byte in line {
         if !hidden && *byte == b'|' {
-            cell(alloc, page, element, taken.as_slice())?;
+            cell(alloc, page, refs, element, taken.as_slice())?;
             taken.clear();
             hidden = false;
         } else {
@@ -147,14 +177,21 @@ fn cells(alloc: Global, page: &mut Vec<u8>, element: Element, line: &[u8]) -> Re
             hidden = is_hidden(hidden, *byte);
         }
     }
-    cell(alloc, page, element, taken.as_slice())
+    cell(alloc, page, refs, element, taken.as_slice())
 }
 
 /// Writes a cell.
-fn cell(alloc: Global, page: &mut Vec<u8>, element: Element, line: &[u8]) -> Result<(), AllocError>
-    ensures { OnOk result (page.new.items ≡ page.old.items ++ written (cell element line.now)) }
+fn cell(
+    alloc: Global,
+    page: &mut Vec<u8>,
+    refs: &[Reference<'_>],
+    element: Element,
+    line: &[u8],
+) -> Result<(), AllocError>
+    ensures { OnOk result (page.new.items ≡ page.old.items
+        ++ written (cell (meanings refs.now) element line.now)) }
 {
     open(page, element)?;
-    words(alloc, page, trimmed(words_of(line)))?;
+    words(alloc, page, refs, trimmed(words_of(line)))?;
     close(page, element)
 }

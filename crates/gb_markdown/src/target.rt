@@ -38,14 +38,14 @@ fn closed(line: &[u8]) -> Option<&[u8]>
 }
 
 /// What is behind white space.
-fn behind(line: &[u8]) -> &[u8]
+pub(crate) fn behind(line: &[u8]) -> &[u8]
     ensures { result.now ≡ behind line.now }
 {
     &line[spaces(line)..]
 }
 
 /// The address at the begin of a text, and what is behind it.
-fn address(line: &[u8]) -> (&[u8], &[u8])
+pub(crate) fn address(line: &[u8]) -> (&[u8], &[u8])
     ensures { (result.0.now, result.1.now) ≡ address line.now }
 {
     let Some((first, inside)) = line.split_first() else {
@@ -135,7 +135,7 @@ pub(crate) fn is_hidden(hidden: bool, byte: u8) -> bool
 }
 
 /// The title at the begin of a text behind white space, and what is behind it.
-fn title(line: &[u8]) -> (&[u8], &[u8])
+pub(crate) fn title(line: &[u8]) -> (&[u8], &[u8])
     ensures { (result.0.now, result.1.now) ≡ title line.now }
 {
     let gap = spaces(line);
@@ -171,7 +171,7 @@ fn quote_of(sign: u8) -> Option<u8>
 }
 
 /// Where the title ends that the sign ends.
-fn quote_end(sign: u8, line: &[u8]) -> Option<usize>
+pub(crate) fn quote_end(sign: u8, line: &[u8]) -> Option<usize>
     ensures value { result ≡ quote_end sign false 0 line.now }
     ensures within { IfSome result (λ end. end < length line.now) }
 {

@@ -3,6 +3,7 @@ use Rattle.std.specs.Prelude.{ℕ, ◌+◌, List, ◌++◌, codes, if◌then◌e
 use Rattle.std.specs.Prelude.{nat_eq, Option, None, Some, unwrap_or}
 use Rattle.std.specs.List.{starts_with}
 use Rattle.std.specs.Option.{option_map, option_or}
+use Rattle.bstr.specs.Text.{split_at}
 use Rattle.memchr.specs.Find.{first_of, matches}
 
 -- what stands before the first occurrence of a sign, and behind it
@@ -12,6 +13,14 @@ cut sign text = option_map (λ k. (take k text, drop (k + length sign) text)) (f
 -- what stands behind a sign with which a text begins
 abbrev pub behind : List ℕ → List ℕ → Option (List ℕ)
 behind sign text = if bytes_eq (take (length sign) text) sign then Some (drop (length sign) text) else None
+
+-- what stands before the first occurrence of a sign, or all
+abbrev pub up_to : List ℕ → List ℕ → List ℕ
+up_to sign text = unwrap_or (option_map (λ half. half.0) (cut sign text)) text
+
+-- what stands before, between and behind the occurrences of a sign
+abbrev pub parts : List ℕ → List ℕ → List (List ℕ)
+parts sign text = split_at text (length sign) 0 (matches text sign 0)
 
 -- the first line of a text, without its end
 abbrev pub first_line : List ℕ → List ℕ

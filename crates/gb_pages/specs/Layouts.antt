@@ -1,19 +1,21 @@
 -- Pages in a layout, with what their front matter says.
 use Rattle.std.specs.Prelude.{ℕ, ◌+◌, ◌==◌, Bool, true, false, List, [], ◌∷◌, ◌++◌, codes, decimal, take}
-use Rattle.std.specs.Prelude.{if◌then◌else◌, bytes_eq, count_by, length, Option, None, Some, unwrap_or}
+use Rattle.std.specs.Prelude.{if◌then◌else◌, bytes_eq, count_by, Option, None, Some, unwrap_or}
 use Rattle.std.specs.Prelude.{Result, Ok, Err}
 use Rattle.std.specs.List.{flat_map}
 use Rattle.std.specs.Option.{option_map}
 use Rattle.std.specs.Str.{is_utf8}
 use Rattle.memchr.specs.Find.{first_of, matches}
-use Rattle.bstr.specs.Text.{split_at}
 use Rattle.gb_core.specs.declared.value.Value.{Value}
 use Rattle.gb_action.specs.Files.{Tree, Trees, file_at, tree_at}
 use Rattle.gb_action.specs.Shapes.{source}
 use Rattle.gb_with.specs.Renamed.{onto}
-use Rattle.gb_pages.specs.FrontMatter.{cut, front_matter, title_of, value_of}
+use Rattle.gb_pages.specs.FrontMatter.{cut, front_matter, parts, title_of, value_of}
 use Rattle.gb_pages.specs.Paths.{page_path, stem, token, unless_more}
-use Rattle.gb_markdown.specs.Pieces.{escaped}
+use Rattle.gb_pages.specs.Contents.{contents}
+use Rattle.gb_markdown.specs.Addresses.{address_of}
+use Rattle.gb_markdown.specs.Pieces.{Piece, Close, Link, Text, escaped, written}
+use Rattle.gb_markdown.specs.declared.page.Element.TheVariants as elements
 
 -- ---- What stands in the place of a name
 
@@ -21,18 +23,19 @@ use Rattle.gb_markdown.specs.Pieces.{escaped}
 abbrev pub root_of : List ℕ → List ℕ
 root_of path = flat_map (λ b. if b == 47 then codes "../" else []) path
 
--- the page itself, the way to the folder of the site, its title, or a value of its front matter
-abbrev pub value_for : List ℕ → List ℕ → List ℕ → List ℕ → Option (List ℕ)
-value_for path text page name =
+-- the page itself, a list of links to its headings, the links to the pages before it and behind it, the way to
+-- the folder of the site, its title, or a value of its front matter
+abbrev pub value_for : List ℕ → List ℕ → List ℕ → List ℕ → List ℕ → List ℕ → Option (List ℕ)
+value_for previous next path text page name =
     if bytes_eq name (codes "content") then Some page
+    else if bytes_eq name (codes "contents") then Some (contents page)
+    else if bytes_eq name (codes "previous") then Some previous
+    else if bytes_eq name (codes "next") then Some next
     else if bytes_eq name (codes "root") then Some (root_of path)
     else if bytes_eq name (codes "title") then Some (escaped (title_of text (unwrap_or (stem path) path)))
     else option_map escaped (value_of name (front_matter text))
 
 -- ---- Layouts
-
-abbrev pub parts : List ℕ → List ℕ → List (List ℕ)
-parts sign text = split_at text (length sign) 0 (matches text sign 0)
 
 -- bytes in front of others, or the first failure
 abbrev pub before : Result (List ℕ) (List ℕ) → Result (List ℕ) (List ℕ) → Result (List ℕ) (List ℕ)
@@ -83,11 +86,12 @@ abbrev pub or_unknown : List ℕ → List ℕ → List ℕ → Result (List ℕ)
 or_unknown at layout path (Ok bytes) = Ok bytes
 or_unknown at layout path (Err name) = Err (unknown at layout path name)
 
--- The layout of a page, by the path and the bytes of the layout, the path and the text of the page, and what
--- Markdown makes of that.
-abbrev pub laid_out_page : List ℕ → List ℕ → List ℕ → List ℕ → List ℕ → Result (List ℕ) (List ℕ)
-laid_out_page at layout path text page =
-    or_unknown at layout path (filled (value_for path text page) false (parts (codes "{{") layout))
+-- The layout of a page, by the path and the bytes of the layout, the links to the pages before it and behind
+-- it, the path and the text of the page, and what Markdown makes of that.
+abbrev pub laid_out_page : List ℕ → List ℕ → List ℕ → List ℕ → List ℕ → List ℕ → List ℕ
+    → Result (List ℕ) (List ℕ)
+laid_out_page at layout previous next path text page =
+    or_unknown at layout path (filled (value_for previous next path text page) false (parts (codes "{{") layout))
 
 -- the file of a page, if it has a path
 abbrev pub laid_out_file : List ℕ → Option (List ℕ) → Result (List ℕ) (List ℕ)
@@ -100,18 +104,46 @@ laid_out_file path (Some new) (Ok bytes) = Ok (new, bytes)
 abbrev pub text_at : Tree → List ℕ → List ℕ
 text_at texts path = unwrap_or (file_at texts path) []
 
-abbrev pub all_laid_out : List ℕ → List ℕ → Tree → Tree → Result Tree (List ℕ)
-all_laid_out at layout texts [] = Ok []
-all_laid_out at layout texts (file ∷ files) =
-    onto (laid_out_file file.0 (page_path (stem file.0))
-    (laid_out_page at layout file.0 (text_at texts file.0) file.1))
-    (all_laid_out at layout texts files)
+-- ---- Pages before and behind a page
+
+abbrev pub link_to : List ℕ → List ℕ → Option (List ℕ) → Option (List ℕ) → List Piece
+link_to path text (Some name) (Some new) =
+    Link (root_of path ++ address_of new) [] ∷ Text (title_of text name) ∷ Close elements.Anchor ∷ []
+link_to path text None new = []
+link_to path text (Some name) None = []
+
+-- the link from a page to another, under the title of that, if there is one
+abbrev pub neighbour : Tree → List ℕ → Option (List ℕ) → List ℕ
+neighbour texts path None = []
+neighbour texts path (Some other) =
+    written (link_to path (text_at texts other) (stem other) (page_path (stem other)))
+
+abbrev pub first_path : Tree → Option (List ℕ)
+first_path [] = None
+first_path (file ∷ files) = Some file.0
+
+-- ---- All pages
+
+-- the file of a page between one at a path and others
+abbrev pub laid_out_between : List ℕ → List ℕ → Tree → Option (List ℕ) → List ℕ → List ℕ → Tree
+    → Result (List ℕ × List ℕ) (List ℕ)
+laid_out_between at layout texts before path page others =
+    laid_out_file path (page_path (stem path))
+    (laid_out_page at layout (neighbour texts path before) (neighbour texts path (first_path others)) path
+    (text_at texts path) page)
+
+-- the pages in the order of their paths, behind one at a path
+abbrev pub all_laid_out : List ℕ → List ℕ → Tree → Option (List ℕ) → Tree → Result Tree (List ℕ)
+all_laid_out at layout texts before [] = Ok []
+all_laid_out at layout texts before (file ∷ files) =
+    onto (laid_out_between at layout texts before file.0 file.1 files)
+    (all_laid_out at layout texts (Some file.0) files)
 
 -- there is one layout
 abbrev pub in_one_layout : Tree → Tree → Tree → Result Tree (List ℕ)
 in_one_layout texts files [] = Err (codes "no layout")
 in_one_layout texts files (layout ∷ others) =
-    unless_more others (all_laid_out layout.0 layout.1 texts files)
+    unless_more others (all_laid_out layout.0 layout.1 texts None files)
 
 -- the pages of `src`, with what the texts of `texts` say, in the one file of `layout`
 abbrev pub site_pages : List Value → Trees → Result Tree (List ℕ)

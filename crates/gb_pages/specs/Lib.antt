@@ -4,3 +4,4 @@ pub mod FrontMatter
 pub mod Layouts
 pub mod Links
 pub mod Listing
+pub mod Contents

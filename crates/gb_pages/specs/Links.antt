@@ -1,5 +1,5 @@
 -- Links of pages that lead nowhere.
-use Rattle.std.specs.Prelude.{ℕ, ◌+◌, Bool, true, false, ◌&&◌, ◌||◌, List, [], ◌∷◌, ◌++◌, codes, decimal}
+use Rattle.std.specs.Prelude.{ℕ, Bool, true, false, ◌||◌, List, [], ◌∷◌, ◌++◌, codes, decimal}
 use Rattle.std.specs.Prelude.{if◌then◌else◌, bytes_eq, length, take, drop, Option, None, Some, is_some}
 use Rattle.std.specs.Prelude.{nat_eq, unwrap_or, option_and_then}
 use Rattle.std.specs.List.{starts_with}
@@ -9,15 +9,11 @@ use Rattle.percent_encoding.specs.Percent.{percent_decode}
 use Rattle.gb_core.specs.declared.value.Value.{Value}
 use Rattle.gb_action.specs.Files.{Tree, Trees, file_at, tree_at}
 use Rattle.gb_action.specs.Shapes.{source}
-use Rattle.gb_pages.specs.FrontMatter.{cut}
-use Rattle.gb_pages.specs.Layouts.{line_of, parts, shown}
+use Rattle.gb_pages.specs.FrontMatter.{cut, parts, up_to}
+use Rattle.gb_pages.specs.Layouts.{line_of, shown}
 use Rattle.gb_pages.specs.Paths.{as_path, before}
 
 -- ---- Where an address leads
-
--- what stands before the first occurrence of a sign, or all
-abbrev pub up_to : List ℕ → List ℕ → List ℕ
-up_to sign text = unwrap_or (option_map (λ half. half.0) (cut sign text)) text
 
 -- what stands behind it, or nothing
 abbrev pub from : List ℕ → List ℕ → List ℕ
@@ -88,7 +84,7 @@ led_to files page html path =
 
 abbrev pub wrong_in_site : Tree → List ℕ → List ℕ → List ℕ → Option (List ℕ)
 wrong_in_site files page html address =
-    wrong_with (from (codes "#") address) (led_to files page html (percent_decode (path_in address)))
+    wrong_with (percent_decode (from (codes "#") address)) (led_to files page html (percent_decode (path_in address)))
 
 abbrev pub wrong_link : Tree → List ℕ → List ℕ → List ℕ → Option (List ℕ)
 wrong_link files page html address =

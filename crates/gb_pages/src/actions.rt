@@ -31,25 +31,25 @@ pub type Pages = Both<ByFile<Markdown>, Both<OfTrees<Renamed<Markdown>>, AtOnce>
 
 /// The table of all kinds of pages, each in its version.
 pub fn page_actions(alloc: Global) -> Result<ActionTable<<Pages as Actions>::Stored>, TableFault>
-    ensures { IfOk result (λ table. table ≡ (codes "markdown", First 3)
-        ∷ (codes "htmlPages", Second (First 3))
+    ensures { IfOk result (λ table. table ≡ (codes "markdown", First 4)
+        ∷ (codes "htmlPages", Second (First 4))
         ∷ (codes "template", Second (Second (First (First 1))))
-        ∷ (codes "sitePages", Second (Second (First (Second 1))))
+        ∷ (codes "sitePages", Second (Second (First (Second 2))))
         ∷ (codes "index", Second (Second (Second (First 3))))
         ∷ (codes "checkPages", Second (Second (Second (Second (First 2)))))
         ∷ (codes "checkLinks", Second (Second (Second (Second (Second 1))))) ∷ []) }
 {
     let others = at_once(alloc)?;
-    let pages = only::<OfTrees<Renamed<Markdown>>>(alloc, "htmlPages", 3)?;
+    let pages = only::<OfTrees<Renamed<Markdown>>>(alloc, "htmlPages", 4)?;
     let others = beside(alloc, pages, others)?;
-    let markdown = only::<ByFile<Markdown>>(alloc, "markdown", 3)?;
+    let markdown = only::<ByFile<Markdown>>(alloc, "markdown", 4)?;
     beside(alloc, markdown, others)
 }
 
 /// The table of those that work on all pages at once.
 fn at_once(alloc: Global) -> Result<ActionTable<<AtOnce as Actions>::Stored>, TableFault>
     ensures { IfOk result (λ table. table ≡ (codes "template", First (First 1))
-        ∷ (codes "sitePages", First (Second 1)) ∷ (codes "index", Second (First 3))
+        ∷ (codes "sitePages", First (Second 2)) ∷ (codes "index", Second (First 3))
         ∷ (codes "checkPages", Second (Second (First 2)))
         ∷ (codes "checkLinks", Second (Second (Second 1))) ∷ []) }
 {
@@ -62,9 +62,9 @@ fn at_once(alloc: Global) -> Result<ActionTable<<AtOnce as Actions>::Stored>, Ta
 /// The table of those that put pages into a layout.
 fn laid(alloc: Global) -> Result<ActionTable<<Laid as Actions>::Stored>, TableFault>
     ensures { IfOk result (λ table.
-        table ≡ (codes "template", First 1) ∷ (codes "sitePages", Second 1) ∷ []) }
+        table ≡ (codes "template", First 1) ∷ (codes "sitePages", Second 2) ∷ []) }
 {
-    let site = only::<OfTrees<SitePages>>(alloc, "sitePages", 1)?;
+    let site = only::<OfTrees<SitePages>>(alloc, "sitePages", 2)?;
     let template = only::<OfTrees<Template>>(alloc, "template", 1)?;
     beside(alloc, template, site)
 }

@@ -2,13 +2,13 @@
 ghost use Rattle.std.specs.Prelude.{◌≡◌, ◌++◌, codes, IfOk};
 ghost use Rattle.std.specs.Option.{option_copied, option_map};
 ghost use Rattle.gb_pages.specs.FrontMatter.{body, first_line, front_matter, halves, heading};
-ghost use Rattle.gb_pages.specs.FrontMatter.{title_of, value_of};
+ghost use Rattle.gb_pages.specs.FrontMatter.{title_of, up_to, value_of};
 
 use bstr::ByteSlice;
 use std::alloc::{AllocError, Global};
 
 /// The front matter of a text, each line of it behind a line feed, and the text behind it.
-pub(crate) fn halves(text: &[u8]) -> Option<(&[u8], &[u8])>
+pub fn halves(text: &[u8]) -> Option<(&[u8], &[u8])>
     ensures { option_map (λ half. (half.0.now, half.1.now)) result ≡ halves text.now }
 {
     if text.starts_with(b"---\n") {
@@ -20,7 +20,7 @@ pub(crate) fn halves(text: &[u8]) -> Option<(&[u8], &[u8])>
 }
 
 /// The front matter of a text, or nothing.
-pub(crate) fn front_matter(text: &[u8]) -> &[u8]
+pub fn front_matter(text: &[u8]) -> &[u8]
     ensures { result.now ≡ front_matter text.now }
 {
     match halves(text) {
@@ -30,11 +30,21 @@ pub(crate) fn front_matter(text: &[u8]) -> &[u8]
 }
 
 /// A text without its front matter.
-pub(crate) fn body(text: &[u8]) -> &[u8]
+pub fn body(text: &[u8]) -> &[u8]
     ensures { result.now ≡ body text.now }
 {
     match halves(text) {
         Some((_, rest)) => rest,
+        None => text,
+    }
+}
+
+/// The part before a sign, or all.
+pub(crate) fn up_to<'a>(text: &'a [u8], sign: &[u8]) -> &'a [u8]
+    ensures { result.now ≡ up_to sign.now text.now }
+{
+    match text.split_once_str(sign) {
+        Some((front, _)) => front,
         None => text,
     }
 }
@@ -50,7 +60,7 @@ fn first_line(text: &[u8]) -> &[u8]
 }
 
 /// The value of a key of a front matter.
-pub(crate) fn value_of<'a>(
+pub fn value_of<'a>(
     alloc: Global,
     key: &[u8],
     front: &'a [u8],
@@ -76,7 +86,7 @@ fn sign(alloc: Global, key: &[u8]) -> Result<Vec<u8>, AllocError>
 }
 
 /// The words of a heading with which a text begins.
-pub(crate) fn heading(text: &[u8]) -> Option<&[u8]>
+pub fn heading(text: &[u8]) -> Option<&[u8]>
     ensures { option_copied result ≡ heading text.now }
 {
     match text.strip_prefix(b"# ") {
@@ -86,11 +96,7 @@ pub(crate) fn heading(text: &[u8]) -> Option<&[u8]>
 }
 
 /// The title of a page: the one of its front matter, or else its heading, or else the name.
-pub(crate) fn title_of<'a>(
-    alloc: Global,
-    text: &'a [u8],
-    name: &'a [u8],
-) -> Result<&'a [u8], AllocError>
+pub fn title_of<'a>(alloc: Global, text: &'a [u8], name: &'a [u8]) -> Result<&'a [u8], AllocError>
     ensures { IfOk result (λ title. title.now ≡ title_of text.now name.now) }
 {
     match value_of(alloc, b"title", front_matter(text))? {

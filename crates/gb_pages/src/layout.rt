@@ -1,14 +1,15 @@
 //! A layout filled in for one page.
 ghost use Rattle.std.specs.Prelude.{◌≡◌, ◌++◌, Ok, codes, false, unwrap_or, IfOk, OnOk, MatchResult};
 ghost use Rattle.std.specs.Option.{option_copied, option_map};
-ghost use Rattle.gb_pages.specs.FrontMatter.{cut, title_of};
-ghost use Rattle.gb_pages.specs.Layouts.{before, behind_braces, ended, filled, laid_out_page, line_of, parts};
+ghost use Rattle.gb_pages.specs.FrontMatter.{cut, parts, title_of};
+ghost use Rattle.gb_pages.specs.Layouts.{before, behind_braces, ended, filled, laid_out_page, line_of};
 ghost use Rattle.gb_pages.specs.Layouts.{replaced, root_of, shown, unknown, value_for};
 ghost use Rattle.gb_markdown.specs.Pieces.{escaped};
 ghost use Rattle.gb_pages.specs.Paths.{stem, token};
 ghost use Rattle.gb_with.specs.TreeKinds.{IsFailure};
 
 use crate::checked::line_of as line_at;
+use crate::contents::contents;
 use crate::front_matter::{front_matter, title_of, value_of};
 use crate::paths::stem;
 use bstr::ByteSlice;
@@ -29,6 +30,10 @@ pub(crate) struct Page<'a> {
     pub text: &'a [u8],
     /// What Markdown makes of its text.
     pub html: &'a [u8],
+    /// The link to the page before it, which may be empty.
+    pub previous: &'a [u8],
+    /// The link to the page behind it, which may be empty.
+    pub next: &'a [u8],
 }
 
 /// A page in the layout at a path.
@@ -39,7 +44,8 @@ pub(crate) fn laid_out_page(
     page: &Page<'_>,
 ) -> Result<Bytes, ActionFault>
     ensures { let meant =
-        laid_out_page at.now layout.now page.now.path.now page.now.text.now page.now.html.now in
+        laid_out_page at.now layout.now page.now.previous.now page.now.next.now page.now.path.now
+        page.now.text.now page.now.html.now in
         MatchResult result (λ made. meant ≡ Ok made) (λ fault. IsFailure fault meant) }
 {
     let mut made = Vec::new(alloc);
@@ -111,7 +117,8 @@ fn fill<'a>(
     layout: &'a [u8],
     page: &Page<'_>,
 ) -> Result<Option<&'a [u8]>, AllocError>
-    ensures { let value = value_for page.now.path.now page.now.text.now page.now.html.now in
+    ensures { let value = value_for page.now.previous.now page.now.next.now page.now.path.now page.now.text.now
+        page.now.html.now in
         IfOk result (λ unknown.
         before (Ok made.old.items) (filled value false (parts (codes "{{") layout.now))
         ≡ ended made.new.items (option_copied unknown)) }
@@ -138,7 +145,8 @@ fn behind_braces<'a>(
     part: &'a [u8],
     page: &Page<'_>,
 ) -> Result<Option<&'a [u8]>, AllocError>
-    ensures { let value = value_for page.now.path.now page.now.text.now page.now.html.now in
+    ensures { let value = value_for page.now.previous.now page.now.next.now page.now.path.now page.now.text.now
+        page.now.html.now in
         IfOk result (λ unknown.
         before (Ok made.old.items) (behind_braces value part.now (cut (codes "}}") part.now))
         ≡ ended made.new.items (option_copied unknown)) }
@@ -167,10 +175,20 @@ fn append(made: &mut Vec<u8>, bytes: Vec<u8>) -> Result<(), AllocError>
 /// The value of a name on a page.
 fn value_for(alloc: Global, page: &Page<'_>, name: &[u8]) -> Result<Option<Vec<u8>>, AllocError>
     ensures { IfOk result (λ value. option_map (λ bytes. bytes.items) value
-        ≡ value_for page.now.path.now page.now.text.now page.now.html.now name.now) }
+        ≡ value_for page.now.previous.now page.now.next.now page.now.path.now page.now.text.now
+        page.now.html.now name.now) }
 {
     if name == b"content".as_slice() {
         return Ok(Some(page.html.to_vec(alloc)?));
+    }
+    if name == b"contents".as_slice() {
+        return Ok(Some(contents(alloc, page.html)?));
+    }
+    if name == b"previous".as_slice() {
+        return Ok(Some(page.previous.to_vec(alloc)?));
+    }
+    if name == b"next".as_slice() {
+        return Ok(Some(page.next.to_vec(alloc)?));
     }
     if name == b"root".as_slice() {
         return Ok(Some(root_of(alloc, page.path.as_str().as_bytes())?));
@@ -203,7 +221,7 @@ fn escaped(alloc: Global, bytes: &[u8]) -> Result<Vec<u8>, AllocError>
 }
 
 /// What leads from the page at a path to the folder of the site.
-fn root_of(alloc: Global, path: &[u8]) -> Result<Vec<u8>, AllocError>
+pub(crate) fn root_of(alloc: Global, path: &[u8]) -> Result<Vec<u8>, AllocError>
     ensures { IfOk result (λ root. root.items ≡ root_of path.now) }
 {
     let mut root = Vec::new(alloc);

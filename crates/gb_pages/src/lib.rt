@@ -3,11 +3,12 @@
 
 pub mod actions;
 mod checked;
-mod front_matter;
+mod contents;
+pub mod front_matter;
 pub mod kinds;
 mod layout;
 mod links;
-mod listing;
-mod paths;
+pub mod listing;
+pub mod paths;
 mod site_pages;
 mod template;

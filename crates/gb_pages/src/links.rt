@@ -1,15 +1,17 @@
 //! Links that lead nowhere: the kind `checkLinks`.
 ghost use Rattle.std.specs.Prelude.{◌≡◌, ◌++◌, codes, is_some, string_bytes, IfOk, OnOk};
 ghost use Rattle.std.specs.Option.{option_copied, option_map};
-ghost use Rattle.gb_pages.specs.Layouts.{line_of, parts};
+ghost use Rattle.gb_pages.specs.FrontMatter.{parts};
+ghost use Rattle.gb_pages.specs.Layouts.{line_of};
 ghost use Rattle.memchr.specs.Find.{first_of, matches};
 ghost use Rattle.gb_pages.specs.Links.{above, as_file, dead_at, dead_by, dead_in, file_in, first_dead, from};
 ghost use Rattle.gb_pages.specs.Links.{id_sign, leads_out, led_to, path_in, start, step, target_of};
 ghost use Rattle.gb_pages.specs.Links.{line_mark, told};
-ghost use Rattle.gb_pages.specs.Links.{unrooted, up_to, walk, wrong_in_site, wrong_link, wrong_with};
+ghost use Rattle.gb_pages.specs.Links.{unrooted, walk, wrong_in_site, wrong_link, wrong_with};
 ghost use Rattle.gb_pages.specs.Paths.{before};
 ghost use Rattle.percent_encoding.specs.Percent.{percent_decode as decoded};
 
+use crate::front_matter::up_to;
 use crate::layout::{line_of, shown};
 use crate::paths::as_path;
 use crate::template::has_token;
@@ -190,8 +192,9 @@ fn wrong_link(
         return Ok(None);
     }
     let path = decoded(alloc, path)?;
-    let fragment = from(address, b"#");
-    wrong_with(alloc, fragment, led_to(alloc, site, path.as_slice())?)
+    let fragment = decoded(alloc, from(address, b"#"))?;
+    let file = led_to(alloc, site, path.as_slice())?;
+    wrong_with(alloc, fragment.as_slice(), file)
 }
 
 /// What is wrong with a link to a fragment of a file.
@@ -336,16 +339,6 @@ fn above(path: &[u8]) -> Option<&[u8]>
     match path.rsplit_once_str(b"/") {
         Some((folder, _)) => Some(folder),
         None => None,
-    }
-}
-
-/// The part before a sign, or all.
-fn up_to<'a>(text: &'a [u8], sign: &[u8]) -> &'a [u8]
-    ensures { result.now ≡ up_to sign.now text.now }
-{
-    match text.split_once_str(sign) {
-        Some((front, _)) => front,
-        None => text,
     }
 }
 

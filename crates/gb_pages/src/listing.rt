@@ -62,8 +62,8 @@ impl TreeKind for Index {
     }
 }
 
-/// The second argument.
-fn second_text(arguments: &Arguments) -> &str
+/// The second argument, which is empty where it is left out.
+pub fn second_text(arguments: &Arguments) -> &str
     ensures { result.now ≡ second_text arguments.now }
 {
     match arguments.as_slice().split_first() {
@@ -202,8 +202,8 @@ fn entry_of(alloc: Global, path: &RelPath, bytes: &[u8]) -> Result<Bytes, AllocE
     Ok(Bytes::new(made))
 }
 
-/// The latest first.
-fn latest_first(alloc: Global, days: &[(RelPath, Bytes)]) -> Result<Vec<u8>, AllocError>
+/// The values of all files, the last file first.
+pub fn latest_first(alloc: Global, days: &[(RelPath, Bytes)]) -> Result<Vec<u8>, AllocError>
     ensures { IfOk result (λ links. links.items ≡ latest_first days.now) }
 {
     let mut links = Vec::new(alloc);

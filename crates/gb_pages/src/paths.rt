@@ -8,14 +8,14 @@ use std::alloc::{AllocError, Global};
 use std::str;
 
 /// What stands before `.md`.
-pub(crate) fn stem(path: &[u8]) -> Option<&[u8]>
+pub fn stem(path: &[u8]) -> Option<&[u8]>
     ensures { option_copied result ≡ stem path.now }
 {
     path.strip_suffix(b".md")
 }
 
 /// The same, or what stands before `.markdown`.
-pub(crate) fn front(path: &[u8]) -> Option<&[u8]>
+pub fn front(path: &[u8]) -> Option<&[u8]>
     ensures { option_copied result ≡ front path.now }
 {
     match stem(path) {
@@ -25,7 +25,7 @@ pub(crate) fn front(path: &[u8]) -> Option<&[u8]>
 }
 
 /// The path of the page of a text, by what stands before `.md` in the path of that.
-pub(crate) fn page_path(alloc: Global, front: Option<&[u8]>) -> Result<Option<RelPath>, AllocError>
+pub fn page_path(alloc: Global, front: Option<&[u8]>) -> Result<Option<RelPath>, AllocError>
     ensures { IfOk result (λ path. path ≡ page_path (option_copied front.entry)) }
 {
     let Some(front) = front else {
@@ -37,7 +37,7 @@ pub(crate) fn page_path(alloc: Global, front: Option<&[u8]>) -> Result<Option<Re
 }
 
 /// The path that these bytes are, if they are one.
-pub(crate) fn as_path(alloc: Global, bytes: &[u8]) -> Result<Option<RelPath>, AllocError>
+pub fn as_path(alloc: Global, bytes: &[u8]) -> Result<Option<RelPath>, AllocError>
     ensures { IfOk result (λ path. path ≡ as_path bytes.now) }
 {
     let Ok(text) = str::from_utf8(bytes) else {

@@ -1,12 +1,16 @@
 //! Pages in a layout, with what their front matter says: the kind `sitePages`.
-ghost use Rattle.std.specs.Prelude.{◌≡◌, ◌++◌, [], codes, unwrap_or, Ok, IfOk, MatchResult};
+ghost use Rattle.std.specs.Prelude.{◌≡◌, ◌++◌, [], codes, unwrap_or, None, Ok, IfOk, OnOk, MatchResult};
 ghost use Rattle.std.specs.Option.{option_copied};
 ghost use Rattle.gb_action.specs.declared.reply.ActionFault.TheVariants.{ActionFailed};
-ghost use Rattle.gb_pages.specs.Layouts.{all_laid_out, in_one_layout, laid_out_file, laid_out_page, text_at};
+ghost use Rattle.gb_markdown.specs.Pieces.{written};
+ghost use Rattle.gb_pages.specs.Layouts.{all_laid_out, first_path, in_one_layout};
+ghost use Rattle.gb_pages.specs.Layouts.{laid_out_between, laid_out_file};
+ghost use Rattle.gb_pages.specs.Layouts.{laid_out_page, link_to, neighbour, text_at};
 ghost use Rattle.gb_pages.specs.Paths.{page_path, stem};
 ghost use Rattle.gb_with.specs.TreeKinds.{IsFailure};
 
-use crate::layout::{Page, laid_out_page};
+use crate::front_matter::title_of;
+use crate::layout::{Page, laid_out_page, root_of};
 use crate::paths::{page_path, stem};
 use crate::template::{failed, layout_name};
 use gb_action::files::Files;
@@ -19,13 +23,16 @@ use gb_core::name::Name;
 use gb_core::place::RelPath;
 use gb_core::text::Text;
 use gb_kinds::names::source_name;
+use gb_markdown::address::address_of;
+use gb_markdown::page::{Element, close, link, text};
 use gb_with::tree_kind::{TreeKind, files_of};
 use std::alloc::{AllocError, Global};
 
 /// The kind `sitePages`, without arguments: each page of `src`, with `.html` in place of `.md`, in the one
 /// file of `layout`. The text at the same path of `texts` says by its front matter what is put in the place
-/// of each `{{name}}`; `{{content}}` is the page itself, `{{title}}` its title, and `{{root}}` the way to the
-/// folder of the site.
+/// of each `{{name}}`; `{{content}}` is the page itself, `{{contents}}` a list of links to its headings,
+/// `{{title}}` its title, `{{root}}` the way to the folder of the site, and `{{previous}}` and `{{next}}` are
+/// links to the pages before it and behind it in the order of their paths.
 #[derive(Drop)]
 pub struct SitePages;
 
@@ -87,17 +94,97 @@ fn all_laid_out(
     files: &[(RelPath, Bytes)],
 ) -> Result<Made, ActionFault>
     ensures { let read = unwrap_or (option_copied texts.entry) [] in
-        let meant = all_laid_out at.now layout.now read files.now in
+        let meant = all_laid_out at.now layout.now read None files.now in
         MatchResult result (λ made. meant ≡ Ok made.items) (λ fault. IsFailure fault meant) }
 {
     let mut made = Vec::new(alloc);
-    for (path, html) in files {
-        let text = text_at(texts, path);
-        let html = html.as_slice();
-        let file = laid_out_file(alloc, at, layout, &Page { path, text, html })?;
+    let mut before = None;
+    let mut rest = files;
+    while let Some(((path, html), others)) = rest.split_first() {
+        let file = laid_out_between(alloc, at, layout, texts, before, path, html, others)?;
         made.push(file)?;
+        before = Some(path);
+        rest = others;
     }
     Ok(made)
+}
+
+/// The file of a page between one at a path and others.
+fn laid_out_between(
+    alloc: Global,
+    at: &RelPath,
+    layout: &[u8],
+    texts: Option<&Files>,
+    before: Option<&RelPath>,
+    path: &RelPath,
+    html: &Bytes,
+    others: &[(RelPath, Bytes)],
+) -> Result<(RelPath, Bytes), ActionFault>
+    ensures { let read = unwrap_or (option_copied texts.entry) [] in
+        let meant = laid_out_between at.now layout.now read (option_copied before.entry) path.now html.now
+        others.now in
+        MatchResult result (λ file. meant ≡ Ok file) (λ fault. IsFailure fault meant) }
+{
+    let previous = neighbour(alloc, texts, path, before)?;
+    let next = neighbour(alloc, texts, path, first_path(others))?;
+    let page = Page {
+        path,
+        text: text_at(texts, path),
+        html: html.as_slice(),
+        previous: previous.as_slice(),
+        next: next.as_slice(),
+    };
+    laid_out_file(alloc, at, layout, &page)
+}
+
+/// The path of the first file.
+fn first_path(files: &[(RelPath, Bytes)]) -> Option<&RelPath>
+    ensures { option_copied result ≡ first_path files.now }
+{
+    match files.first() {
+        Some(file) => Some(&file.0),
+        None => None,
+    }
+}
+
+/// The link from a page to another, under the title of that, if there is one.
+fn neighbour(
+    alloc: Global,
+    texts: Option<&Files>,
+    path: &RelPath,
+    other: Option<&RelPath>,
+) -> Result<Vec<u8>, AllocError>
+    ensures { IfOk result (λ made. made.items
+        ≡ neighbour (unwrap_or (option_copied texts.entry) []) path.now (option_copied other.entry)) }
+{
+    let mut made = Vec::new(alloc);
+    if let Some(other) = other {
+        let name = stem(other.as_str().as_bytes());
+        link_to(alloc, &mut made, path, text_at(texts, other), name)?;
+    }
+    Ok(made)
+}
+
+/// Writes the link from a page to the page of a text, by the part of the path of that before `.md`.
+fn link_to(
+    alloc: Global,
+    made: &mut Vec<u8>,
+    path: &RelPath,
+    words: &[u8],
+    name: Option<&[u8]>,
+) -> Result<(), AllocError>
+    ensures { OnOk result (made.new.items ≡ made.old.items ++ written (link_to path.now words.now
+        (option_copied name.entry) (page_path (option_copied name.entry)))) }
+{
+    let (Some(name), Some(new)) = (name, page_path(alloc, name)?) else {
+        return Ok(());
+    };
+    let title = title_of(alloc, words, name)?;
+    let mut address = root_of(alloc, path.as_str().as_bytes())?;
+    address.extend_from_slice(address_of(alloc, new.as_str().as_bytes())?.as_slice())?;
+    link(made, address.as_slice(), b"")?;
+    text(made, title)?;
+    close(made, Element::Anchor)
 }
 
 /// The text of the page at a path, which is empty where there is none.
@@ -122,7 +209,8 @@ fn laid_out_file(
 ) -> Result<(RelPath, Bytes), ActionFault>
     ensures { let path = page.now.path.now in
         let meant = laid_out_file path (page_path (stem path))
-        (laid_out_page at.now layout.now path page.now.text.now page.now.html.now) in
+        (laid_out_page at.now layout.now page.now.previous.now page.now.next.now path page.now.text.now
+        page.now.html.now) in
         MatchResult result (λ file. meant ≡ Ok file) (λ fault. IsFailure fault meant) }
 {
     let Some(new) = page_path(alloc, stem(page.path.as_str().as_bytes()))? else {

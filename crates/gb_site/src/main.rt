@@ -1,10 +1,11 @@
-//! Builds the site in the current folder: `gb` with the kinds of pages beside the built-in ones.
+//! Builds the site in the current folder: `gb` with the kinds of pages and of feeds beside the built-in ones.
 #![tactic(auto)]
 
 use gb_action::actions::Actions;
 use gb_action::table::{ActionTable, TableFault};
 use gb_answer::{builtin_actions, builtin_functions};
 use gb_command::run::UNPRINTED;
+use gb_feed::actions::{Feeds, feed_actions};
 use gb_here::here::build_here;
 use gb_kinds::builtin::{Builtin, StoredAction};
 use gb_pages::actions::{Pages, page_actions};
@@ -13,8 +14,11 @@ use gb_with::both::Both;
 use std::alloc::{AllocError, Global};
 use std::process::ExitCode;
 
-/// The built-in kinds, and those of pages.
-type Kinds = Both<Builtin, Pages>;
+/// The built-in kinds, and those of sites.
+type Kinds = Both<Builtin, Site>;
+
+/// The kinds of pages and of feeds.
+type Site = Both<Pages, Feeds>;
 
 fn main(rt: HostRuntime) -> ExitCode {
     ExitCode::from(built(&rt).unwrap_or(UNPRINTED))
@@ -25,17 +29,22 @@ fn built(rt: &HostRuntime) -> Result<u8, AllocError> {
     built_with(rt, builtin_actions!(rt.alloc()))
 }
 
-/// Builds it with these actions, those of pages, and all functions of values.
+/// Builds it with these actions, those of sites, and all functions of values.
 fn built_with(rt: &HostRuntime, builtin: ActionTable<StoredAction>) -> Result<u8, AllocError> {
     let transforms = builtin_functions!(rt.alloc());
     let actions = kinds(rt.alloc(), builtin);
     Ok(build_here::<Kinds, Builtin, _>(rt, actions, transforms))
 }
 
-/// These actions, and those of pages.
+/// These actions, and those of sites.
 fn kinds(
     alloc: Global,
     builtin: ActionTable<StoredAction>,
 ) -> Result<ActionTable<<Kinds as Actions>::Stored>, TableFault> {
-    beside(alloc, builtin, page_actions(alloc)?)
+    beside(alloc, builtin, site_actions(alloc)?)
+}
+
+/// The actions of pages, and of feeds.
+fn site_actions(alloc: Global) -> Result<ActionTable<<Site as Actions>::Stored>, TableFault> {
+    beside(alloc, page_actions(alloc)?, feed_actions(alloc)?)
 }

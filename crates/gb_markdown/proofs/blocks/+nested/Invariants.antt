@@ -1,5 +1,6 @@
-use Rattle.std.proofs.Common.{◌≡◌, ◌++◌, ◌+◌, ◌*◌, ◌-◌, []}
+use Rattle.std.proofs.Common.{◌≡◌, ◌++◌, ◌+◌, ◌*◌, ◌-◌, [], map}
 use Rattle.gb_markdown.specs.Pieces.{written}
+use Rattle.gb_markdown.specs.References.{meanings}
 use Rattle.gb_markdown.specs.Blocks.{blocks_of, items, read}
 use Rattle.gb_markdown.specs.declared.blocks.Block.TheVariants as kinds
 use Rattle.gb_markdown.proofs.blocks.+nested.Given as goal
@@ -18,11 +19,22 @@ decreases-finish l = 4 * l.depth + 3
 
 abbrev pub invariant-blocks-loop-line : goal.invariant-blocks-loop-line
 invariant-blocks-loop-line l =
-    l.page.items ++ written (read (blocks_of (l.depth - 1)) l.tight l.block l.taken.items l.line-iterator)
-    ≡ l.initial.page.items
-    ++ written (read (blocks_of (l.depth - 1)) l.tight kinds.Nothing [] l.initial.line-iterator)
+    let made = read (blocks_of (l.depth - 1) (meanings l.refs)) (meanings l.refs)
+    (map (λ name. name.items) l.names.items) l.tight l.block l.taken.items l.line-iterator in
+    let meant = read (blocks_of (l.depth - 1) (meanings l.refs)) (meanings l.refs)
+    (map (λ name. name.items) l.initial.names.items) l.tight kinds.Nothing [] l.initial.line-iterator in
+    record {
+      pieces : l.page.items ++ written made.0 ≡ l.initial.page.items ++ written meant.0;
+      names : made.1 ≡ meant.1;
+    }
 
 abbrev pub invariant-items-loop-line : goal.invariant-items-loop-line
 invariant-items-loop-line l =
-    l.page.items ++ written (items (blocks_of l.depth) l.tight l.width l.taken.items l.line-iterator)
-    ≡ l.initial.page.items ++ written (items (blocks_of l.depth) l.tight 0 [] l.initial.line-iterator)
+    let made = items (blocks_of l.depth (meanings l.refs)) (map (λ name. name.items) l.names.items) l.tight
+    l.width l.taken.items l.line-iterator in
+    let meant = items (blocks_of l.depth (meanings l.refs)) (map (λ name. name.items) l.initial.names.items)
+    l.tight 0 [] l.initial.line-iterator in
+    record {
+      pieces : l.page.items ++ written made.0 ≡ l.initial.page.items ++ written meant.0;
+      names : made.1 ≡ meant.1;
+    }

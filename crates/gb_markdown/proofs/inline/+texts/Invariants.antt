@@ -1,5 +1,6 @@
 use Rattle.std.proofs.Common.{◌≡◌, ◌++◌, ◌+◌, ◌*◌, drop}
 use Rattle.gb_markdown.specs.Pieces.{written}
+use Rattle.gb_markdown.specs.References.{meanings}
 use Rattle.gb_markdown.specs.Inline.{inline, tokens_of}
 use Rattle.gb_markdown.proofs.inline.+texts.Given as goal
 
@@ -14,5 +15,5 @@ decreases-tokens l = 3 * l.depth + 2
 
 abbrev pub invariant-tokens-loop-index : goal.invariant-tokens-loop-index
 invariant-tokens-loop-index l =
-    l.page.items ++ written (tokens_of (inline l.depth) l.skip l.before (drop l.index l.line))
-    ≡ l.initial.page.items ++ written (tokens_of (inline l.depth) 0 10 l.line)
+    l.page.items ++ written (tokens_of (inline l.depth) (meanings l.refs) l.skip l.before (drop l.index l.line))
+    ≡ l.initial.page.items ++ written (tokens_of (inline l.depth) (meanings l.refs) 0 10 l.line)

@@ -1,0 +1,4 @@
+pub mod Dates
+pub mod Feed
+pub mod Sites
+pub mod SiteMap
