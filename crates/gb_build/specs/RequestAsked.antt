@@ -16,8 +16,8 @@ use Rattle.gb_report.specs.declared.report.Options.{Options}
 use Rattle.gb_report.specs.declared.report.Report.{Report}
 use Rattle.gb_report.specs.declared.report.TaskReport.{TaskReport}
 
--- First no change is asked for, and these records of the plan's tasks are answered, but in a dry run; from
--- there on the tasks take their turns, each by its record and by what is told of it.
+-- First no change is asked for, and these records of the plan's tasks are answered, except in a dry run; from
+-- there on the tasks are executed, each by its record and its report.
 pub record PlanAsks {F S : Type 0} (failures : F → ℕ) (may_leave : F → Tearing)
     (asked : F → Call → F → Type 0) (meanings : Meanings S) (rows : Rows S) (options : Options)
     (plan : Plan) (reports : List TaskReport)

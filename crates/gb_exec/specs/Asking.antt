@@ -1,4 +1,4 @@
--- What a build asks of a folder, whichever it is, and what it tells by what was answered: turn by turn.
+-- What a build asks of a folder, whichever it is, and what it reports by what was answered: task after task.
 use Rattle.std.specs.Prelude.{ℕ, ◌≡◌, List, [], ◌∷◌, Option}
 use Rattle.gb_action.specs.Meanings.{Meanings}
 use Rattle.gb_folder.specs.Calls.{Call}
@@ -12,7 +12,7 @@ use Rattle.gb_turn.specs.ByOutcome.{TurnAsks}
 
 module _ {F S : Type 0} (failures : F → ℕ) (may_leave : F → Tearing) (asked : F → Call → F → Type 0)
     (meanings : Meanings S) (rows : Rows S) (options : Options) where
-  -- The turns of the tasks of a plan, one after another, each from where the one before it ended: of each
+  -- The executions of the tasks of a plan, one after another, each from where the one before it ended: of each
   -- task the record that was read of it, and its report.
   abbrev pub TurnsAsk : List Planned → List (Option Record) → List TaskReport → F → F → Type 0
   TurnsAsk [] [] [] old new = new ≡ old

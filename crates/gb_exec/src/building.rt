@@ -64,7 +64,8 @@ pub fn execute<A: Actions, F: Folder, L: TaskListener, P: Printer>(
         Prints P.contents P.whole (parts_text report) printer.old printer.new) }
     ensures count { F.failures folder.old ≤ F.failures folder.new }
     ensures tearing { SameTearing (F.may_leave folder.old) (F.may_leave folder.new) }
-    // Over any folder: turn by turn, each from where the one before it ended, what its outcome lets it ask for.
+    // Over any folder: task after task, each from where the one before it ended, what its outcome lets it ask
+    // for.
     ensures asks { IfOk result (λ report. TurnsAsk F.failures F.may_leave F.asked A.meanings table.now options
         plan.now records.now report.tasks folder.old folder.new) }
     // The device is blamed no more often than it failed.

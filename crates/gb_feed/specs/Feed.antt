@@ -41,7 +41,7 @@ feed_entry base path title date =
     codes "<entry>\n" ++ (titled title ++ (at_address (xml_address base path)
     ++ (updated date ++ codes "</entry>\n")))
 
--- where the entry of a date is among all, and behind that the path of its text
+-- where the entry of a date is among all, and after that the path of its text
 abbrev pub dated_path : List ℕ → List ℕ → Option (List ℕ)
 dated_path date path = if is_date date then as_path (date ++ codes "/" ++ path) else None
 

@@ -1,7 +1,9 @@
 //! The pages that have a date, for programs that read news: the kind `atomFeed`.
-ghost use Rattle.std.specs.Prelude.{◌≡◌, ◌++◌, ◌-◌, ◌∷◌, [], codes, length, take, Ok, IfOk, OnOk, MatchResult};
+ghost use Rattle.std.specs.Prelude.{◌≡◌, ◌++◌, ◌-◌, ◌∷◌, [], codes, length, take, Ok, IfOk, OnOk};
+ghost use Rattle.std.specs.Prelude.{MatchResult};
 ghost use Rattle.gb_feed.specs.Feed.{at_address, by_latest, dated_path, entries, feed_begun, feed_entry};
-ghost use Rattle.gb_feed.specs.Feed.{author, feed_address, feed_head, id_at, link_at, quoted, self_begun, self_link};
+ghost use Rattle.gb_feed.specs.Feed.{author, feed_address, feed_head, id_at, link_at, quoted, self_begun};
+ghost use Rattle.gb_feed.specs.Feed.{self_link};
 ghost use Rattle.gb_feed.specs.Feed.{feed_text, titled, updated, with_entry, with_file};
 ghost use Rattle.gb_feed.specs.Sites.{xml};
 ghost use Rattle.std.specs.List.{slice_get};

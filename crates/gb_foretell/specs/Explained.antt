@@ -30,7 +30,7 @@ IsCompared kinds task old decision present (comings.Runs by_changes why) =
     × (why.items ≡ reasons_of old present)
 IsCompared kinds task old decision present other = ⊥
 
--- what the decision comes to, by what it goes by
+-- the prediction, by what the decision goes by
 abbrev pub IsExplained : Kinds → Task → Option Record → Decision → Basis → Coming → Type 0
 IsExplained kinds task old decision (bases.Anew causes.NoRecord) coming = RunsFor (why_without task) coming
 IsExplained kinds task old decision (bases.Anew causes.Rerun) coming = RunsFor reasons.Rerun coming

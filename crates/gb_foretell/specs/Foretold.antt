@@ -51,7 +51,8 @@ IsFound kinds options task folder old (comings.Runs by_changes reasons) =
     IsRun kinds options task folder old by_changes reasons.items
 IsFound kinds options task folder old other = ⊥
 
--- It is the outcome of the task, which has this record, on the folder; the machine fails between these counts.
+-- It is the outcome of the task, which has this record, on the folder; the machine may fail between these
+-- counts.
 abbrev pub IsForetold : Kinds → Options → Task → Contents → Option Record → ℕ → ℕ → Coming → Type 0
 IsForetold kinds options task folder old before after comings.Skips = early_case task folder ≡ Some Skips
 IsForetold kinds options task folder old before after comings.HasNoActions =

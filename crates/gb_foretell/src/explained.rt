@@ -88,7 +88,7 @@ fn reason_without(task: &TaskDeclaration) -> Reason
     }
 }
 
-/// What a task comes to that was compared with its record.
+/// The prediction for a task that was compared with its record.
 fn compared<A: Actions>(
     alloc: Global,
     task: &TaskDeclaration,

@@ -2,8 +2,8 @@
 //! run. Nothing is changed.
 //!
 //! How it works: each task is prepared as for an execution (gb_label), and nothing is done. There is no second
-//! decision: what an execution would go by tells the reasons, which are the differences between the record of
-//! the task and what it has now. A task is marked if it reads an output of an earlier task that may change.
+//! decision: the reasons come from what an execution would go by. They are the differences between the record
+//! of the task and what it has now. A task is marked if it reads an output of an earlier task that may change.
 #![tactic(auto)]
 
 pub mod coming;

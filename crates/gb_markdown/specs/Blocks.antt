@@ -186,7 +186,7 @@ slug words = flat_map slug_byte words
 abbrev pub Names : Type 0
 Names = List (List ℕ)
 
--- a heading whose name others have has their number behind it
+-- a heading whose name others have has their number after it
 abbrev pub id_by : ℕ → List ℕ → List ℕ
 id_by seen name = if seen == 0 then name else name ++ 45 ∷ decimal seen
 
@@ -197,7 +197,8 @@ abbrev pub with_name : Names → List ℕ → Names
 with_name names name = if nat_lt (length names) 512 then names ++ name ∷ [] else names
 
 abbrev pub heading : Refs → Names → Element → List ℕ → List Piece
-heading refs names element words = Named element (id_of names (slug words)) ∷ inline_of refs words ++ Close element ∷ line_end ∷ []
+heading refs names element words =
+    Named element (id_of names (slug words)) ∷ inline_of refs words ++ Close element ∷ line_end ∷ []
 
 abbrev pub list_of : ℕ → Element
 list_of sign = if sign == 46 || sign == 41 then elements.Numbered else elements.Items
@@ -308,11 +309,11 @@ item_words line (Quote text) = line
 item_words line (Indented text) = line
 item_words line (Words text) = line
 
--- pieces, and the names behind them
+-- pieces, and the names after them
 abbrev pub Inner : Type 0
 Inner = Names → Bool → List ℕ → List Piece × Names
 
--- pieces before and behind others
+-- pieces before and after others
 abbrev pub between : List Piece → List Piece × Names → List Piece → List Piece × Names
 between front made back = (front ++ (made.0 ++ back), made.1)
 

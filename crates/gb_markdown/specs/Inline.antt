@@ -141,7 +141,7 @@ label_end inside skip before at (b ∷ rest) =
     else if is_no_label inside b rest then None
     else label_end (brackets inside before b) (hidden (b ∷ rest)) b (at + 1) rest
 
--- a label, the address and the title that it leads to, and what is behind these
+-- a label, the address and the title that it leads to, and what is after these
 abbrev pub Aimed : Type 0
 Aimed = List ℕ × List ℕ × List ℕ × List ℕ
 
@@ -320,7 +320,8 @@ shown inner refs Break = Open elements.Break ∷ Text (10 ∷ []) ∷ []
 shown inner refs (Code text) = Open elements.Code ∷ Text text ∷ Close elements.Code ∷ []
 shown inner refs (Stressed element text) = Open element ∷ inner refs text ++ Close element ∷ []
 shown inner refs (Linked label address title) =
-    Link (link_address (page_address (unescaped false address))) (unescaped false title) ∷ inner [] label ++ Close elements.Anchor ∷ []
+    Link (link_address (page_address (unescaped false address))) (unescaped false title)
+    ∷ inner [] label ++ Close elements.Anchor ∷ []
 shown inner refs (Pictured label address title) =
     Picture (link_address (unescaped false address)) label (unescaped false title) ∷ []
 shown inner refs (Led address) = Link address [] ∷ Text address ∷ Close elements.Anchor ∷ []

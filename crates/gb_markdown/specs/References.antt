@@ -36,7 +36,7 @@ referred label (reference ∷ others) =
 
 -- ---- Lines that define a label
 
--- an address, and a title or nothing behind it
+-- an address, and a title or nothing after it
 abbrev pub defined_as : List ℕ → List ℕ → List ℕ × List ℕ → Option (List ℕ × List ℕ × List ℕ)
 defined_as label address found =
     if not (bytes_eq address []) && is_blank found.1 then Some (label, address, found.0) else None
@@ -46,7 +46,7 @@ behind_colon label [] = None
 behind_colon label (b ∷ rest) =
     if b == 58 then defined_as label (address (behind rest)).0 (title (address (behind rest)).1) else None
 
--- a label has words, and no brackets in it but behind backslashes
+-- a label has words, and no brackets in it except after backslashes
 abbrev pub is_label : List ℕ → Bool
 is_label label = not (is_blank label) && not (is_some (quote_end 91 false 0 label))
 
@@ -59,6 +59,6 @@ abbrev pub defined_in : List ℕ → Option (List ℕ × List ℕ × List ℕ)
 defined_in [] = None
 defined_in (b ∷ rest) = if b == 91 then defined_to rest (quote_end 93 false 0 rest) else None
 
--- behind at most three spaces
+-- after at most three spaces
 abbrev pub defined : List ℕ → Option (List ℕ × List ℕ × List ℕ)
 defined line = if nat_lt (run 32 line) 4 then defined_in (drop (run 32 line) line) else None

@@ -102,7 +102,7 @@ fn is_in_path(byte: u8) -> bool
     !(byte == b'?' || byte == b'#')
 }
 
-/// A path with `.html` in place of `.md` at its end, and what is behind it.
+/// A path with `.html` in place of `.md` at its end, and what is after it.
 fn as_page(alloc: Global, path: &[u8], rest: &[u8]) -> Result<Vec<u8>, AllocError>
     ensures { IfOk result (λ made. made.items ≡ as_page path.now rest.now) }
 {

@@ -629,8 +629,8 @@ fn items(
     tight: bool,
     source: &[u8],
 ) -> Result<(), AllocError>
-    ensures { let made = items (blocks_of depth (meanings refs.now)) (map (λ name. name.items) names.old.items)
-        tight 0 [] (lines_in source.now) in
+    ensures { let made = items (blocks_of depth (meanings refs.now))
+        (map (λ name. name.items) names.old.items) tight 0 [] (lines_in source.now) in
         OnOk result ((page.new.items ≡ page.old.items ++ written made.0)
         × (map (λ name. name.items) names.new.items ≡ made.1)) }
 {
@@ -679,8 +679,8 @@ fn item(
     width: usize,
     taken: &[u8],
 ) -> Result<(), AllocError>
-    ensures { let made = item_of (blocks_of depth (meanings refs.now)) (map (λ name. name.items) names.old.items)
-        tight width taken.now in
+    ensures { let made = item_of (blocks_of depth (meanings refs.now))
+        (map (λ name. name.items) names.old.items) tight width taken.now in
         OnOk result ((page.new.items ≡ page.old.items ++ written made.0)
         × (map (λ name. name.items) names.new.items ≡ made.1)) }
 {

@@ -64,7 +64,7 @@ fn add_reference<'a>(
     Ok(())
 }
 
-/// The block that is open behind a line that belongs to it.
+/// The block that is open after a line that belongs to it.
 fn kept_block(block: Block, line: &[u8]) -> Block
     ensures { result ≡ kept_block block line.now }
 {

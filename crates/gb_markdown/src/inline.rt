@@ -400,7 +400,7 @@ fn pictured<'a>(refs: &'a [Reference<'a>], rest: &'a [u8]) -> (Token<'a>, usize)
     }
 }
 
-/// A label, where it leads, and what is behind these.
+/// A label, where it leads, and what is after these.
 type Aimed<'a> = (&'a [u8], Target<'a>, &'a [u8]);
 
 /// The label of `label](target)`, `label][name]`, `label][]` or `label]`.
@@ -412,7 +412,7 @@ fn aimed<'a>(refs: &'a [Reference<'a>], rest: &'a [u8]) -> Option<Aimed<'a>>
     behind_label(refs, &rest[..end], &rest[end + 1..])
 }
 
-/// A label and what is behind it.
+/// A label and what is after it.
 fn behind_label<'a>(refs: &'a [Reference<'a>], label: &'a [u8], rest: &'a [u8]) -> Option<Aimed<'a>>
     ensures { option_map (λ found. (found.0.now, found.1.address.now, found.1.title.now, found.2.now)) result
         ≡ behind_label (meanings refs.now) label.now rest.now }

@@ -81,14 +81,14 @@ fn defined_in(body: &[u8]) -> Option<Reference<'_>>
     }
 }
 
-/// Whether a label has words, and no brackets in it but behind backslashes.
+/// Whether a label has words, and no brackets in it except after backslashes.
 fn is_label(label: &[u8]) -> bool
     ensures { result ≡ is_label label.now }
 {
     !is_blank(label) && quote_end(b'[', label).is_none()
 }
 
-/// What a label is defined as by the text behind its brackets.
+/// What a label is defined as by the text after its brackets.
 fn behind_colon<'a>(label: &'a [u8], line: &'a [u8]) -> Option<Reference<'a>>
     ensures { option_map meaning result ≡ behind_colon label.now line.now }
 {

@@ -10,7 +10,7 @@ pub(crate) type Names = Vec<Vec<u8>>;
 /// How many names of headings count.
 const MOST: usize = 512;
 
-/// The id of a heading with a name: one whose name others have has their number behind it.
+/// The id of a heading with a name: one whose name others have has their number after it.
 pub(crate) fn id_of(alloc: Global, names: &[Vec<u8>], name: &[u8]) -> Result<Vec<u8>, AllocError>
     ensures { IfOk result (λ id. id.items ≡ id_of (map (λ other. other.items) names.now) name.now) }
 {
@@ -30,7 +30,7 @@ fn count(names: &[Vec<u8>], name: &[u8]) -> usize
     seen
 }
 
-/// A name with a number behind it, if that is not 0.
+/// A name with a number after it, if that is not 0.
 fn id_by(alloc: Global, seen: usize, name: &[u8]) -> Result<Vec<u8>, AllocError>
     ensures { IfOk result (λ id. id.items ≡ id_by seen name.now) }
 {

@@ -14,11 +14,11 @@ cut sign text = option_map (λ k. (take k text, drop (k + length sign) text)) (f
 abbrev pub behind : List ℕ → List ℕ → Option (List ℕ)
 behind sign text = if bytes_eq (take (length sign) text) sign then Some (drop (length sign) text) else None
 
--- what stands before the first occurrence of a sign, or all
+-- what is before the first occurrence of a sign, or all
 abbrev pub up_to : List ℕ → List ℕ → List ℕ
 up_to sign text = unwrap_or (option_map (λ half. half.0) (cut sign text)) text
 
--- what stands before, between and behind the occurrences of a sign
+-- what is before, between and after the occurrences of a sign
 abbrev pub parts : List ℕ → List ℕ → List (List ℕ)
 parts sign text = split_at text (length sign) 0 (matches text sign 0)
 

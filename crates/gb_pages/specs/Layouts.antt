@@ -23,8 +23,8 @@ use Rattle.gb_markdown.specs.declared.page.Element.TheVariants as elements
 abbrev pub root_of : List ℕ → List ℕ
 root_of path = flat_map (λ b. if b == 47 then codes "../" else []) path
 
--- the page itself, a list of links to its headings, the links to the pages before it and behind it, the way to
--- the folder of the site, its title, or a value of its front matter
+-- the page itself, a list of links to its headings, the links to the pages before and after it, the way to the
+-- folder of the site, its title, or a value of its front matter
 abbrev pub value_for : List ℕ → List ℕ → List ℕ → List ℕ → List ℕ → List ℕ → Option (List ℕ)
 value_for previous next path text page name =
     if bytes_eq name (codes "content") then Some page
@@ -86,12 +86,13 @@ abbrev pub or_unknown : List ℕ → List ℕ → List ℕ → Result (List ℕ)
 or_unknown at layout path (Ok bytes) = Ok bytes
 or_unknown at layout path (Err name) = Err (unknown at layout path name)
 
--- The layout of a page, by the path and the bytes of the layout, the links to the pages before it and behind
+-- The layout of a page, by the path and the bytes of the layout, the links to the pages before it and after
 -- it, the path and the text of the page, and what Markdown makes of that.
 abbrev pub laid_out_page : List ℕ → List ℕ → List ℕ → List ℕ → List ℕ → List ℕ → List ℕ
     → Result (List ℕ) (List ℕ)
 laid_out_page at layout previous next path text page =
-    or_unknown at layout path (filled (value_for previous next path text page) false (parts (codes "{{") layout))
+    or_unknown at layout path
+    (filled (value_for previous next path text page) false (parts (codes "{{") layout))
 
 -- the file of a page, if it has a path
 abbrev pub laid_out_file : List ℕ → Option (List ℕ) → Result (List ℕ) (List ℕ)
@@ -104,7 +105,7 @@ laid_out_file path (Some new) (Ok bytes) = Ok (new, bytes)
 abbrev pub text_at : Tree → List ℕ → List ℕ
 text_at texts path = unwrap_or (file_at texts path) []
 
--- ---- Pages before and behind a page
+-- ---- Pages before and after a page
 
 abbrev pub link_to : List ℕ → List ℕ → Option (List ℕ) → Option (List ℕ) → List Piece
 link_to path text (Some name) (Some new) =
@@ -132,7 +133,7 @@ laid_out_between at layout texts before path page others =
     (laid_out_page at layout (neighbour texts path before) (neighbour texts path (first_path others)) path
     (text_at texts path) page)
 
--- the pages in the order of their paths, behind one at a path
+-- the pages in the order of their paths, after one at a path
 abbrev pub all_laid_out : List ℕ → List ℕ → Tree → Option (List ℕ) → Tree → Result Tree (List ℕ)
 all_laid_out at layout texts before [] = Ok []
 all_laid_out at layout texts before (file ∷ files) =

@@ -84,7 +84,8 @@ led_to files page html path =
 
 abbrev pub wrong_in_site : Tree → List ℕ → List ℕ → List ℕ → Option (List ℕ)
 wrong_in_site files page html address =
-    wrong_with (percent_decode (from (codes "#") address)) (led_to files page html (percent_decode (path_in address)))
+    wrong_with (percent_decode (from (codes "#") address))
+    (led_to files page html (percent_decode (path_in address)))
 
 abbrev pub wrong_link : Tree → List ℕ → List ℕ → List ℕ → Option (List ℕ)
 wrong_link files page html address =

@@ -47,7 +47,7 @@ fn items(alloc: Global, list: &mut Vec<u8>, page: &[u8]) -> Result<(), AllocErro
     end_lists(list, deep)
 }
 
-/// Writes the item of a heading, if one is behind `<h`, and returns which lists are open then.
+/// Writes the item of a heading, if one is after `<h`, and returns which lists are open then.
 fn item(alloc: Global, list: &mut Vec<u8>, deep: Depth, part: &[u8]) -> Result<Depth, AllocError>
     ensures { IfOk result (λ after. (list.new.items ≡ list.old.items ++ item_of deep (heading_in part.now))
         × (after ≡ depth_after deep (heading_in part.now))) }
@@ -60,7 +60,7 @@ fn item(alloc: Global, list: &mut Vec<u8>, deep: Depth, part: &[u8]) -> Result<D
     Ok(deeper(nested, deep))
 }
 
-/// Whether a heading of the third rank is behind `<h`, or one of the second; its id, and its words with tags.
+/// Whether a heading of the third rank is after `<h`, or one of the second; its id, and its words with tags.
 fn heading_in(part: &[u8]) -> Option<(bool, &[u8], &[u8])>
     ensures { option_map (λ found. (found.0, found.1.now, found.2.now)) result ≡ heading_in part.now }
 {
@@ -73,7 +73,7 @@ fn heading_in(part: &[u8]) -> Option<(bool, &[u8], &[u8])>
     }
 }
 
-/// The id of a heading and its words with their tags, behind the begin of its tag.
+/// The id of a heading and its words with their tags, after the begin of its tag.
 fn heading_behind<'a>(part: &'a [u8], sign: &[u8]) -> Option<(&'a [u8], &'a [u8])>
     ensures { option_map (λ found. (found.0.now, found.1.now)) result ≡ heading_behind sign.now part.now }
 {
@@ -159,7 +159,7 @@ fn next_item(list: &mut Vec<u8>) -> Result<(), AllocError>
     open(list, Element::Item)
 }
 
-/// Which lists are open behind the item of a heading.
+/// Which lists are open after the item of a heading.
 fn deeper(nested: bool, deep: Depth) -> Depth
     ensures { result ≡ deeper nested deep }
 {

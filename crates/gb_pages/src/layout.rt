@@ -32,7 +32,7 @@ pub(crate) struct Page<'a> {
     pub html: &'a [u8],
     /// The link to the page before it, which may be empty.
     pub previous: &'a [u8],
-    /// The link to the page behind it, which may be empty.
+    /// The link to the page after it, which may be empty.
     pub next: &'a [u8],
 }
 
@@ -117,8 +117,8 @@ fn fill<'a>(
     layout: &'a [u8],
     page: &Page<'_>,
 ) -> Result<Option<&'a [u8]>, AllocError>
-    ensures { let value = value_for page.now.previous.now page.now.next.now page.now.path.now page.now.text.now
-        page.now.html.now in
+    ensures { let value = value_for page.now.previous.now page.now.next.now page.now.path.now
+        page.now.text.now page.now.html.now in
         IfOk result (λ unknown.
         before (Ok made.old.items) (filled value false (parts (codes "{{") layout.now))
         ≡ ended made.new.items (option_copied unknown)) }
@@ -145,8 +145,8 @@ fn behind_braces<'a>(
     part: &'a [u8],
     page: &Page<'_>,
 ) -> Result<Option<&'a [u8]>, AllocError>
-    ensures { let value = value_for page.now.previous.now page.now.next.now page.now.path.now page.now.text.now
-        page.now.html.now in
+    ensures { let value = value_for page.now.previous.now page.now.next.now page.now.path.now
+        page.now.text.now page.now.html.now in
         IfOk result (λ unknown.
         before (Ok made.old.items) (behind_braces value part.now (cut (codes "}}") part.now))
         ≡ ended made.new.items (option_copied unknown)) }

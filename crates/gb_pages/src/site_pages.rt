@@ -32,7 +32,7 @@ use std::alloc::{AllocError, Global};
 /// file of `layout`. The text at the same path of `texts` says by its front matter what is put in the place
 /// of each `{{name}}`; `{{content}}` is the page itself, `{{contents}}` a list of links to its headings,
 /// `{{title}}` its title, `{{root}}` the way to the folder of the site, and `{{previous}}` and `{{next}}` are
-/// links to the pages before it and behind it in the order of their paths.
+/// links to the pages before it and after it in the order of their paths.
 #[derive(Drop)]
 pub struct SitePages;
 

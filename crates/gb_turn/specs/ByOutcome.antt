@@ -16,7 +16,7 @@ use Rattle.gb_turn.specs.Ran.{WasExecuted}
 
 module _ {F S : Type 0} (failures : F → ℕ) (may_leave : F → Tearing) (asked : F → Call → F → Type 0)
     (meanings : Meanings S) (rows : Rows S) (options : Options) where
-  -- Files are changed at the task's outputs and its record alone, once what the turn goes by was answered
+  -- Files are changed at the task's outputs and its record alone, once what the execution goes by was answered
   -- since it began; and its record is of what was answered so.
   abbrev pub ChangesOnceRead : Task → Option Record → F → F → Type 0
   ChangesOnceRead task last old new =
@@ -24,11 +24,11 @@ module _ {F S : Type 0} (failures : F → ℕ) (may_leave : F → Tearing) (aske
       (once (HasRead failures may_leave asked old task)
       (in_turn_with task (IsTextOf failures may_leave asked old meanings rows options task last))) old new
 
-  -- What the execution of a task asks for, from the state of the folder in which it begins to the one in which
-  -- it ends, by its outcome, its lines and the record that was read of it: nothing where it was not run; no
-  -- change where it was skipped or is up to date, and then it was found so on what was answered since it
-  -- began. Where it was executed, and has actions, just what these make of its inputs was written, and the
-  -- record of just this was stored.
+  -- What the execution of a task asks for, from the state of the folder in which it begins to that in which it
+  -- ends, by its outcome, its lines and the record that was read of it: nothing if it was not run; no change if
+  -- it was skipped or is up to date, and then it was found so on what was answered since it began. If it was
+  -- executed, and has actions, just what these make of its inputs was written, and the record of just this was
+  -- stored.
   abbrev pub TurnAsks : Task → Option Record → Outcome → List Text → F → F → Type 0
   TurnAsks task last outcomes.NotRun lines old new = new ≡ old
   TurnAsks task last outcomes.Skipped lines old new = Asks failures may_leave asked no_change old new

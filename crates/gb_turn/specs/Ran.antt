@@ -38,9 +38,9 @@ stores task run limit =
     if is_empty task.outputs then []
     else Writes (record_place task.path) (record_text task.path run) limit (Ok tt) ∷ []
 
--- In full on these trees: first nothing was removed but the record and files at the outputs; then came just the
--- calls that write what the actions make of these trees, each answered as done; these are the lines of the
--- actions; and the last call stored the record of just this.
+-- In full on these trees: first nothing was removed but the record and files at the outputs; then came just
+-- the calls that write what the actions make of these trees, each answered as done; these are the lines of
+-- the actions; and the last call stored the record of just this.
 pub record RanInFull {F S : Type 0} (failures : F → ℕ) (may_leave : F → Tearing)
     (asked : F → Call → F → Type 0) (meanings : Meanings S) (rows : Rows S) (task : Task) (trees : Trees)
     (lines : List Text) (old new : F) : Type 0 where
@@ -56,10 +56,10 @@ pub record RanInFull {F S : Type 0} (failures : F → ℕ) (may_leave : F → Te
   pub limit : ℕ
   pub stored : AreAnswered failures may_leave asked done (stores task run limit) new
 
--- By these changes from outputs with these files: first nothing was removed but the record; then came just the
--- calls for what the actions answer to the changes, each answered as done (or that a file to be removed is
+-- By these changes from outputs with these files: first nothing was removed but the record; then came just
+-- the calls for what the actions answer to the changes, each answered as done (or that a file to be removed is
 -- not there); these are their lines; and the last call stored the record of just this. The record is one of
--- these trees where the outputs were made of old trees from which the changes lead to the new ones.
+-- these trees if the outputs were made of old trees from which the changes lead to the new ones.
 pub record RanByChanges {F S : Type 0} (failures : F → ℕ) (may_leave : F → Tearing)
     (asked : F → Call → F → Type 0) (meanings : Meanings S) (rows : Rows S) (task : Task) (trees : Trees)
     (changes : List Changes) (seen : List OutputFiles) (lines : List Text) (old new : F) : Type 0 where
@@ -83,8 +83,8 @@ pub record HaveRead {F : Type 0} (failures : F → ℕ) (may_leave : F → Teari
   pub inputs : AreInputsRead failures may_leave asked first read task trees
   pub named : map (λ tree. tree.0) trees ≡ seen_files task.files
 
--- So were these files of its outputs, and the record decides on the digests of just these and these trees that
--- the execution is one by these changes.
+-- So were these files of its outputs, and the record decides on the digests of just these and of these trees
+-- that the execution is one by these changes.
 pub record GoesFrom {F : Type 0} (failures : F → ℕ) (may_leave : F → Tearing)
     (asked : F → Call → F → Type 0) (options : Options) (task : Task) (last : Record) (trees : Trees)
     (changes : List Changes) (seen : List OutputFiles) (first read : F) : Type 0 where
@@ -100,7 +100,7 @@ ExecutedInFull {F = F} failures may_leave asked meanings rows task lines first n
     × RanInFull failures may_leave asked meanings rows task trees lines read new
 
 -- Executed since this state of the folder, from the record that was read of the task: in full, or by the
--- changes that the record tells.
+-- changes since the record.
 abbrev pub WasExecuted : {F S : Type 0} → (F → ℕ) → (F → Tearing) → (F → Call → F → Type 0) → Meanings S
     → Rows S → Options → Task → Option Record → List Text → F → F → Type 0
 WasExecuted {F = F} failures may_leave asked meanings rows options task last lines first new =

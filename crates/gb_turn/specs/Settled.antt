@@ -48,9 +48,9 @@ settled_as task path (Ok (prepared.Decided decisions.UpToDate basis seen)) need 
     settled.Told (silent_report task path outcomes.UpToDate)
 settled_as task path (Ok (prepared.Decided decision basis seen)) need = settled.Due path decision seen
 
--- What is told is of the task, without a line, tells that it was started, and blames the device only where it
--- failed in the turn; a task that is told as executed has no actions. What has no source has a property that
--- skips it; and what is due is not up to date.
+-- A report is of the task, has no line, says that it was started, and blames the device only if that failed
+-- meanwhile; a task that is reported as executed here has no actions. A task without source has a property
+-- that skips it; and what is due is not up to date.
 abbrev pub IsOfTask : Task → ℕ → ℕ → Settled → Type 0
 IsOfTask task before after (settled.Told report) =
     (report.path ≡ task.path) × (report.has_actions ≡ not (is_empty task.actions)) × (report.lines ≡ [])
