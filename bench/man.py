@@ -11,7 +11,7 @@ import re
 import sys
 
 ROOT = os.path.dirname(os.path.dirname(os.path.abspath(__file__)))
-# A page: its line of purpose, the document, and of each part its first text and the text behind it.
+# A page: its line of purpose, the document, and for each part its first text and the text after it.
 PAGES = {
     "gb": ("build the current folder", "docs/REFERENCE.md",
            [("    gb [WORD ..] [OPTION ..]", "`gb_ask` answers questions")]),
