@@ -1,8 +1,8 @@
 #!/usr/bin/env python3
-"""builds.py GB [TASKS..]: the built gb beside make, ninja, SCons and Gradle, where these are installed.
+"""builds.py GB [TASKS..]: compares the built gb with make, ninja, SCons and Gradle, if these are installed.
 
-Each tool copies the same files of 1 KiB, each file by a task of its own, in a folder of its own: many beside one
-another, and each after the one before. Told is processor time (user and system, of all children too) and, in
+Each tool copies the same files of 1 KiB, each file by a task of its own, in a folder of its own: many independent
+tasks, and a chain of tasks. It prints processor time (user and system, of all children too) and, in
 brackets, wall time, in ms: of a first build, of one with nothing to do and of one after an edit of one source,
 each the least of some runs, the tools in turn. sha256sum is of all inputs and outputs. make and ninja look at
 times of files alone, SCons at the contents of files of the last two days, Gradle at the contents of files of
@@ -12,7 +12,7 @@ import pathlib
 import shutil
 import tempfile
 
-from measured import SUMS, chain, keep, lay_out, least, rounded, run, tasks, words_given, written
+from lib.measured import SUMS, chain, keep, lay_out, least, rounded, run, tasks, words_given, written
 
 MAKE = "{1}: {0}\n\t@mkdir -p {2} && cp {0} {1}\n"
 NINJA = "build {1}: copy {0}\n"

@@ -1,10 +1,10 @@
 #!/usr/bin/env python3
-"""disturbed.py PROGRAM [--every K] [--pairs N] [--first]: somebody else writes in a folder that gb builds.
+"""disturbed.py PROGRAM [--every K] [--pairs N] [--first]: another process writes in a folder that gb builds.
 
 A build of four tasks, in full and by changes, is stopped before each of its calls of the file system (or
 before each K-th one), and meanwhile one thing is changed; then it goes on to its end, or is killed. A copy of
-a large source then has to be of one version, old or new. After that the built gb runs once more, nobody else
-about, and a second time if that failed. Then the outputs have to be those of a first build of a copy of the
+a large source then has to be of one version, old or new. After that the built gb runs once more, alone, and a
+second time if that failed. Then the outputs have to be those of a first build of a copy of the
 sources, and nothing may be left in `.gb/new`. For each change the script prints how often it was tried, and
 how often something was wrong; with --first also the first wrong case of each.
 
@@ -14,7 +14,7 @@ a third one alone: all outputs have to be of its value.
 The status is 1 if anything was wrong. It needs gcc; folders are made in the temporary folder (TMPDIR).
 """
 import argparse, collections, concurrent.futures, os, pathlib, random, shutil, sys, tempfile, threading, time
-from moments import Program, ended, files, go_on, put, renew, texts
+from lib.moments import Program, ended, files, go_on, put, renew, texts
 
 SCRIPT = """
 register copies : copyFiles { inputFiles src incremental from dir("src") outputDir out = dir("build/o") }
@@ -43,12 +43,12 @@ def saved(name, text="a text that was saved\n"):
 
 
 def written(place, text="other words stand here\n"):
-    """A file that is written where it stands, or anew."""
+    """A file that is written in place, or made again."""
     return lambda folder: put(folder / place, text)
 
 
 def edited(place):
-    """An output is written, if it stands."""
+    """An output is written, if it exists."""
     def change(folder):
         if not (folder / place).is_file():
             return False
@@ -167,7 +167,7 @@ def begun(program, top):
 
 
 def disturbed(program, top, every, shows_first):
-    """Tries each change at each moment, and tells whether nothing was wrong."""
+    """Tries each change at each moment, and returns whether nothing was wrong."""
     rooms, wrong = Rooms(program, top), 0
     for name, before in begun(program, top).items():
         room = top / "counted"

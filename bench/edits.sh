@@ -1,6 +1,6 @@
 #!/usr/bin/env bash
-# edits.sh CRATE..: tries by hand the wrong edits of bench/edits/CRATE, beyond those that the gate tries. In a copy
-# of the last commit they stand among the crate's own, and `rt must-fail` says of each whether it is refused.
+# edits.sh CRATE..: tries the wrong edits of bench/edits/CRATE, which the gate does not try. In a copy of the last
+# commit they are added to the crate's own, and `rt must-fail` says of each whether it is refused.
 set -eu
 cd "$(dirname "$0")/.."
 copy=$(mktemp -d)

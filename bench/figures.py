@@ -3,16 +3,16 @@
 
     bench/figures.py          prints them
     bench/figures.py --write  puts them in docs/BENCHMARKS.md
-    bench/figures.py --check  fails where another table stands there
+    bench/figures.py --check  fails if the document has another table
 
-In the document a table stands between the lines `<!-- figures NAME -->` and `<!-- end of figures -->`.
+In the document a table is between the lines `<!-- figures NAME -->` and `<!-- end of figures -->`.
 """
 import pathlib
 import re
 import sys
 import textwrap
 
-from measured import kept
+from lib.measured import kept
 
 PAGE = pathlib.Path(__file__).parent.parent / "docs" / "BENCHMARKS.md"
 # The layouts in words, with a place for their size.
@@ -51,7 +51,7 @@ def cell(cost):
 
 
 def sums(figures):
-    """Each layout beside sha256sum."""
+    """Each layout compared with sha256sum."""
     rows = []
     for row in figures["rows"]:
         line = [named(row), f"{row['costs']['sha256sum']['processor']:,.0f}"]

@@ -3,9 +3,9 @@
 many are in its layout. --differ also prints each that differs, as a diff.
 
 The scripts are crates/*/data/**/*.gb, what the examples of the documents and the replays of bench/replays
-put at a place `*.gb`, and what the documents show behind `$ cat` and `$ gb_ask fmt`. A script that is refused
+put at a place `*.gb`, and what the documents show after `$ cat` and `$ gb_ask fmt`. A script that is refused
 has its fault on purpose. The formatted text is formatted once more, and must stay the same. The status is 1
-where it does not, or where a script differs, but for those behind `$ cat`. The text of a `put` may lack its
+where it does not, or where a script differs, except for those after `$ cat`. The text of a `put` may lack its
 last line feed.
 """
 import difflib
@@ -44,8 +44,8 @@ def of_examples():
         yield from puts_of(f"{example.name} (line {example.line})", example.input)
 
 
-def shown_behind(command):
-    """What the documents show behind such a command, up to the next: where, its file's name, the text."""
+def shown_after(command):
+    """What the documents show after such a command, up to the next: where, its file's name, the text."""
     for path in guide.DOCS:
         with open(os.path.join(guide.ROOT, path), encoding="utf-8") as file:
             block = rf"^    \$ {command} (\S*\.gb)\n((?:    [^$\n].*\n|\n+(?=    ))+)"
@@ -56,11 +56,11 @@ def shown_behind(command):
 
 
 def of_documents():
-    yield from shown_behind("cat")
+    yield from shown_after("cat")
 
 
 def of_answers():
-    yield from shown_behind("gb_ask fmt")
+    yield from shown_after("gb_ask fmt")
 
 
 def of_replays():

@@ -1,5 +1,5 @@
 #!/usr/bin/env bash
-# gate.sh: runs the gate at the top of the repository (`rt ci`), and tells where its time went: processor seconds by
+# gate.sh: runs the gate at the top of the repository (`rt ci`), and prints where its time went: processor seconds by
 # crate for its proofs, its tests and its wrong edits, and of all that ran; by crate the sizes of generated
 # descriptions, which the prover's time grows with (half a second for each MB of a small one, and up to one and a
 # half for those above 2 MB); and the largest of these.

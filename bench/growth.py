@@ -1,10 +1,10 @@
 #!/usr/bin/env python3
 """growth.py REPLAY GB: refuses each growth of memory of the built gb_replay and gb, one a run. It needs gcc.
 
-A replay in memory gives its answers, tells 3, or ends with the status 1; where it goes on, all files are put once
-more, and the last build, made again, succeeds and leaves the files that it leaves where nothing was refused. A build
-of a folder on the disk does the same; then the next one leaves those files, and the one after it answers as where
-nothing is out of date.
+A replay in memory has to print its whole output, report 3, or end with the status 1. If it continues, all files are
+written once more, and the last build is made again: it has to succeed, and to leave the files of a run without a
+refusal. A build of a folder on the disk has to do the same; then the next build has to leave those files, and the
+one after it has to find everything up to date.
 """
 import collections, os, pathlib, shutil, subprocess, sys, tempfile
 
@@ -45,11 +45,11 @@ def files(folder):
 
 
 def is_told(status, text, whole):
-    """How a run ended that lacked memory; none where it did wrong."""
+    """How a run without enough memory ended; none if it was wrong."""
     if (status, text) == whole:
         return "answered"
     if " 3 out of memory" in text or text.startswith("REFUSED 3 "):
-        return "told 3"
+        return "reported 3"
     return "ended with 1" if status == 1 and whole[1].startswith(text) else None
 
 
@@ -64,7 +64,7 @@ def in_memory(program, row):
         status, text, _ = run(program, [], refused, input=whole)
         told = is_told(status, text, want[:2])
         again = text[: text.find("== ")].rstrip().rsplit("\n", 2)
-        if not told or told == "told 3" and (status or not text.endswith(shows) or again[-2] != "BUILD SUCCESSFUL"):
+        if not told or told == "reported 3" and (status or not text.endswith(shows) or again[-2] != "BUILD SUCCESSFUL"):
             sys.exit(f"growth {refused} of {growths}, status {status}:\n{text}")
         ends[told] += 1
     return ends

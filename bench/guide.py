@@ -6,8 +6,8 @@
     bench/guide.py --run PROGRAM   runs each example by PROGRAM and fails where one differs
     bench/guide.py --cases FOLDER  writes each example and its output there, for rt try --cases FOLDER
 
-An example is a block ```replay and the block ```output behind it; `status N` behind `output` tells a status
-that is not 0. Lines that begin with four spaces are the text of the `put` above them. The gate runs them by
+An example is a block ```replay and the block ```output after it; `status N` after `output` is a status other
+than 0. Lines that begin with four spaces are the text of the `put` above them. The gate runs them by
 what bench/replays.py writes.
 """
 import os

@@ -1,15 +1,15 @@
 #!/usr/bin/env python3
-"""layouts.py GB [LAYOUT..]: times the built gb on folders that ask much of one part of it, each in two sizes.
+"""layouts.py GB [LAYOUT..]: times the built gb on folders that load one part of it, each in two sizes.
 
-Told is the least processor time of five runs (user and system, of all children too) and, in brackets, the least
-wall time, in ms; a first build is one run. Folders are made in the temporary folder (TMPDIR). The folders of
-sums.py, beside sha256sum, are a chain of copies and one task that copies many files; here are other kinds.
+It prints the least processor time of five runs (user and system, of all children too) and, in brackets, the least
+wall time, in ms; a first build is one run. Folders are made in the temporary folder (TMPDIR). sums.py compares a
+chain of copies and one task that copies many files with sha256sum; here are other kinds.
 """
 import pathlib
 import random
 import tempfile
 
-from measured import SUMS, files, keep, lay_out, least, rounded, run, words_given, written
+from lib.measured import SUMS, files, keep, lay_out, least, rounded, run, words_given, written
 
 ROUNDS = 5
 

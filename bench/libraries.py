@@ -5,8 +5,8 @@
     bench/libraries.py CHECKOUT   those that the gate of another checkout here built of the same texts
 
 A library of the gate has statements without their proofs: a check over it reads less than over one that `rt
-check` builds by itself. It is taken only where its crate and all below it have the text that it was built of.
-What a check says over it is no verdict; the gate gives that, and proves all it goes by itself.
+check` builds by itself. It is taken only if its crate and all below it have the text that it was built of.
+The result of a check over it is no verdict: only the gate, which proves all of that itself, gives one.
 """
 import importlib.machinery
 import importlib.util
@@ -19,7 +19,7 @@ sys.dont_write_bytecode = True
 
 
 def kit():
-    """The module of the kit that knows how libraries are kept: it stands beside the program `rt`."""
+    """The module of the kit that knows how libraries are stored: it is next to the program `rt`."""
     file = os.path.join(os.path.dirname(os.path.realpath(shutil.which("rt"))), "rtlib.py")
     loader = importlib.machinery.SourceFileLoader("rtlib", file)
     module = importlib.util.module_from_spec(importlib.util.spec_from_loader("rtlib", loader))

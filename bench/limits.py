@@ -1,5 +1,5 @@
 #!/usr/bin/env python3
-"""limits.py PROGRAM [LAYOUT ..] [--replay] [--rounds N]: what builds cost that are large, within all limits.
+"""limits.py PROGRAM [LAYOUT ..] [--replay] [--rounds N]: the cost of large builds within all limits.
 
 Each layout is a folder of n, 2n and 4n of something. PROGRAM, a built gb, builds it. With --replay PROGRAM is
 a built gb_replay, which does the same in memory, by one replay. It prints the least processor time of N

@@ -1,5 +1,5 @@
 #!/usr/bin/env python3
-"""Makes the parts of the documents that the code says.
+"""Makes the parts of the documents that follow from the code.
 
     bench/made.py          fails where a made part is not what would be written
     bench/made.py --write  writes them
@@ -111,7 +111,7 @@ def first_sentence(text):
 
 
 def plain(text):
-    """A comment of the code as it stands in a document: links to items are names."""
+    """A comment of the code as text of a document: links to items become names."""
     return re.sub(r"\[(`[^`]*`)\](?:\([^)]*\))?", r"\1", text)
 
 
@@ -341,7 +341,7 @@ class Reader:
             begun = re.match(r"(requires|ensures)(?: (\w+))? \{ ?", bare)
             if begun:
                 clause, ended = self.clause(begun)
-                # A comment behind an empty line is of all clauses below it: `tells` stands in each of these.
+                # A comment after an empty line is about all clauses below it: each of these has `tells`.
                 clause.sentence = "" if free else " ".join(sentence)
                 sentence, free = [], False
                 clauses.append(clause)
@@ -421,12 +421,12 @@ def clause_text(clause):
 
 
 def is_known(clause):
-    """Whether it speaks of folders that tell what they hold alone."""
+    """Whether it is only about folders whose contents are known."""
     return bool(re.match(r"IsTrue (\w\.)?tells → ", clause.formula))
 
 
 def contract_lines(clauses):
-    """The clauses, those with a text each on its own, the names of the others behind one another."""
+    """The clauses: each with a text on its own line, the names of the others in a row."""
     lines, alone = [], {}
     for clause in clauses:
         text = clause_text(clause)

@@ -11,14 +11,14 @@ import re
 import sys
 
 ROOT = os.path.dirname(os.path.dirname(os.path.abspath(__file__)))
-# A page: its line of purpose, the document, and of each part its first text and the text behind it.
+# A page: its line of purpose, the document, and for each part its first text and the text after it.
 PAGES = {
     "gb": ("build the current folder", "docs/REFERENCE.md",
            [("    gb [WORD ..] [OPTION ..]", "`gb_ask` answers questions")]),
     "gb_ask": ("ask what a build would do", "docs/REFERENCE.md",
                [("`gb_ask` answers questions", "## On a disk")]),
     "gb_site": ("build the site of the current folder", "docs/SITE.md",
-                [("`gb_site` is `gb` with", "- [From nothing]"), ("## The kinds", "## Front matter")]),
+                [("`gb_site` is `gb` with", "[From nothing]"), ("## The kinds", "## Front matter")]),
 }
 FOOT = {
     "gb": "gb_ask(1), gb_site(1)",

@@ -1,16 +1,16 @@
 #!/usr/bin/env python3
-"""one_at_a_time.py PROGRAM: shows that of the built gb one process at a time builds a folder.
+"""one_at_a_time.py PROGRAM: tests that only one process of the built gb at a time builds a folder.
 
 The first one is stopped in the middle of its build. A second one has to wait and to change nothing until the
 first has ended, or was killed; a dry run, refused words and a build of another folder have to end meanwhile.
-Where the system gives no lock a build has to end as ever. The status is 1 if one of this does not hold. It
+If the system gives no lock, a build has to end as usual. The status is 1 if one of these does not hold. It
 needs gcc; folders are made in the temporary folder (TMPDIR).
 """
 import pathlib, subprocess, sys, tempfile
-from moments import Program, ended, files, go_on, put, texts
+from lib.moments import Program, ended, files, go_on, put, texts
 
 TASKS = 20
-WAITS = 1.0  # so many seconds a process is seen to wait
+WAITS = 1.0  # for how many seconds a process is watched while it waits
 
 
 def lay_out(folder):
@@ -76,10 +76,10 @@ def no_lock_is_given(program, top):
 is_right = True
 with tempfile.TemporaryDirectory() as top:
     program = Program(sys.argv[1], top)
-    for number, tells in enumerate((first_goes_on, first_is_killed, no_lock_is_given)):
+    for number, case in enumerate((first_goes_on, first_is_killed, no_lock_is_given)):
         room = pathlib.Path(top, str(number))
         room.mkdir()
-        for what, holds in tells(program, room):
+        for what, holds in case(program, room):
             is_right = is_right and holds
             print(("yes  " if holds else "NO   ") + what, flush=True)
 sys.exit(not is_right)

@@ -2,11 +2,11 @@
 """Makes the pictures of the documents, docs/pictures/NAME.svg.
 
     bench/pictures.py          writes them
-    bench/pictures.py --check  fails where one is not what would be written
+    bench/pictures.py --check  fails if one differs from what would be written
 
-layers: the crates by their groups in crates.txt. turn: what a task's turn comes to. record: a task's record
-where a build is stopped. By bench/figures.json: cost, what layouts cost beside sha256sum; growth, the same by the
-number of tasks; peers, what other tools cost.
+layers: the crates by their groups in crates.txt. turn: the outcome of a task. record: the record of a task at
+each point where a build may stop. From bench/figures.json: cost, the cost of layouts compared with sha256sum;
+growth, the same by the number of tasks; peers, the cost of other tools.
 """
 import math
 import os
@@ -14,7 +14,7 @@ import sys
 from xml.sax.saxutils import escape
 
 from figures import named, ratio, told_of
-from measured import kept
+from lib.measured import kept
 
 ROOT = os.path.dirname(os.path.dirname(os.path.abspath(__file__)))
 PICTURES = os.path.join(ROOT, "docs", "pictures")
@@ -127,7 +127,7 @@ RUNS = [
 
 
 def turn():
-    """A question below another, each with the label that a yes comes to."""
+    """A question below another, each with the label for yes."""
     picture = Picture(840)
     y = 12
     picture.text(160, y + 14, "the task starts", 13, "middle", "bold")
@@ -172,7 +172,7 @@ RECORD = [
 
 
 def record():
-    """Where a build is stopped, what stands at the record's place, and what the next build does."""
+    """Where a build is stopped, what is at the record's place then, and what the next build does."""
     picture = Picture(840)
     for x, head in ((12, "the build is stopped"), (240, "then there is"), (548, "and the next build")):
         picture.text(x + 8, 26, head, 13, weight="bold")
@@ -188,7 +188,7 @@ def record():
 
 
 def bars(picture, y, rows, scale):
-    """Bars below one another: a name, a width before it is scaled, what is told of it and a colour."""
+    """Bars below one another: a name, a width before it is scaled, its text and a colour."""
     for name, width, told, fill in rows:
         picture.text(330, y + 15, name, 12, "end")
         picture.box(338, y, round(scale * width, 1), 20, fill)

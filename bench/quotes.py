@@ -1,10 +1,10 @@
 #!/usr/bin/env python3
-"""Sees that documents say what stands in the repository.
+"""Checks that documents agree with the repository.
 
-    bench/quotes.py            fails where one of these does not hold
+    bench/quotes.py            fails if one of these does not hold
     bench/quotes.py --theorem  prints the files of definitions that the theorem's clause reaches
 
-- A block ```quote FILE stands in FILE, line by line and in one piece.
+- A block ```quote FILE is in FILE, line by line and in one piece.
 - A link to a file of the repository leads to one, and one with `#` to a heading of it.
 - The block ```theorem of docs/PROOF.md has the files that the theorem's clause reaches, import by import.
 - docs/CRATES.md has a section for each crate, in the order of crates.txt.
@@ -13,7 +13,7 @@
 - Files and definitions in that page's table of rules are there.
 - The words of the notation in docs/REFERENCE.md are in the files of tools/ for editors, and the options of
   the command line in those for shells.
-- No line of a document is longer than 110 columns, but for the rows of tables.
+- No line of a document is longer than 110 columns, except rows of tables.
 """
 import os
 import re
@@ -51,7 +51,7 @@ def lines_of(path):
 
 
 def blocks(path):
-    """The fenced blocks: the number of their first line, what stands behind the fence, their lines."""
+    """The fenced blocks: the number of their first line, what is after the fence, their lines."""
     start = None
     for number, line in enumerate(lines_of(path), 1):
         if line.startswith("```"):

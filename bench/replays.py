@@ -1,15 +1,15 @@
 #!/usr/bin/env python3
-"""The replays that the gate makes by gb_replay, all in one run: the worked ones, bench/replays/NAME.in with
-what is printed in NAME.out, and behind them the examples of the documents.
+"""The replays that the gate runs by gb_replay, all in one run: the worked ones, bench/replays/NAME.in with
+the output in NAME.out, and after them the examples of the documents.
 
     bench/replays.py PROGRAM  runs each alone by a built gb_replay and fails where one differs; else writes
                               crates/gb_replay/stdin and crates/gb_replay/stdout, and runs them all in one
     bench/replays.py --check  fails where these two files are not in step with the replays
 
-In the run a file at rows/NAME tells where a replay begins, and behind it its records and files are removed,
-so that the next one begins in an empty folder. Which files it leaves is all that PROGRAM says of the run. At
-the end each place is shown where one left something, and nothing stands there; no line feed ends the last
-line. An example with a status that is not 0 would end the run: it is a row of gb_builds_tests.
+In the run a file at rows/NAME marks where a replay begins. At its end its records and files are removed, so
+that the next one begins in an empty folder. PROGRAM is only asked which files it leaves. At the end of the
+run each place is shown where a replay left something, and nothing is there; no line feed ends the last line.
+An example with a status other than 0 would end the run: it is a row of gb_builds_tests.
 """
 import os
 import re
@@ -57,7 +57,7 @@ def lines_of(row):
 
 
 def tops(found):
-    """At or beneath these places stands all that the rows leave: what they put, build folders and records."""
+    """All that the rows leave is at or under these places: what they put, build folders and records."""
     put = re.compile(r"(?m)^put ([^ /\n]+)")
     return sorted({".gb", "build"}.union(*(put.findall(row.input) for row in found)))
 

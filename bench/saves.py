@@ -22,7 +22,7 @@ import sys
 import tempfile
 import time
 
-from moments import Program, go_on, put
+from lib.moments import Program, go_on, put
 
 SCRIPT = 'register cp : copyFiles { inputFiles src from dir("src") outputDir out = dir("build/o") }\n'
 SIZES = {"200 KB": 200_000, "1 MiB": 1 << 20, "8 MiB": (8 << 20) - (1 << 18)}

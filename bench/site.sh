@@ -1,6 +1,6 @@
 #!/bin/sh
-# site.sh PROGRAM [PAGES [ROUNDS]]: what `gb_site` costs on so many pages of 4 KiB, beside `sha256sum` of the
-# inputs and the outputs. The least processor time of so many rounds, in milliseconds, each in turn: nothing to
+# site.sh PROGRAM [PAGES [ROUNDS]]: the cost of `gb_site` for so many pages of 4 KiB, next to `sha256sum` of the
+# inputs and the outputs. The least processor time of so many rounds, in milliseconds, alternating: nothing to
 # do, one edit, and the digests. The site has the tasks of the crate's `data` (`pages`, with a layout), and once
 # more without the layout (`html`), where one edit is one file.
 set -eu

@@ -1,16 +1,17 @@
 #!/usr/bin/env python3
-"""sums.py GB [LAYOUT..]: processor time of the built gb beside that of sha256sum over all inputs and outputs.
+"""sums.py GB [LAYOUT..]: compares the processor time of the built gb with that of sha256sum over all inputs and
+outputs.
 
-Each time is user and system time of the program and its children, in ms, the least of some runs, with the least
-wall time behind it; those of a row are taken in turn. Behind each stands how many times it is the processor time
-of sha256sum. Of a first build that is of copying the inputs and sha256sum of both. Folders are made in the
+Each time is user and system time of the program and its children, in ms, the least of some runs, followed by the
+least wall time; the runs of a row alternate. After each is the ratio to the processor time of sha256sum; for a
+first build, to that of copying the inputs and sha256sum of both. Folders are made in the
 temporary folder (TMPDIR); one on a disk shows what a disk costs.
 """
 import pathlib
 import shutil
 import tempfile
 
-from measured import SUMS, chain, files, keep, lay_out, least, parts, rounded, run, tasks, words_given, written
+from lib.measured import SUMS, chain, files, keep, lay_out, least, parts, rounded, run, tasks, words_given, written
 
 COPIED = ["sh", "-c", "cp -r src copied; find src copied -type f -print0 | xargs -0 sha256sum"]
 # The layouts by name: what makes them, in which sizes, and in how many rounds they are measured.

@@ -1,10 +1,10 @@
 #!/usr/bin/env python3
-"""told.py PROGRAM: shows that the built gb tells each task as soon as its turn has ended.
+"""printed.py PROGRAM: tests that the built gb prints each task as soon as its execution has ended.
 
-A build under a pipe is read to its end, and killed (SIGKILL) at twenty moments of it. What was read then has
+A build is read through a pipe to its end, and killed (SIGKILL) at twenty moments of it. What was read then has
 to be a beginning of what the whole build prints, and each task in it has to have its output, and to be
 UP-TO-DATE in the next build, which has to leave what a build from scratch leaves. The status is 1 if one of
-this does not hold. Folders are made in the temporary folder (TMPDIR).
+these does not hold. Folders are made in the temporary folder (TMPDIR).
 """
 import pathlib, shutil, subprocess, sys, tempfile, time
 
@@ -48,7 +48,7 @@ def killed(folder, enough):
 
 
 def names(text, ending=b""):
-    """The tasks that a text tells with this ending, if the line is whole."""
+    """The tasks that a text names with this ending, if the line is whole."""
     heads = [it.removeprefix(HEAD) for it in text.splitlines(keepends=True) if it.startswith(HEAD)]
     return {it.removesuffix(ending + b"\n").decode() for it in heads if it.endswith(ending + b"\n")}
 
@@ -67,7 +67,7 @@ def wrong_with(folder, text):
         if before.get(output) != MADE[output]:
             yield f"{name} lacks its output"
         if name not in kept:
-            yield f"{name} is built anew"
+            yield f"{name} is built again"
     if not all_text.startswith(text):
         yield "what was read is no beginning"
     if status != 0 or outputs(folder) != MADE:
@@ -85,7 +85,7 @@ with tempfile.TemporaryDirectory() as top:
         folder = lay_out(pathlib.Path(top, str(moment)))
         text = killed(folder, 1 + len(all_text) * moment // MOMENTS)
         wrong = list(wrong_with(folder, text))
-        print(f"killed at moment {moment}: {len(names(text))} tasks told, {'; '.join(wrong) or 'all right'}")
+        print(f"killed at moment {moment}: {len(names(text))} tasks printed, {'; '.join(wrong) or 'all right'}")
         is_right = is_right and not wrong
         shutil.rmtree(folder)
 sys.exit(0 if is_right else 1)

@@ -16,25 +16,25 @@
 
 static unsigned long calls;
 static unsigned long stopped;
-static FILE *told;
+static FILE *listed;
 
 __attribute__((constructor)) static void begin(void) {
     const char *text = getenv("MOMENT");
     const char *name = getenv("MOMENTS");
     stopped = text ? strtoul(text, NULL, 10) : 0;
     if (name)
-        told = fopen(name, "w");
+        listed = fopen(name, "w");
     calls = 0;
 }
 
 __attribute__((destructor)) static void end(void) {
-    if (told)
-        fclose(told);
+    if (listed)
+        fclose(listed);
 }
 
-static void meet(const char *name, const char *path) {
-    if (told)
-        fprintf(told, "%s %s\n", name, path);
+static void note(const char *name, const char *path) {
+    if (listed)
+        fprintf(listed, "%s %s\n", name, path);
     if (++calls == stopped)
         raise(SIGSTOP);
 }
@@ -42,7 +42,7 @@ static void meet(const char *name, const char *path) {
 #define CALL(type, name, path, parameters, arguments) \
     type name parameters { \
         type(*real) parameters = (type(*) parameters)dlsym(RTLD_NEXT, #name); \
-        meet(#name, path); \
+        note(#name, path); \
         return real arguments; \
     }
 
@@ -67,7 +67,7 @@ int open(const char *path, int flags, ...) {
         mode = va_arg(rest, mode_t);
         va_end(rest);
     }
-    meet("open", path);
+    note("open", path);
     return real(path, flags, mode);
 }
 
@@ -81,13 +81,13 @@ int openat(int folder, const char *path, int flags, ...) {
         mode = va_arg(rest, mode_t);
         va_end(rest);
     }
-    meet("openat", path);
+    note("openat", path);
     return real(folder, path, flags, mode);
 }
 
 int flock(int file, int how) {
     int (*real)(int, int) = (int (*)(int, int))dlsym(RTLD_NEXT, "flock");
-    meet("flock", "");
+    note("flock", "");
     if (getenv("NO_LOCK")) {
         errno = ENOLCK;
         return -1;

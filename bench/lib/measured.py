@@ -1,8 +1,8 @@
 """Measured runs, the folders that they are made in, and the figures that are kept of them.
 
-For builds.py, sums.py, layouts.py and pictures.py. A run is told by its processor time (user and system, of its
-children too) and by its wall time, both in ms; of several runs the least of each. Runs that are compared are
-taken in turn, so that a busy machine is busy for all of them.
+A library of builds.py, sums.py, layouts.py, figures.py and pictures.py. The cost of a run is its processor time
+(user and system, of its children too) and its wall time, both in ms; of several runs the least of each. Runs that
+are compared alternate, so that a busy machine is busy for all of them.
 """
 import argparse
 import collections
@@ -13,7 +13,7 @@ import subprocess
 import sys
 import time
 
-FIGURES = pathlib.Path(__file__).with_name("figures.json")
+FIGURES = pathlib.Path(__file__).parent.parent / "figures.json"
 BUILT = "the proved program"
 SUMS = ["sh", "-c", "find src build -type f -print0 | xargs -0 sha256sum"]
 
@@ -35,7 +35,7 @@ def run(words, folder):
 
 
 def least(runs, rounds):
-    """The least cost of each of these, taken in turn. Each is a function that makes ready and runs."""
+    """The least cost of each of these, one after another in each round. Each is a function that prepares and runs."""
     found = {}
     for _ in range(rounds):
         for what, measure in runs.items():
@@ -45,7 +45,7 @@ def least(runs, rounds):
 
 
 def written(place, content=None):
-    """A file of 1 KiB that nobody has seen before, or of this content."""
+    """A file of 1 KiB with new content, or with this content."""
     place.parent.mkdir(parents=True, exist_ok=True)
     place.write_bytes(os.urandom(1024) if content is None else content)
 
@@ -101,13 +101,13 @@ def words_given(text, **more):
     """The words of a command line: a built gb, and what to do with the figures."""
     words = argparse.ArgumentParser(description=text, formatter_class=argparse.RawDescriptionHelpFormatter)
     words.add_argument("gb", metavar="GB", help="a built gb")
-    for name, told in more.items():
-        words.add_argument(name, nargs="*", help=told)
-    words.add_argument("--keep", action="store_true", help="put the figures in bench/figures.json")
-    words.add_argument("--program", default=BUILT, metavar="TEXT", help="what is told of GB beside the figures")
+    for name, text in more.items():
+        words.add_argument(name, nargs="*", help=text)
+    words.add_argument("--keep", action="store_true", help="write the figures to bench/figures.json")
+    words.add_argument("--program", default=BUILT, metavar="TEXT", help="a description of GB, kept with the figures")
     given = words.parse_args()
     if given.keep and any(getattr(given, name) for name in more):
-        words.error("figures are kept of all that is measured, and not of a part")
+        words.error("--keep is only for a whole measurement")
     given.gb = str(pathlib.Path(given.gb).resolve())
     given.load = os.getloadavg()[0]
     return given
@@ -124,7 +124,7 @@ def kept():
 
 
 def keep(name, given, rows):
-    """Puts the figures of a benchmark in the file, in place of its last ones, if that was asked for."""
+    """Writes the figures of a benchmark to the file, in place of its last ones, if --keep is given."""
     if not given.keep:
         return
     figures = kept()

@@ -1,4 +1,5 @@
-"""moments.py: read by the scripts beside it. A program is stopped before one of its file system's calls."""
+"""Programs that are stopped before one of their calls of the file system, for disturbed.py, one_at_a_time.py and
+saves.py."""
 import os, pathlib, shutil, signal, subprocess
 
 LONGEST = 60  # seconds that a build may take
@@ -17,7 +18,7 @@ class Program:
         self.path, self.library = str(pathlib.Path(path).resolve()), library(folder)
 
     def start(self, folder, words, **given):
-        """Starts it in a folder; what it prints goes to a file beside that, which the process keeps."""
+        """Starts it in a folder; what it prints goes to a file next to that, which the process keeps."""
         printed = open(f"{folder}.printed", "w+")
         more = {name: str(value) for name, value in given.items()}
         process = subprocess.Popen([self.path, *words], cwd=folder, stdout=printed, stderr=subprocess.STDOUT,
@@ -31,10 +32,10 @@ class Program:
 
     def calls(self, folder, words):
         """A line for each call of the file system that a run makes."""
-        told = pathlib.Path(f"{folder}.calls")
-        status, text = ended(self.start(folder, words, MOMENTS=told))
+        listed = pathlib.Path(f"{folder}.calls")
+        status, text = ended(self.start(folder, words, MOMENTS=listed))
         assert status == 0, text
-        return told.read_text().splitlines()
+        return listed.read_text().splitlines()
 
     def stopped(self, folder, words, moment):
         """The process, stopped before this call, counted from 1; none if it ended before."""
@@ -61,7 +62,7 @@ def go_on(process):
 
 
 def files(folder):
-    """The files beneath a folder: what each path holds."""
+    """The files under a folder: the contents of each path."""
     folder = pathlib.Path(folder)
     return {str(it.relative_to(folder)): it.read_bytes() for it in folder.rglob("*") if it.is_file()}
 
@@ -83,6 +84,6 @@ def texts(count):
 
 
 def renew(folder, origin):
-    """Makes a folder anew as a copy of another one."""
+    """Makes a folder again as a copy of another one."""
     shutil.rmtree(folder, ignore_errors=True)
     shutil.copytree(origin, folder)
