@@ -89,7 +89,7 @@ const LINKED: &str = "<p><a>a</a>
 <a>d</a>
 <a>e</a>
 <a>f</a>
-<a href=\"HTTPS://e.org/?a=&quot;b&quot;&amp;c\">g</a>
+<a href=\"HTTPS://e.org/?a=%22b%22&amp;c\">g</a>
 <a href=\"b.html?at=1:2\">h</a>
 <a href=\"mailto:a@e.org\">i</a>
 <a href=\"#part\">j</a></p>
