@@ -46,6 +46,7 @@ PUBLIC = {
     "gb_folder": None,
     "gb_core": None,
 }
+WIDTH = 110
 FILES = "| File | What it has |"
 DEFINITIONS = "| Definitions | What they say |"
 INTRODUCTION = """\
@@ -122,8 +123,19 @@ def cell(text):
 # The tables of files
 
 
+def wrapped(first, text):
+    """Rows of two cells that fit the width: where the text goes on, the first cell is empty."""
+    rows, line = [], f"| {first} |"
+    for word in re.findall(r"(?:`[^`]*`|\[[^\]]*\]\([^)]*\)|\S)+", text):
+        if len(line) + len(word) > WIDTH - 3 and not line.endswith("|"):
+            rows.append(line + " |")
+            line = "| |"
+        line += " " + word
+    return rows + [line + " |"]
+
+
 def row(name, path, mark):
-    return f"| `{name}` | {cell(first_sentence(paragraph(head_of(path, mark))))} |"
+    return wrapped(f"`{name}`", cell(first_sentence(paragraph(head_of(path, mark)))))
 
 
 def specs_of(crate):
@@ -141,11 +153,13 @@ def tables(crate):
     """The tables of a crate's files, as lines."""
     lines = [FILES, "|---|---|"]
     sources = [name for name in files_in(f"crates/{crate}/src", ".rt") if name != "lib.rt"]
-    lines += [row(name, f"crates/{crate}/src/{name}", "//!") for name in sources]
+    for name in sources:
+        lines += row(name, f"crates/{crate}/src/{name}", "//!")
     specs = specs_of(crate)
     if specs:
         lines += ["", DEFINITIONS, "|---|---|"]
-        lines += [row(name, f"crates/{crate}/specs/{name}.antt", "--") for name in specs]
+        for name in specs:
+            lines += row(name, f"crates/{crate}/specs/{name}.antt", "--")
     return lines
 
 
