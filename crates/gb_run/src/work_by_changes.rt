@@ -1,4 +1,5 @@
-//! The steps and lines of an incremental execution, worked out before anything is changed. Nothing here knows a folder.
+//! The steps and lines of an incremental execution, worked out before anything is changed. Nothing here knows
+//! a folder.
 ghost use Rattle.std.specs.Prelude.{◌≡◌, ◌≢◌, ◌⊎◌, ◌++◌, ℕ, List, [], Ok, Err, Some, IsTrue, IfOk, IfErr};
 ghost use Rattle.std.specs.Prelude.{OnOk, map, true, false};
 ghost use Rattle.std.specs.FinMap.Entries.{is_sorted};

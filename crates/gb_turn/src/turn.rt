@@ -67,11 +67,11 @@ pub fn take_turn<A: Actions, F: Folder>(
     requires path { path ≡ task.now.path }
     ensures path { result.path ≡ task.now.path }
     ensures has_actions { result.has_actions ≡ not (is_empty task.now.actions) }
-    // Over any folder: a task that is skipped or up to date asks for no change, and it is up to date only if it
-    // was found so on what was answered in this execution. Else changes are asked for at its outputs and its
-    // record, but none before its inputs were answered whole, or that it has no source; and a record is of
-    // trees that were answered so. It is executed only if each write was answered as done, with just the bytes
-    // that its actions make.
+    // Over any folder: a task that is skipped or up to date asks for no change, and it is up to date only if
+    // it was found so on what was answered in this execution. Else changes are asked for at its outputs and
+    // its record, but none before its inputs were answered whole, or that it has no source; and a record is
+    // of trees that were answered so. It is executed only if each write was answered as done, with just the
+    // bytes that its actions make.
     ensures asks { TurnAsks F.failures F.may_leave F.asked A.meanings table.now options task.now
         (option_copied last.entry) result.outcome result.lines folder.old folder.new }
     ensures blame { (place : List ℕ) → result.outcome ≡ Failed (Fault.Device place)
